@@ -1,5 +1,5 @@
 // The words of a script that a number makes, and those of a trial of it.
-ghost use Rattle.std.specs.Prelude.{◌≡◌, false, map, IfOk};
+ghost use Rattle.std.specs.Prelude.{◌≡◌, ◌||◌, ◌&&◌, false, map, not, IfOk};
 ghost use Rattle.std.specs.List.{list_any};
 ghost use Rattle.replay.specs.Commanding.{is_equals, is_hyphened, line_count_of, options_among, others_among, script_of, trial_behind, trial_of};
 
@@ -46,18 +46,18 @@ pub fn script_in(words: &[&str]) -> Option<Generated>
     }
 }
 
-// Whether a hyphen begins a word.
-fn is_hyphened(word: &str) -> bool
-    ensures { result ≡ is_hyphened word.now }
+// Whether a word is an option, which a hyphen begins, or its value.
+fn is_of_option(is_value: bool, word: &str) -> bool
+    ensures { result ≡ (is_value || is_hyphened word.now) }
 {
-    word.starts_with('-')
+    is_value || word.starts_with('-')
 }
 
-// Whether an option has its value in its own word.
-fn has_value(word: &str) -> bool
-    ensures { result ≡ list_any is_equals word.now }
+// Whether the value of an option is the next word: the option hasn't one itself.
+fn awaits_value(is_value: bool, word: &str) -> bool
+    ensures { result ≡ (not is_value && not (list_any is_equals word.now)) }
 {
-    word.as_bytes().contains(&b'=')
+    !is_value && !word.as_bytes().contains(&b'=')
 }
 
 // Parts words into those of options and the others. A hyphen begins an option, and its value is
@@ -72,9 +72,9 @@ fn part<'a>(alloc: Global, words: &[&'a str]) -> Result<Parted<'a>, NoMemory>
     let mut others = Vec::new(alloc);
     let mut is_value = false;
     for word in words {
-        if is_value || is_hyphened(word) {
+        if is_of_option(is_value, word) {
             options.push(*word)?;
-            is_value = !is_value && !has_value(word);
+            is_value = awaits_value(is_value, word);
         } else {
             others.push(*word)?;
         }

@@ -1,5 +1,6 @@
 -- The command that clap is given, and what a parse of it says.
 use Rattle.std.proofs.Common.{◌≡◌, ◌||◌, ◌&&◌, ℕ, Bool, true, false, cond, not, List, [], ◌∷◌, ◌++◌, append_assoc, append-nil, map, fold, Option, Some, None, refl, sym, ap, subst, ◌∙◌, inl, inr, option_and_then}
+use Rattle.std.proofs.lemmas.Bool.{and_from, cond_both}
 use Rattle.std.specs.Prelude.{IfErr, IfOk, IsSome, Result, Ok, Err}
 use Rattle.std.specs.List.{list_all, list_any}
 use Rattle.clap.specs.Walk.{Held, Row, Rule, Text, finished, first_of, has_row, is_early_multiple, rows_after, rows_of, settled, walked, with_default}
@@ -20,9 +21,6 @@ use Rattle.replay.proofs.CommandLine.Turns.{held, none_both, none_first, none_th
 use Rattle.replay.proofs.CommandLine.Walks.{reads, row_of, takes}
 use Rattle.replay.proofs.CommandLine.Values.{fits_own, options_alone, own_fits, own_known, proper_is, rules_of, value_found}
 use Rattle.replay.proofs.CommandLine.Right.{right}
-
-both_true : (a b : Bool) → a ≡ true → b ≡ true → (a && b) ≡ true
-both_true a b e f = ap (λ (x : Bool). x && b) e ∙ f
 
 -- the command with the rules of some options
 
@@ -76,10 +74,10 @@ built_free known = subst IsFree (sym (filled_rules known)) (simple_rules known, 
 pub told_simple : (known : List Text) → is_simple (told known) ≡ true
 told_simple known =
     let free = built_free known in
-    both_true _ _ (both_true _ _ (simple_told known) refl) (both_true _ _ (both_true _ _ free.0 (ap not (free.1 _))) refl)
+    and_from _ _ (and_from _ _ (simple_told known) refl) (and_from _ _ (and_from _ _ free.0 (ap not (free.1 _))) refl)
 
 pub told_free : (known : List Text) → is_simple_and_free (told known) ≡ true
-told_free known = both_true _ _ (told_simple known) (both_true _ _ (built_free known).2 refl)
+told_free known = and_from _ _ (told_simple known) (and_from _ _ (built_free known).2 refl)
 
 -- where a walk over the words ends
 abbrev end_of : List Text → List Text → Held
@@ -100,11 +98,7 @@ module _ (known words : List Text) where
   matches_are = ap (λ (rules : List Rule). rows_after rules [] words) (filled_rules known)
 
 no_default : (name : Text) (rows : List Row) → with_default rows (opt name) ≡ rows
-no_default name rows = by (has_row name rows)
-  where
-    by : (b : Bool) → cond b rows rows ≡ rows
-    by true = refl
-    by false = refl
+no_default name rows = cond_both (has_row name rows) rows rows (λ (l : List Row). l ≡ rows) (λ t. refl) (λ f. refl)
 
 no_defaults : (known : List Text) (rows : List Row) → fold with_default rows (rules_of known) ≡ rows
 no_defaults [] rows = refl

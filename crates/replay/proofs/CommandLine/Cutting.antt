@@ -1,7 +1,9 @@
 -- Words that are cut into options, one option after another.
-use Rattle.std.proofs.Common.{◌≡◌, List, ℕ, [], ◌∷◌, Option, Some, None, refl, ap, subst, ◌∙◌, option_map}
+use Rattle.std.proofs.Common.{◌≡◌, Bool, true, false, List, ℕ, [], ◌∷◌, Option, Some, None, refl, ap, subst, ◌∙◌, option_map}
+use Rattle.std.specs.List.{AllByRecursion, list_any}
+use Rattle.std.proofs.lemmas.Bool.{or_from}
 use Rattle.std.specs.Option.{option_map_or}
-use Rattle.replay.specs.Commanding.{CommandOption, option_in, options_of}
+use Rattle.replay.specs.Commanding.{CommandOption, is_value, option_in, options_of}
 use Rattle.replay.proofs.CommandLine.Spelling.{spelled}
 
 abbrev in_front : CommandOption → Option (List CommandOption) → Option (List CommandOption)
@@ -55,3 +57,20 @@ module _ (P : List (List ℕ) → List CommandOption → Type 0) (none : P [] []
           → option_map_or (λ (o : CommandOption). in_front o (options_of (value ∷ words))) o (in_front (spelled word value) (options_of words)) ≡ Some options → P (word ∷ value ∷ words) options
       by None is more less e = one_apart word value words options (options_of words) is refl less e
       by (Some o) is more less e = one_joined word (value ∷ words) options o (options_of (value ∷ words)) is refl more e
+
+-- no hyphen begins a value
+abbrev pub ArePlain : List CommandOption → Type 0
+ArePlain options = AllByRecursion (λ (o : CommandOption). is_value o.value ≡ true) options
+
+-- A test that fails at an option in one word, at its name and at a plain value fails at each word.
+module _ (test : List ℕ → Bool) (Q : CommandOption → Type 0)
+    (joined : (word : List ℕ) (o : CommandOption) → option_in word ≡ Some o → Q o → test word ≡ false)
+    (alone : (word value : List ℕ) → option_in word ≡ None → Q (spelled word value) → test word ≡ false)
+    (plain : (word : List ℕ) → is_value word ≡ true → test word ≡ false) where
+  abbrev Fails : List (List ℕ) → List CommandOption → Type 0
+  Fails words options = AllByRecursion Q options → ArePlain options → list_any test words ≡ false
+
+  pub fails : (words : List (List ℕ)) (options : List CommandOption) → options_of words ≡ Some options → Fails words options
+  fails = by_cut Fails (λ qs plains. refl)
+      (λ word words o options is rest qs plains. or_from _ _ (joined word o is qs.0) (rest qs.1 plains.1))
+      (λ word value words options is rest qs plains. or_from _ _ (alone word value is qs.0) (or_from _ _ (plain value plains.0) (rest qs.1 plains.1)))

@@ -1,14 +1,14 @@
 -- The first value of a name in words that ask for something is that of the option of this name.
 use Rattle.std.proofs.Common.{◌≡◌, ◌==◌, ◌||◌, ℕ, Bool, true, false, cond, not, List, [], ◌∷◌, find, Option, Some, None, refl, sym, ap, ◌∙◌, codes, bytes_eq, option_map, option_and_then, is_some, slice_get, unwrap_or}
-use Rattle.std.specs.List.{after_first, before_first, list_any}
+use Rattle.std.specs.List.{AllByRecursion, after_first, before_first, list_any}
+use Rattle.std.proofs.lemmas.Bool.{not-true, or_from, or_parts}
 use Rattle.std.specs.Option.{option_map_or, option_or}
 use Rattle.vm_ids.specs.declared.numbers.TheConstants.{PAGE}
 use Rattle.replay.specs.declared.asked.Size.{Size}
 use Rattle.replay.specs.Commanding.{CommandOption, Values, size_behind, first_value, is_equals, is_hyphened, is_known, is_value, option_in, options_among, options_of, page_of, value_in, value_named, values_behind}
-use Rattle.replay.proofs.CommandLine.Spelling.{begins, spelled}
-use Rattle.replay.proofs.CommandLine.Cutting.{by_cut}
-use Rattle.replay.proofs.CommandLine.Walks.{ArePlain}
-use Rattle.replay.proofs.CommandLine.Values.{AreOwn, not_true, or_none, same_text}
+use Rattle.replay.proofs.CommandLine.Spelling.{begins, differs, spelled}
+use Rattle.replay.proofs.CommandLine.Cutting.{ArePlain, by_cut, fails}
+use Rattle.replay.proofs.CommandLine.Values.{AreOwn}
 use Rattle.replay.proofs.CommandLine.Right.{right, sized}
 
 -- a name that a hyphen begins, without the sign
@@ -19,31 +19,23 @@ module _ (rest : List ℕ) (alone : option_in (45 ∷ rest) ≡ None) where
   -- a word that no hyphen begins is no such name, and gives it no value
 
   other_differs : (word : List ℕ) → is_hyphened word ≡ false → bytes_eq word name ≡ false
-  other_differs word other = by (bytes_eq word name) refl
-    where
-      by : (b : Bool) → bytes_eq word name ≡ b → b ≡ false
-      by true t = let yes : true ≡ false = sym (ap is_hyphened (same_text word name t)) ∙ other in absurd (cc)
-      by false t = refl
+  other_differs word other = differs word name (λ same. let yes : true ≡ false = sym (ap is_hyphened same) ∙ other in cc)
 
   other_gives_none : (word : List ℕ) → is_hyphened word ≡ false → value_in name word ≡ None
   other_gives_none word other = by (list_any is_equals word)
     where
-      first : (b : Bool) → bytes_eq (before_first is_equals word) name ≡ b → b ≡ false
-      first true t =
-          let begin = begins is_equals word 45 rest (same_text (before_first is_equals word) name t) in
-          let yes : true ≡ false = sym (ap is_hyphened begin.word_is) ∙ other in
-          absurd (cc)
-      first false t = refl
+      first : bytes_eq (before_first is_equals word) name ≡ false
+      first = differs (before_first is_equals word) name (λ same. let yes : true ≡ false = sym (ap is_hyphened (begins is_equals word 45 rest same).word_is) ∙ other in cc)
 
       by : (b : Bool) → option_and_then (λ (o : CommandOption). cond (bytes_eq o.name name) (Some o.value) None) (cond b (Some (record { name = before_first is_equals word; value = after_first is_equals word })) None) ≡ None
-      by true = ap (λ (b : Bool). cond b (Some (after_first is_equals word)) None) (first (bytes_eq (before_first is_equals word) name) refl)
+      by true = ap (λ (b : Bool). cond b (Some (after_first is_equals word)) None) first
       by false = refl
 
   -- and so is a value
 
   value_other : (word : List ℕ) → is_value word ≡ true → is_hyphened word ≡ false
   value_other [] plain = refl
-  value_other (b ∷ bs) plain = not_true (b == 45) plain
+  value_other (b ∷ bs) plain = not-true (b == 45) plain
 
   plain_differs : (word : List ℕ) → is_value word ≡ true → bytes_eq word name ≡ false
   plain_differs word plain = other_differs word (value_other word plain)
@@ -52,11 +44,7 @@ module _ (rest : List ℕ) (alone : option_in (45 ∷ rest) ≡ None) where
   plain_gives_none word plain = other_gives_none word (value_other word plain)
 
   joined_differs : (word : List ℕ) (o : CommandOption) → option_in word ≡ Some o → bytes_eq word name ≡ false
-  joined_differs word o is = by (bytes_eq word name) refl
-    where
-      by : (b : Bool) → bytes_eq word name ≡ b → b ≡ false
-      by true t = let none : None ≡ Some o = sym (ap option_in (same_text word name t) ∙ alone) ∙ is in absurd (cc)
-      by false t = refl
+  joined_differs word o is = differs word name (λ same. let none : None ≡ Some o = sym (ap option_in same ∙ alone) ∙ is in cc)
 
   -- one option after another
 
@@ -104,16 +92,11 @@ module _ (rest : List ℕ) (alone : option_in (45 ∷ rest) ≡ None) where
   abbrev Lacks : List (List ℕ) → Type 0
   Lacks words = list_any gives words ≡ false
 
-  first_lacks : (word : List ℕ) (words : List (List ℕ)) → bytes_eq word name ≡ false → value_in name word ≡ None → Lacks words → Lacks (word ∷ words)
-  first_lacks word words differs none lacks =
-      ap (λ (b : Bool). (b || is_some (value_in name word)) || list_any gives words) differs
-      ∙ ap (λ (o : Option (List ℕ)). is_some o || list_any gives words) none ∙ lacks
-
   pub lacking : (words : List (List ℕ)) → Lacks words → first_value name words ≡ None
   lacking [] lacks = refl
   lacking (word ∷ words) lacks =
-      let first = or_none (gives word) (list_any gives words) lacks in
-      let parts = or_none (bytes_eq word name) (is_some (value_in name word)) first.0 in
+      let first = or_parts (gives word) (list_any gives words) lacks in
+      let parts = or_parts (bytes_eq word name) (is_some (value_in name word)) first.0 in
       ap (λ (b : Bool). cond b (slice_get words 0) (option_or (value_in name word) (first_value name words))) parts.0
       ∙ ap (λ (o : Option (List ℕ)). option_or o (first_value name words)) (none_of (value_in name word) parts.1) ∙ lacking words first.1
     where
@@ -121,51 +104,34 @@ module _ (rest : List ℕ) (alone : option_in (45 ∷ rest) ≡ None) where
       none_of None e = refl
       none_of (Some x) e = absurd (cc)
 
-  abbrev Spares : List (List ℕ) → List CommandOption → Type 0
-  Spares words options = ArePlain options → list_any (λ (o : CommandOption). bytes_eq o.name name) options ≡ false → Lacks words
-
-  joined_spares : (word : List ℕ) (words : List (List ℕ)) (o : CommandOption) (options : List CommandOption) → option_in word ≡ Some o → Spares words options → Spares (word ∷ words) (o ∷ options)
-  joined_spares word words o options is spares plain none =
-      let parts = or_none _ _ none in
-      first_lacks word words (joined_differs word o is)
-      (ap (option_and_then (λ (o : CommandOption). cond (bytes_eq o.name name) (Some o.value) None)) is ∙ ap (λ (b : Bool). cond b (Some o.value) None) parts.0)
-      (spares plain.1 parts.1)
-
-  apart_spares : (word value : List ℕ) (words : List (List ℕ)) (options : List CommandOption) → option_in word ≡ None → Spares words options → Spares (word ∷ value ∷ words) (spelled word value ∷ options)
-  apart_spares word value words options is spares plain none =
-      let parts = or_none _ _ none in
-      first_lacks word (value ∷ words) parts.0 (ap (option_and_then (λ (o : CommandOption). cond (bytes_eq o.name name) (Some o.value) None)) is)
-      (first_lacks value words (plain_differs value plain.0) (plain_gives_none value plain.0) (spares plain.1 parts.1))
-
-  spares : (words : List (List ℕ)) (options : List CommandOption) → options_of words ≡ Some options → Spares words options
-  spares = by_cut Spares (λ plain none. refl) joined_spares apart_spares
-
-  own_spares : (known : List (List ℕ)) (options : List CommandOption) → AreOwn known options → is_known known name ≡ false → list_any (λ (o : CommandOption). bytes_eq o.name name) options ≡ false
-  own_spares known [] own none = refl
-  own_spares known (o ∷ options) own none = ap (λ (b : Bool). b || list_any (λ (o : CommandOption). bytes_eq o.name name) options) (by (bytes_eq o.name name) refl) ∙ own_spares known options own.2 none
-    where
-      by : (b : Bool) → bytes_eq o.name name ≡ b → b ≡ false
-      by true t = let yes : true ≡ false = sym own.0 ∙ ap (is_known known) (same_text o.name name t) ∙ none in absurd (cc)
-      by false t = refl
+  own_other : (known : List (List ℕ)) (options : List CommandOption) → AreOwn known options → is_known known name ≡ false → AllByRecursion (λ (o : CommandOption). bytes_eq o.name name ≡ false) options
+  own_other known [] own none = tt
+  own_other known (o ∷ options) own none = (differs o.name name (λ same. let yes : true ≡ false = sym own.0 ∙ ap (is_known known) same ∙ none in cc), own_other known options own.2 none)
 
   pub unknown_lacks : (known words : List (List ℕ)) (values : Values) → values_behind known words ≡ Some values → is_known known name ≡ false → Lacks words
-  unknown_lacks known words values e none = let r = right known words values e in spares words r.options r.cut r.plain (own_spares known r.options r.own none)
+  unknown_lacks known words values e none =
+      let r = right known words values e in
+      fails gives (λ (o : CommandOption). bytes_eq o.name name ≡ false)
+      (λ word o is other. or_from _ _ (joined_differs word o is) (ap is_some (ap (option_and_then (λ (o : CommandOption). cond (bytes_eq o.name name) (Some o.value) None)) is ∙ ap (λ (b : Bool). cond b (Some o.value) None) other)))
+      (λ word value is other. or_from _ _ other (ap (λ (x : Option CommandOption). is_some (option_and_then (λ (o : CommandOption). cond (bytes_eq o.name name) (Some o.value) None) x)) is))
+      (λ word plain. or_from _ _ (plain_differs word plain) (ap is_some (plain_gives_none word plain)))
+      words r.options r.cut (own_other known r.options r.own none) r.plain
 
   -- nor is any of the words among which these options are
   pub among_lacks : (flag : Bool) (words : List (List ℕ)) → Lacks (options_among flag words) → Lacks words
   unfolding options_among
   among_lacks flag [] lacks = refl
   among_lacks true (word ∷ words) lacks =
-      let parts = or_none (gives word) (list_any gives (options_among false words)) lacks in
+      let parts = or_parts (gives word) (list_any gives (options_among false words)) lacks in
       ap (λ (b : Bool). b || list_any gives words) parts.0 ∙ among_lacks false words parts.1
   among_lacks false (word ∷ words) lacks = by (is_hyphened word) refl lacks (among_lacks (not (list_any is_equals word)) words) (among_lacks false words)
     where
       by : (b : Bool) → is_hyphened word ≡ b → Lacks (cond b (word ∷ options_among (not (list_any is_equals word)) words) (options_among false words))
           → (Lacks (options_among (not (list_any is_equals word)) words) → Lacks words) → (Lacks (options_among false words) → Lacks words) → Lacks (word ∷ words)
       by true t lacks option rest =
-          let parts = or_none (gives word) (list_any gives (options_among (not (list_any is_equals word)) words)) lacks in
+          let parts = or_parts (gives word) (list_any gives (options_among (not (list_any is_equals word)) words)) lacks in
           ap (λ (b : Bool). b || list_any gives words) parts.0 ∙ option parts.1
-      by false t lacks option rest = first_lacks word words (other_differs word t) (other_gives_none word t) (rest lacks)
+      by false t lacks option rest = or_from _ _ (or_from _ _ (other_differs word t) (ap is_some (other_gives_none word t))) (rest lacks)
 
 -- the page size that words name is the one that they ask for
 

@@ -1,17 +1,17 @@
 -- What words are that ask for something.
-use Rattle.std.proofs.Common.{◌≡◌, ◌≤◌, ◌^◌, ◌⊎◌, ℕ, Bool, true, false, cond, List, [], ◌∷◌, Option, Some, refl, sym, ap, ◌∙◌, inl, inr, subst, codes, bytes_eq, arith, nat_le, option_map}
+use Rattle.std.proofs.Common.{◌≡◌, ◌≤◌, ◌^◌, ℕ, Bool, true, false, cond, List, [], ◌∷◌, Option, Some, refl, sym, ap, ◌∙◌, subst, codes, bytes_eq, arith, nat_le, option_map}
 use Rattle.std.specs.Prelude.{◌&&◌, IfOk, Result, Ok, Err}
-use Rattle.std.proofs.lemmas.Bool.{leb-true}
+use Rattle.std.proofs.lemmas.Bool.{and_parts, leb-true}
 use Rattle.vm_ids.specs.declared.numbers.TheConstants.{PAGE}
 use Rattle.actor_script.specs.Operands.{number_of}
 use Rattle.replay.specs.declared.asked.Asked.{Asked}
 use Rattle.replay.specs.declared.asked.Asked.TheVariants as asks
 use Rattle.replay.specs.declared.asked.Generated.{Generated}
 use Rattle.replay.specs.declared.asked.Size.{Size}
-use Rattle.replay.specs.Commanding.{asked_by, frames_behind, if_lines, line_count_of, options_among, others_among, page_size_of, plain_options, run_options, script_of, size_behind, trial_behind, trial_of}
+use Rattle.replay.specs.Commanding.{asked_by, first_value, frames_behind, if_lines, line_count_of, options_among, others_among, page_size_of, plain_options, run_options, script_of, size_behind, trial_behind, trial_of}
 use Rattle.replay.proofs.CommandLine.First.{no_page, no_page_among, page_behind, page_or}
 use Rattle.replay.proofs.CommandLine.Right.{Made, few_frames, made_by_map, made_by_test, made_by_then, sized, small_page}
-use Rattle.replay.proofs.CommandLine.Values.{and_both, same_text}
+use Rattle.replay.proofs.CommandLine.Values.{same_text}
 
 -- a word, and what is so of the words behind it
 pub record IsWord (name : List ℕ) (P : List (List ℕ) → Type 0) (words : List (List ℕ)) : Type 0 where
@@ -42,34 +42,34 @@ trial_is rest asked e =
     mapped (codes "trial") rest (asks.Trial script.value) (frames_behind (options_among false rest)) asked
     (λ frames is. record { rest = rest; words_are = refl; holds = record { script_is = script.is; frames_are = is } }) script.holds
 
--- what the first test that holds makes
-chosen : {A : Type 0} (b : Bool) (x y : Option A) (a : A) → cond b x y ≡ Some a → ((b ≡ true) × (x ≡ Some a)) ⊎ (y ≡ Some a)
-chosen true x y a e = inl (refl, e)
-chosen false x y a e = inr e
+-- a word is this one, or one of the others
+this_or : (name command : List ℕ) (rest : List (List ℕ)) (asked : Asked) (this others : Option Asked) → cond (bytes_eq command name) this others ≡ Some asked
+    → (this ≡ Some asked → IsKind (name ∷ rest) asked) → (others ≡ Some asked → IsKind (command ∷ rest) asked) → IsKind (command ∷ rest) asked
+this_or name command rest asked this others e f g = by (bytes_eq command name) refl e
+  where
+    by : (b : Bool) → bytes_eq command name ≡ b → cond b this others ≡ Some asked → IsKind (command ∷ rest) asked
+    by true t e = subst (λ (word : List ℕ). IsKind (word ∷ rest) asked) (sym (same_text command name t)) (f e)
+    by false t e = g e
 
 kind_of_words : (words : List (List ℕ)) (asked : Asked) → asked_by words ≡ Some asked → IsKind words asked
 unfolding asked_by
 kind_of_words [] asked e = absurd (cc)
-kind_of_words (command ∷ rest) asked e = elim (chosen (bytes_eq command (codes "run")) _ _ asked e) [
-  | inl run ↦ as_word (codes "run") run.0 (mapped (codes "run") rest asks.Run _ asked (λ size is. record { rest = rest; words_are = refl; holds = is }) run.1)
-  | inr e ↦ elim (chosen (bytes_eq command (codes "generate")) _ _ asked e) [
-    | inl generate ↦ as_word (codes "generate") generate.0 (mapped (codes "generate") rest asks.Generate _ asked (λ script is. record { rest = rest; words_are = refl; holds = is }) generate.1)
-    | inr e ↦ elim (chosen (bytes_eq command (codes "trial")) _ _ asked e) [
-      | inl trial ↦ as_word (codes "trial") trial.0 (trial_is rest asked trial.1)
-      | inr e ↦ elim (chosen (bytes_eq command (codes "mix")) _ _ asked e) [
-        | inl mix ↦ as_word (codes "mix") mix.0 (mapped (codes "mix") rest asks.Mix _ asked (λ frames is. record { rest = rest; words_are = refl; holds = is }) mix.1)
-        | inr e ↦ absurd (cc)
-      ]
-    ]
-  ]
-]
-  where
-    as_word : (name : List ℕ) → bytes_eq command name ≡ true → IsKind (name ∷ rest) asked → IsKind (command ∷ rest) asked
-    as_word name t kind = subst (λ (word : List ℕ). IsKind (word ∷ rest) asked) (sym (same_text command name t)) kind
+kind_of_words (command ∷ rest) asked e =
+    this_or (codes "run") command rest asked _ _ e (mapped (codes "run") rest asks.Run _ asked (λ size is. record { rest = rest; words_are = refl; holds = is }))
+    (λ e. this_or (codes "generate") command rest asked _ _ e (mapped (codes "generate") rest asks.Generate _ asked (λ script is. record { rest = rest; words_are = refl; holds = is }))
+    (λ e. this_or (codes "trial") command rest asked _ _ e (trial_is rest asked)
+    (λ e. this_or (codes "mix") command rest asked _ _ e (mapped (codes "mix") rest asks.Mix _ asked (λ frames is. record { rest = rest; words_are = refl; holds = is }))
+    (λ e. absurd (cc)))))
 
 -- words whose pages have 4,096 bytes ask for a size, too
 plain_size : (words : List (List ℕ)) (frames : ℕ) → frames_behind words ≡ Some frames → Made (size_behind plain_options words) (λ size. size.frames ≡ frames)
 plain_size words frames e = made_by_map (λ (size : Size). size.frames) (size_behind plain_options words) frames e
+
+plain_page : (words : List (List ℕ)) (frames : ℕ) → frames_behind words ≡ Some frames → page_or (first_value (codes "--page") words) ≡ PAGE
+plain_page words frames e =
+    let size = plain_size words frames e in
+    let s = sized plain_options words size.value size.is in
+    ap page_or (no_page plain_options refl words s.values s.values_are)
 
 -- the page size that the words name is the one of what they ask for
 
@@ -88,9 +88,7 @@ trial_page words script frames e =
 pub mix_page : (words : List (List ℕ)) (frames : ℕ) → asked_by words ≡ Some (asks.Mix frames) → page_size_of words ≡ PAGE
 mix_page words frames e =
     let mix = kind_of_words words (asks.Mix frames) e in
-    let size = plain_size mix.rest frames mix.holds in
-    let s = sized plain_options mix.rest size.value size.is in
-    ap page_size_of mix.words_are ∙ ap page_or (no_page plain_options refl mix.rest s.values s.values_are)
+    ap page_size_of mix.words_are ∙ plain_page mix.rest frames mix.holds
 
 -- bounds
 
@@ -103,8 +101,8 @@ pub record HasBounds (count bytes : ℕ) : Type 0 where
 size_bounds : (known words : List (List ℕ)) (size : Size) → size_behind known words ≡ Some size → HasBounds size.frames size.page_bytes
 size_bounds known words size e =
     let s = sized known words size e in
-    let frames = few_frames _ _ size s.forms in
-    let page = small_page _ _ size s.forms in
+    let frames = few_frames _ size.frames s.forms.frames_are in
+    let page = small_page _ size.page_bytes s.forms.page_is in
     record { few = frames.0; frames = omega (arith, frames.1); some = page.0; page = page.1 }
 
 plain_bounds : (words : List (List ℕ)) (frames : ℕ) → frames_behind words ≡ Some frames → HasBounds frames PAGE
@@ -132,7 +130,7 @@ HasFewLines n = (1 ≤ n) × (n ≤ 1000000)
 few_if : (n lines : ℕ) → if_lines n ≡ Some lines → HasFewLines lines
 few_if n lines e =
     let test = made_by_test (nat_le 1 n && nat_le n 1000000) n lines e in
-    let both = and_both _ _ test.0 in
+    let both = and_parts _ _ test.0 in
     subst HasFewLines test.1 (leb-true 1 n both.0, leb-true n 1000000 both.1)
 
 script_few : (words : List (List ℕ)) (script : Generated) → script_of words ≡ Some script → HasFewLines script.lines

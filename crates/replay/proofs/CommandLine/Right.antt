@@ -1,13 +1,14 @@
 -- Words that ask for something: their options, and the forms of the values of these.
 use Rattle.std.proofs.Common.{◌≡◌, ◌==◌, ◌||◌, ◌&&◌, ◌≤◌, ◌^◌, ℕ, Bool, true, false, cond, List, [], ◌∷◌, Option, Some, None, nat_le, refl, ap, subst, ◌∙◌, arith, codes, option_map, option_and_then, eqb-true, leb-true}
 use Rattle.std.specs.List.{list_all, list_any}
+use Rattle.std.proofs.lemmas.Bool.{and_parts}
 use Rattle.std.specs.Option.{option_map_or}
 use Rattle.vm_ids.specs.declared.numbers.TheConstants.{PAGE}
 use Rattle.actor_script.specs.Operands.{number_of}
 use Rattle.replay.specs.declared.asked.Size.{Size}
 use Rattle.replay.specs.Commanding.{CommandOption, Values, are_proper, size_behind, asked_for, frames_of, hyphened, if_fitting, if_frames, if_page, options_of, page_of, page_sizes, size_of, value_named, values_behind, values_of}
-use Rattle.replay.proofs.CommandLine.Walks.{ArePlain}
-use Rattle.replay.proofs.CommandLine.Values.{AreOwn, and_both, proper_parts}
+use Rattle.replay.proofs.CommandLine.Cutting.{ArePlain}
+use Rattle.replay.proofs.CommandLine.Values.{AreOwn, proper_parts}
 
 -- what an option that is there was made of
 
@@ -76,30 +77,26 @@ IsPageSize n = (1 ≤ n) × (n ≤ 2 ^ 16)
 
 among : (sizes : List ℕ) (n : ℕ) → list_any (λ size. size == n) sizes ≡ true → list_all (λ size. nat_le 1 size && nat_le size (2 ^ 16)) sizes ≡ true → IsPageSize n
 among [] n e all = absurd (cc)
-among (size ∷ sizes) n e all = by (size == n) refl e (and_both _ _ all) (among sizes n)
+among (size ∷ sizes) n e all = by (size == n) refl e (and_parts _ _ all) (among sizes n)
   where
     by : (b : Bool) → (size == n) ≡ b → (b || list_any (λ size. size == n) sizes) ≡ true → ((nat_le 1 size && nat_le size (2 ^ 16)) ≡ true) × (list_all (λ size. nat_le 1 size && nat_le size (2 ^ 16)) sizes ≡ true)
         → (list_any (λ size. size == n) sizes ≡ true → list_all (λ size. nat_le 1 size && nat_le size (2 ^ 16)) sizes ≡ true → IsPageSize n) → IsPageSize n
     by true t e all rest =
-        let within = and_both _ _ all.0 in
+        let within = and_parts _ _ all.0 in
         subst IsPageSize (eqb-true size n t) (leb-true 1 size within.0, leb-true size (2 ^ 16) within.1)
     by false t e all rest = rest e all.1
 
-module _ (frames page : Option (List ℕ)) (size : Size) (h : HasForms frames page size) where
-  pub few_frames : AreFew size.frames
-  few_frames =
-      let word = made_by_then frames_of frames size.frames h.frames_are in
-      let n = made_by_then if_frames (number_of word.value) size.frames word.holds in
-      let test = made_by_test (nat_le 3 n.value && nat_le n.value 65536) n.value size.frames n.holds in
-      let both = and_both _ _ test.0 in
-      subst AreFew test.1 (leb-true 3 n.value both.0, leb-true n.value 65536 both.1)
+pub few_frames : (word : Option (List ℕ)) (frames : ℕ) → option_and_then frames_of word ≡ Some frames → AreFew frames
+few_frames word frames e =
+    let w = made_by_then frames_of word frames e in
+    let n = made_by_then if_frames (number_of w.value) frames w.holds in
+    let test = made_by_test (nat_le 3 n.value && nat_le n.value 65536) n.value frames n.holds in
+    let both = and_parts _ _ test.0 in
+    subst AreFew test.1 (leb-true 3 n.value both.0, leb-true n.value 65536 both.1)
 
-  pub small_page : IsPageSize size.page_bytes
-  small_page = by page h.page_is
-    where
-      by : (o : Option (List ℕ)) → option_map_or page_of o (Some PAGE) ≡ Some size.page_bytes → IsPageSize size.page_bytes
-      by None e = let same : PAGE ≡ size.page_bytes = cc in subst IsPageSize same (omega arith, omega arith)
-      by (Some word) e =
-          let n = made_by_then if_page (number_of word) size.page_bytes e in
-          let test = made_by_test (list_any (λ size. size == n.value) page_sizes) n.value size.page_bytes n.holds in
-          subst IsPageSize test.1 (among page_sizes n.value test.0 refl)
+pub small_page : (word : Option (List ℕ)) (bytes : ℕ) → option_map_or page_of word (Some PAGE) ≡ Some bytes → IsPageSize bytes
+small_page None bytes e = let same : PAGE ≡ bytes = cc in subst IsPageSize same (omega arith, omega arith)
+small_page (Some word) bytes e =
+    let n = made_by_then if_page (number_of word) bytes e in
+    let test = made_by_test (list_any (λ size. size == n.value) page_sizes) n.value bytes n.holds in
+    subst IsPageSize test.1 (among page_sizes n.value test.0 refl)

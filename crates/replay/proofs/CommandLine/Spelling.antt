@@ -1,7 +1,8 @@
 -- How words spell options, as the definition cuts them and as clap does.
 use Rattle.std.proofs.Common.{◌≡◌, ◌==◌, ◌||◌, ◌&&◌, ◌+◌, ℕ, suc, Bool, true, false, cond, not, List, [], ◌∷◌, take, drop, Option, Some, None, refl, sym, ap, ◌∙◌, arith, one-add, eqb-true, bytes_eq}
 use Rattle.std.specs.List.{after_first, before_first, list_any, position_or_len}
-use Rattle.std.specs.Prelude.{option_and_then}
+use Rattle.std.specs.Prelude.{option_and_then, option_map}
+use Rattle.std.proofs.lemmas.Bool.{false_from_ne_true}
 use Rattle.std.proofs.lemmas.Slice.Eq.{bytes_eq-Decides}
 use Rattle.clap.specs.Lexer.{long_of, long_of_rest, name_and_value, short_of, short_of_rest, strip_byte}
 use Rattle.replay.specs.Commanding.{CommandOption, hyphened, is_equals, is_value, option_in}
@@ -64,19 +65,38 @@ hyphened_name rest = before_past is_equals 45 (45 ∷ rest) refl ∙ ap (λ (l :
 hyphened_value : (rest : List ℕ) → after_first is_equals (hyphened rest) ≡ after_first is_equals rest
 hyphened_value rest = after_past is_equals 45 (45 ∷ rest) refl ∙ after_past is_equals 45 rest refl
 
--- the parts of a word, where it has the sign or hasn't
-with_sign : (rest : List ℕ) → list_any is_equals rest ≡ true → (option_in (hyphened rest) ≡ Some (spelled (hyphened (before_first is_equals rest)) (after_first is_equals rest))) × (name_and_value rest ≡ (before_first is_equals rest, Some (after_first is_equals rest)))
-with_sign rest e = (
-  ap (λ (b : Bool). cond b (Some (spelled (before_first is_equals (hyphened rest)) (after_first is_equals (hyphened rest)))) None) e
-      ∙ (λ i. Some (spelled (hyphened_name rest i) (hyphened_value rest i))),
-  ap (λ (b : Bool). (before_first is_equals rest, cond b (Some (after_first is_equals rest)) None)) e,
-)
+-- a name, and its value where it has one
+abbrev Cut : Type 0
+Cut = List ℕ × Option (List ℕ)
 
-without_sign : (rest : List ℕ) → list_any is_equals rest ≡ false → (option_in (hyphened rest) ≡ None) × (name_and_value rest ≡ (rest, None))
-without_sign rest e = (
-  ap (λ (b : Bool). cond b (Some (spelled (before_first is_equals (hyphened rest)) (after_first is_equals (hyphened rest)))) None) e,
-  ap (λ (b : Bool). (before_first is_equals rest, cond b (Some (after_first is_equals rest)) None)) e ∙ ap (λ (l : List ℕ). (l, None)) (before_none is_equals rest e),
-)
+abbrev cut_where : Bool → List ℕ → Cut
+cut_where b rest = (before_first is_equals rest, cond b (Some (after_first is_equals rest)) None)
+
+-- the option that they make
+abbrev as_option : Cut → Option CommandOption
+as_option cut = option_map (λ (value : List ℕ). spelled (hyphened cut.0) value) cut.1
+
+-- the definition cuts a word with two hyphens in front where clap does
+option_cut : (rest : List ℕ) → option_in (hyphened rest) ≡ as_option (name_and_value rest)
+option_cut rest = (λ i. cond (list_any is_equals rest) (Some (spelled (hyphened_name rest i) (hyphened_value rest i))) None) ∙ by (list_any is_equals rest)
+  where
+    by : (b : Bool) → cond b (Some (spelled (hyphened (before_first is_equals rest)) (after_first is_equals rest))) None ≡ as_option (cut_where b rest)
+    by true = refl
+    by false = refl
+
+-- it is its own name where it has no value
+whole_name : (rest : List ℕ) → as_option (name_and_value rest) ≡ None → name_and_value rest ≡ (rest, None)
+whole_name rest e = by (list_any is_equals rest) refl e
+  where
+    by : (b : Bool) → list_any is_equals rest ≡ b → as_option (cut_where b rest) ≡ None → cut_where b rest ≡ (rest, None)
+    by true t e = absurd (cc)
+    by false t e = ap (λ (l : List ℕ). (l, None)) (before_none is_equals rest t)
+
+with_value : (cut : Cut) (name value : List ℕ) → as_option cut ≡ Some (spelled (hyphened name) value) → cut ≡ (name, Some value)
+with_value (n, None) name value e = absurd (cc)
+with_value (n, Some v) name value e =
+    let both : spelled (hyphened n) v ≡ spelled (hyphened name) value = cc in
+    λ i. (drop 2 (both i).name, Some (both i).value)
 
 -- what clap reads as a long option
 
@@ -113,75 +133,40 @@ long_seen word name value e = first (strip_byte 45 word) refl
     first (Some r) s = second r (strip_byte 45 r) (stripped word r s) refl (sym (ap (λ (o : Option (List ℕ)). option_and_then long_of_rest (option_and_then (strip_byte 45) o)) s) ∙ e)
 
 -- a long option with its value is an option of the definition, and one without is its name
+
 pub long_joined : (word name value : List ℕ) → long_of word ≡ Some (name, Some value) → option_in word ≡ Some (spelled (hyphened name) value)
 long_joined word name value e =
     let seen = long_seen word name (Some value) e in
-    by seen.rest seen.word_is seen.cut (list_any is_equals seen.rest) refl
-  where
-    by : (rest : List ℕ) → word ≡ hyphened rest → name_and_value rest ≡ (name, Some value) → (b : Bool) → list_any is_equals rest ≡ b → option_in word ≡ Some (spelled (hyphened name) value)
-    by rest is cut true t =
-        let parts = with_sign rest t in
-        let both : (before_first is_equals rest, Some (after_first is_equals rest)) ≡ (name, Some value) = sym parts.1 ∙ cut in
-        let name_is : before_first is_equals rest ≡ name = ap (λ (p : List ℕ × Option (List ℕ)). p.0) both in
-        let some : Some (after_first is_equals rest) ≡ Some value = ap (λ (p : List ℕ × Option (List ℕ)). p.1) both in
-        let value_is : after_first is_equals rest ≡ value = cc in
-        ap option_in is ∙ parts.0 ∙ (λ i. Some (spelled (hyphened (name_is i)) (value_is i)))
-    by rest is cut false t =
-        let both : (rest, None) ≡ (name, Some value) = sym (without_sign rest t).1 ∙ cut in
-        let none : None ≡ Some value = ap (λ (p : List ℕ × Option (List ℕ)). p.1) both in
-        absurd (cc)
+    ap option_in seen.word_is ∙ option_cut seen.rest ∙ ap as_option seen.cut
 
 pub long_alone : (word name : List ℕ) → long_of word ≡ Some (name, None) → (option_in word ≡ None) × (word ≡ hyphened name)
 long_alone word name e =
     let seen = long_seen word name None e in
-    by seen.rest seen.word_is seen.cut (list_any is_equals seen.rest) refl
-  where
-    by : (rest : List ℕ) → word ≡ hyphened rest → name_and_value rest ≡ (name, None) → (b : Bool) → list_any is_equals rest ≡ b → (option_in word ≡ None) × (word ≡ hyphened name)
-    by rest is cut true t =
-        let both : (before_first is_equals rest, Some (after_first is_equals rest)) ≡ (name, None) = sym (with_sign rest t).1 ∙ cut in
-        let some : Some (after_first is_equals rest) ≡ None = ap (λ (p : List ℕ × Option (List ℕ)). p.1) both in
-        absurd (cc)
-    by rest is cut false t =
-        let both : (rest, None) ≡ (name, None) = sym (without_sign rest t).1 ∙ cut in
-        let name_is : rest ≡ name = ap (λ (p : List ℕ × Option (List ℕ)). p.0) both in
-        (ap option_in is ∙ (without_sign rest t).0, is ∙ ap hyphened name_is)
+    let whole = whole_name seen.rest (ap as_option seen.cut) in
+    let name_is : seen.rest ≡ name = ap (λ (cut : Cut). cut.0) (sym whole ∙ seen.cut) in
+    (ap option_in seen.word_is ∙ option_cut seen.rest ∙ ap as_option seen.cut, seen.word_is ∙ ap hyphened name_is)
 
-long_from_joined : (word : List ℕ) (x : ℕ) (xs value : List ℕ) → option_in word ≡ Some (spelled (hyphened (x ∷ xs)) value) → long_of word ≡ Some (x ∷ xs, Some value)
-long_from_joined word x xs value e = by (list_any is_equals word) refl
+-- an option of the definition is what clap reads as one, where its name isn't empty
+
+joined_at : (word : List ℕ) (x : ℕ) (xs name value : List ℕ) → word ≡ hyphened (x ∷ xs) → option_in word ≡ Some (spelled (hyphened name) value) → long_of word ≡ Some (name, Some value)
+joined_at word x xs name value is e = ap long_of is ∙ ap Some (with_value (name_and_value (x ∷ xs)) name value (sym (option_cut (x ∷ xs)) ∙ sym (ap option_in is) ∙ e))
+
+pub joined_long : (word name value : List ℕ) → (name ≡ [] → ⊥) → option_in word ≡ Some (spelled (hyphened name) value) → long_of word ≡ Some (name, Some value)
+joined_long word [] value some e = absurd (some refl)
+joined_long word (x ∷ xs) value some e = by (list_any is_equals word) e
   where
-    by : (b : Bool) → list_any is_equals word ≡ b → long_of word ≡ Some (x ∷ xs, Some value)
+    by : (b : Bool) → cond b (Some (spelled (before_first is_equals word) (after_first is_equals word))) None ≡ Some (spelled (hyphened (x ∷ xs)) value) → long_of word ≡ Some (x ∷ xs, Some value)
     by true t =
-        let some : Some (spelled (before_first is_equals word) (after_first is_equals word)) ≡ Some (spelled (hyphened (x ∷ xs)) value) = sym (ap (λ (b : Bool). cond b (Some (spelled (before_first is_equals word) (after_first is_equals word))) None) t) ∙ e in
         let both : spelled (before_first is_equals word) (after_first is_equals word) ≡ spelled (hyphened (x ∷ xs)) value = cc in
         let first = begins is_equals word 45 (45 ∷ x ∷ xs) (ap (λ (o : CommandOption). o.name) both) in
         let second = begins is_equals first.rest 45 (x ∷ xs) first.before in
         let third = begins is_equals second.rest x xs second.before in
-        let word_is : word ≡ hyphened (x ∷ third.rest) = first.word_is ∙ ap (λ (l : List ℕ). 45 ∷ l) second.word_is ∙ ap (λ (l : List ℕ). hyphened l) third.word_is in
-        let sign : list_any is_equals (x ∷ third.rest) ≡ true = sym (ap (list_any is_equals) word_is) ∙ t in
-        let name_is : before_first is_equals (x ∷ third.rest) ≡ x ∷ xs = sym (ap (before_first is_equals) third.word_is) ∙ second.before in
-        let value_is : after_first is_equals (x ∷ third.rest) ≡ value = sym (hyphened_value (x ∷ third.rest)) ∙ sym (ap (after_first is_equals) word_is) ∙ ap (λ (o : CommandOption). o.value) both in
-        ap long_of word_is ∙ ap Some (with_sign (x ∷ third.rest) sign).1 ∙ (λ i. Some (name_is i, Some (value_is i)))
-    by false t =
-        let none : None ≡ Some (spelled (hyphened (x ∷ xs)) value) = sym (ap (λ (b : Bool). cond b (Some (spelled (before_first is_equals word) (after_first is_equals word))) None) t) ∙ e in
-        absurd (cc)
-
-long_from_alone : (x : ℕ) (xs : List ℕ) → option_in (hyphened (x ∷ xs)) ≡ None → long_of (hyphened (x ∷ xs)) ≡ Some (x ∷ xs, None)
-long_from_alone x xs e = by (list_any is_equals (x ∷ xs)) refl
-  where
-    by : (b : Bool) → list_any is_equals (x ∷ xs) ≡ b → long_of (hyphened (x ∷ xs)) ≡ Some (x ∷ xs, None)
-    by true t =
-        let some : Some (spelled (hyphened (before_first is_equals (x ∷ xs))) (after_first is_equals (x ∷ xs))) ≡ None = sym (with_sign (x ∷ xs) t).0 ∙ e in
-        absurd (cc)
-    by false t = ap Some (without_sign (x ∷ xs) t).1
-
--- an option of the definition is what clap reads as one, where its name isn't empty
-pub joined_long : (word name value : List ℕ) → (name ≡ [] → ⊥) → option_in word ≡ Some (spelled (hyphened name) value) → long_of word ≡ Some (name, Some value)
-joined_long word [] value some e = absurd (some refl)
-joined_long word (x ∷ xs) value some e = long_from_joined word x xs value e
+        joined_at word x third.rest (x ∷ xs) value (first.word_is ∙ ap (λ (l : List ℕ). 45 ∷ l) second.word_is ∙ ap hyphened third.word_is) e
+    by false t = absurd (cc)
 
 pub alone_long : (name : List ℕ) → (name ≡ [] → ⊥) → option_in (hyphened name) ≡ None → long_of (hyphened name) ≡ Some (name, None)
 alone_long [] some e = absurd (some refl)
-alone_long (x ∷ xs) some e = long_from_alone x xs e
+alone_long (x ∷ xs) some e = ap Some (whole_name (x ∷ xs) (sym (option_cut (x ∷ xs)) ∙ e))
 
 -- a word that no hyphen begins is a value for clap
 
@@ -204,13 +189,9 @@ plain_word (b ∷ word) e = by (b == 45) refl
           escape = ap (λ (s : Bool). s && bytes_eq word (45 ∷ [])) t;
         }
 
+pub differs : (a b : List ℕ) → (a ≡ b → ⊥) → bytes_eq a b ≡ false
+differs a b other = false_from_ne_true (bytes_eq a b) (λ t. other ((bytes_eq-Decides a b).0 t))
+
 -- what clap reads as a long option isn't `--`
 pub long_no_escape : (word name : List ℕ) (value : Option (List ℕ)) → long_of word ≡ Some (name, value) → bytes_eq word (hyphened []) ≡ false
-long_no_escape word name value e = by (bytes_eq word (hyphened [])) refl
-  where
-    by : (b : Bool) → bytes_eq word (hyphened []) ≡ b → b ≡ false
-    by true t =
-        let same : word ≡ hyphened [] = (bytes_eq-Decides word (hyphened [])).0 t in
-        let none : None ≡ Some (name, value) = sym (ap long_of same) ∙ e in
-        absurd (cc)
-    by false t = refl
+long_no_escape word name value e = differs word (hyphened []) (λ same. let none : None ≡ Some (name, value) = sym (ap long_of same) ∙ e in cc)

@@ -1,29 +1,19 @@
 -- The options that a word knows: which are proper, and what their values are.
-use Rattle.std.proofs.Common.{◌≡◌, ◌||◌, ◌&&◌, ◌⊎◌, ℕ, Bool, true, false, cond, not, List, [], ◌∷◌, ◌++◌, drop, find, length, map, nat_le, Option, Some, None, refl, sym, ap, subst, ◌∙◌, inl, inr, bytes_eq, slice_get, option_map, option_and_then}
+use Rattle.std.proofs.Common.{◌≡◌, ◌||◌, ◌&&◌, ◌⊎◌, ℕ, Bool, true, false, cond, not, List, [], ◌∷◌, ◌++◌, drop, find, map, Option, Some, None, refl, sym, ap, ap₂, subst, ◌∙◌, inl, inr, bytes_eq, slice_get, option_map, option_and_then}
 use Rattle.std.specs.List.{AllByRecursion, list_any}
 use Rattle.std.specs.Option.{option_map_or}
+use Rattle.std.proofs.lemmas.Bool.{and_parts, not-true, or_from, or_parts, or_right, true_from_ne_false}
 use Rattle.std.proofs.lemmas.List.Folds.{list_any-append}
 use Rattle.std.proofs.lemmas.Slice.Eq.{bytes_eq-Decides}
 use Rattle.clap.specs.Walk.{Row, Rule, Text, arg_by_id, arg_by_index, arg_by_long, arg_by_short, first_of, has_row}
 use Rattle.replay.specs.Commanding.{CommandOption, are_proper, hyphened, is_known, is_value, value_named}
 use Rattle.replay.specs.Reading.{are_named, have_values}
+use Rattle.replay.proofs.CommandLine.Cutting.{ArePlain}
 use Rattle.replay.proofs.CommandLine.Turns.{IsOption, IsOptions, opt, same_bytes}
-use Rattle.replay.proofs.CommandLine.Walks.{ArePlain, Fits, Known, id_of, row_of}
+use Rattle.replay.proofs.CommandLine.Walks.{Fits, Known, id_of, row_of}
 
 pub same_text : (a b : Text) → bytes_eq a b ≡ true → a ≡ b
 same_text a b e = (bytes_eq-Decides a b).0 e
-
-pub or_none : (a b : Bool) → (a || b) ≡ false → (a ≡ false) × (b ≡ false)
-or_none true b e = absurd (cc)
-or_none false b e = (refl, e)
-
-pub and_both : (a b : Bool) → (a && b) ≡ true → (a ≡ true) × (b ≡ true)
-and_both true b e = (refl, e)
-and_both false b e = absurd (cc)
-
-pub not_true : (a : Bool) → not a ≡ true → a ≡ false
-not_true true e = absurd (cc)
-not_true false e = refl
 
 same_truth : (a b : Bool) → (a ≡ true → b ≡ true) → (b ≡ true → a ≡ true) → a ≡ b
 same_truth true b h k = sym (h refl)
@@ -34,47 +24,44 @@ same_truth false false h k = refl
 abbrev pub rules_of : List Text → List Rule
 rules_of known = map opt known
 
-by_long : (own : Text) (c : List Rule) (name : Text) → arg_by_long (opt own ∷ c) name ≡ cond (bytes_eq own name) (Some (opt own)) (arg_by_long c name)
-by_long own c name = by (bytes_eq own name)
-  where
-    by : (b : Bool) → cond (b || false) (Some (opt own)) (arg_by_long c name) ≡ cond b (Some (opt own)) (arg_by_long c name)
-    by true = refl
-    by false = refl
+-- a name is known where it finds a rule, which is its own
 
--- a known name is that of an option, and no other is
+long_is_id : (known : List Text) (name : Text) → arg_by_long (rules_of known) name ≡ arg_by_id (rules_of known) name
+long_is_id [] name = refl
+long_is_id (own ∷ known) name = by (bytes_eq own name) (long_is_id known name)
+  where
+    by : (b : Bool) → arg_by_long (rules_of known) name ≡ arg_by_id (rules_of known) name → cond (b || false) (Some (opt own)) (arg_by_long (rules_of known) name) ≡ cond b (Some (opt own)) (arg_by_id (rules_of known) name)
+    by true rest = refl
+    by false rest = rest
+
+rule_found : (known : List Text) (name : Text) → arg_by_id (rules_of known) name ≡ cond (is_known known (hyphened name)) (Some (opt name)) None
+rule_found [] name = refl
+rule_found (own ∷ known) name = by (bytes_eq own name) refl (rule_found known name)
+  where
+    by : (b : Bool) → bytes_eq own name ≡ b → arg_by_id (rules_of known) name ≡ cond (is_known known (hyphened name)) (Some (opt name)) None
+        → cond b (Some (opt own)) (arg_by_id (rules_of known) name) ≡ cond (b || is_known known (hyphened name)) (Some (opt name)) None
+    by true t rest = ap (λ (n : Text). Some (opt n)) (same_text own name t)
+    by false t rest = rest
+
+unnamed : (known : List Text) → are_named known ≡ true → is_known known (hyphened []) ≡ false
+unnamed [] named = refl
+unnamed ([] ∷ known) named = absurd (cc)
+unnamed ((x ∷ xs) ∷ known) named = unnamed known (and_parts _ _ named).1
 
 pub known_option : (known : List Text) → are_named known ≡ true → (name : Text) → is_known known (hyphened name) ≡ true → IsOption (rules_of known) name
-known_option [] named name e = absurd (cc)
-known_option (own ∷ known) named name e = by (bytes_eq own name) refl e (known_option known (and_both _ _ named).1 name)
-  where
-    by : (b : Bool) → bytes_eq own name ≡ b → (b || is_known known (hyphened name)) ≡ true → (is_known known (hyphened name) ≡ true → IsOption (rules_of known) name) → IsOption (rules_of (own ∷ known)) name
-    by true t e rest =
-        let same = same_text own name t in
-        record {
-          some = λ none. (let bad : false ≡ true = sym (ap (λ (n : Text). nat_le 1 (length n)) (same ∙ none)) ∙ (and_both _ _ named).0 in cc);
-          long = by_long own (rules_of known) name ∙ ap (λ (b : Bool). cond b (Some (opt own)) (arg_by_long (rules_of known) name)) t ∙ ap (λ (n : Text). Some (opt n)) same;
-          id = ap (λ (b : Bool). cond b (Some (opt own)) (arg_by_id (rules_of known) name)) t ∙ ap (λ (n : Text). Some (opt n)) same;
-        }
-    by false t e rest =
-        let o = rest e in
-        record {
-          some = o.some;
-          long = by_long own (rules_of known) name ∙ ap (λ (b : Bool). cond b (Some (opt own)) (arg_by_long (rules_of known) name)) t ∙ o.long;
-          id = ap (λ (b : Bool). cond b (Some (opt own)) (arg_by_id (rules_of known) name)) t ∙ o.id;
-        }
+known_option known named name e =
+    let id : arg_by_id (rules_of known) name ≡ Some (opt name) = rule_found known name ∙ ap (λ (b : Bool). cond b (Some (opt name)) None) e in
+    record {
+      some = λ none. (let bad : true ≡ false = sym e ∙ ap (λ (n : Text). is_known known (hyphened n)) none ∙ unnamed known named in cc);
+      long = long_is_id known name ∙ id;
+      id = id;
+    }
 
 unknown_none : (known : List Text) (name : Text) → is_known known (hyphened name) ≡ false → arg_by_long (rules_of known) name ≡ None
-unknown_none [] name e = refl
-unknown_none (own ∷ known) name e =
-    let parts = or_none (bytes_eq own name) (is_known known (hyphened name)) e in
-    by_long own (rules_of known) name ∙ ap (λ (b : Bool). cond b (Some (opt own)) (arg_by_long (rules_of known) name)) parts.0 ∙ unknown_none known name parts.1
+unknown_none known name e = long_is_id known name ∙ rule_found known name ∙ ap (λ (b : Bool). cond b (Some (opt name)) None) e
 
 option_known : (known : List Text) (name : Text) → IsOption (rules_of known) name → is_known known (hyphened name) ≡ true
-option_known known name o = by (is_known known (hyphened name)) refl
-  where
-    by : (b : Bool) → is_known known (hyphened name) ≡ b → b ≡ true
-    by true t = refl
-    by false t = let none : None ≡ Some (opt name) = sym (unknown_none known name t) ∙ o.long in absurd (cc)
+option_known known name o = true_from_ne_false (is_known known (hyphened name)) (λ f. let none : None ≡ Some (opt name) = sym (unknown_none known name f) ∙ o.long in cc)
 
 none_short : (known : List Text) (x : ℕ) → arg_by_short (rules_of known) x ≡ None
 none_short [] x = refl
@@ -125,11 +112,11 @@ own_known known named (o ∷ options) own =
 pub proper_parts : (known : List Text) (options : List CommandOption) → are_proper known options ≡ true → AreOwn known options × ArePlain options
 proper_parts known [] e = (tt, tt)
 proper_parts known (o ∷ options) e =
-    let parts = and_both _ _ e in
-    let first = and_both _ _ parts.0 in
-    let later = and_both _ _ parts.1 in
+    let parts = and_parts _ _ e in
+    let first = and_parts _ _ parts.0 in
+    let later = and_parts _ _ parts.1 in
     let rest = proper_parts known options later.1 in
-    ((first.0, not_true _ later.0, rest.0), (first.1, rest.1))
+    ((first.0, not-true _ later.0, rest.0), (first.1, rest.1))
 
 proper_whole : (known : List Text) (options : List CommandOption) → AreOwn known options → ArePlain options → are_proper known options ≡ true
 proper_whole known [] own plain = refl
@@ -156,10 +143,10 @@ all_named (own ∷ known) options plain =
 -- what holds of what every known name finds
 one_named : (found : Text → Option Text) (known : List Text) (name : Text) → have_values found known ≡ true → is_known known (hyphened name) ≡ true → option_map_or is_value (found name) true ≡ true
 one_named found [] name all e = absurd (cc)
-one_named found (own ∷ known) name all e = by (bytes_eq own name) refl e (one_named found known name (and_both _ _ all).1)
+one_named found (own ∷ known) name all e = by (bytes_eq own name) refl e (one_named found known name (and_parts _ _ all).1)
   where
     by : (b : Bool) → bytes_eq own name ≡ b → (b || is_known known (hyphened name)) ≡ true → (is_known known (hyphened name) ≡ true → option_map_or is_value (found name) true ≡ true) → option_map_or is_value (found name) true ≡ true
-    by true t e rest = subst (λ (n : Text). option_map_or is_value (found n) true ≡ true) (same_text own name t) (and_both _ _ all).0
+    by true t e rest = subst (λ (n : Text). option_map_or is_value (found n) true ≡ true) (same_text own name t) (and_parts _ _ all).0
     by false t e rest = rest e
 
 -- each option is the one that its name finds
@@ -172,10 +159,6 @@ found_again name (o ∷ options) x e = by (bytes_eq o.name name) refl e (found_a
         → (value_named name options ≡ Some x → is_again name options ≡ true) → is_again name (o ∷ options) ≡ true
     by true t e later = ap (λ (b : Bool). b || is_again name options) (ap (bytes_eq name) (same_text o.name name t) ∙ same_bytes name)
     by false t e later = or_right (bytes_eq name o.name) (is_again name options) (later e)
-      where
-        or_right : (a b : Bool) → b ≡ true → (a || b) ≡ true
-        or_right true b e = refl
-        or_right false b e = e
 
 each_plain : (known : List Text) (options : List CommandOption) → AreOwn known options → ((name x : Text) → is_known known name ≡ true → value_named name options ≡ Some x → is_value x ≡ true) → ArePlain options
 each_plain known [] own h = tt
@@ -202,73 +185,68 @@ proper_is known options own = same_truth _ _ (λ e. all_named known options (pro
 
 -- options that fit are the known ones
 
--- no option has the id of one of the rows
-abbrev Apart : List Row → List CommandOption → Type 0
-Apart rows options = AllByRecursion (λ (o : CommandOption). has_row (id_of o) rows ≡ false) options
+-- some option has the id of one of the rows
+abbrev meet : List Row → List CommandOption → Bool
+meet rows options = list_any (λ (o : CommandOption). has_row (id_of o) rows) options
+
+meet_none : (options : List CommandOption) → meet [] options ≡ false
+meet_none [] = refl
+meet_none (o ∷ options) = meet_none options
 
 module _ (c : List Rule) where
-  same_names : (o later : CommandOption) → Known c o → Known c later → bytes_eq o.name later.name ≡ bytes_eq (id_of o) (id_of later)
-  same_names o later k l = ap (λ (n : Text). bytes_eq n later.name) k.name_is ∙ ap (bytes_eq (hyphened (id_of o))) l.name_is
+  -- with one row more it may have its name, too
+  meet_last : (rows : List Row) (o : CommandOption) (options : List CommandOption) → Known c o → AreKnown c options → meet (rows ++ row_of o ∷ []) options ≡ (meet rows options || is_again o.name options)
+  meet_last rows o [] k ks = refl
+  meet_last rows o (later ∷ options) k ks =
+      ap₂ ◌||◌ (list_any-append (λ (r : Row). bytes_eq r.id (id_of later)) rows (row_of o ∷ []) ∙ ap (λ (b : Bool). has_row (id_of later) rows || (b || false)) (sym same_names)) (meet_last rows o options k ks.1)
+      ∙ by (has_row (id_of later) rows) (bytes_eq o.name later.name) (meet rows options) (is_again o.name options)
+    where
+      same_names : bytes_eq o.name later.name ≡ bytes_eq (id_of o) (id_of later)
+      same_names = ap (λ (n : Text). bytes_eq n later.name) k.name_is ∙ ap (bytes_eq (hyphened (id_of o))) ks.0.name_is
 
-  row_last : (rows : List Row) (o later : CommandOption) → Known c o → Known c later → has_row (id_of later) (rows ++ row_of o ∷ []) ≡ (has_row (id_of later) rows || (bytes_eq o.name later.name || false))
-  row_last rows o later k l = list_any-append (λ (r : Row). bytes_eq r.id (id_of later)) rows (row_of o ∷ []) ∙ ap (λ (b : Bool). has_row (id_of later) rows || (b || false)) (sym (same_names o later k l))
-
-  apart_first : (rows : List Row) (o : CommandOption) (options : List CommandOption) → Known c o → AreKnown c options → Apart (rows ++ row_of o ∷ []) options → Apart rows options × (is_again o.name options ≡ false)
-  apart_first rows o [] k ks a = (tt, refl)
-  apart_first rows o (later ∷ options) k ks a =
-      let rest = apart_first rows o options k ks.1 a.1 in
-      let parts = or_none _ _ (sym (row_last rows o later k ks.0) ∙ a.0) in
-      ((parts.0, rest.0), ap (λ (b : Bool). b || is_again o.name options) (or_none _ _ parts.1).0 ∙ rest.1)
-
-  apart_last : (rows : List Row) (o : CommandOption) (options : List CommandOption) → Known c o → AreKnown c options → Apart rows options → is_again o.name options ≡ false → Apart (rows ++ row_of o ∷ []) options
-  apart_last rows o [] k ks a none = tt
-  apart_last rows o (later ∷ options) k ks a none =
-      let parts = or_none _ _ none in
-      (row_last rows o later k ks.0 ∙ ap (λ (b : Bool). b || (bytes_eq o.name later.name || false)) a.0 ∙ ap (λ (b : Bool). b || false) parts.0, apart_last rows o options k ks.1 a.1 parts.1)
+      by : (h e m g : Bool) → ((h || (e || false)) || (m || g)) ≡ ((h || m) || (e || g))
+      by true e m g = refl
+      by false false m g = refl
+      by false true true g = refl
+      by false true false g = refl
 
   fits_known : (rows : List Row) (options : List CommandOption) → Fits c rows options → AreKnown c options
   fits_known rows [] fits = tt
   fits_known rows (o ∷ options) fits = (fits.0, fits_known (rows ++ row_of o ∷ []) options fits.2)
 
-fits_apart : (known : List Text) (rows : List Row) (options : List CommandOption) → Fits (rules_of known) rows options → AreOwn known options × Apart rows options
-fits_apart known rows [] fits = (tt, tt)
+fits_apart : (known : List Text) (rows : List Row) (options : List CommandOption) → Fits (rules_of known) rows options → AreOwn known options × (meet rows options ≡ false)
+fits_apart known rows [] fits = (tt, refl)
 fits_apart known rows (o ∷ options) fits =
-    let rest = fits_apart known (rows ++ row_of o ∷ []) options fits.2 in
-    let first = apart_first (rules_of known) rows o options fits.0 (fits_known (rules_of known) (rows ++ row_of o ∷ []) options fits.2) rest.1 in
+    let more = rows ++ row_of o ∷ [] in
+    let rest = fits_apart known more options fits.2 in
+    let parts = or_parts _ _ (sym (meet_last (rules_of known) rows o options fits.0 (fits_known (rules_of known) more options fits.2)) ∙ rest.1) in
     let name : is_known known o.name ≡ true = ap (is_known known) fits.0.name_is ∙ option_known known (id_of o) fits.0.option in
-    ((name, first.1, rest.0), (fits.1, first.0))
+    ((name, parts.1, rest.0), or_from _ _ fits.1 parts.0)
 
 pub fits_own : (known : List Text) (options : List CommandOption) → Fits (rules_of known) [] options → AreOwn known options
 fits_own known options fits = (fits_apart known [] options fits).0
 
 module _ (known : List Text) (named : are_named known ≡ true) where
-  own_apart : (rows : List Row) (options : List CommandOption) → AreOwn known options → Apart rows options → Fits (rules_of known) rows options
-  own_apart rows [] own a = tt
-  own_apart rows (o ∷ options) own a =
+  own_apart : (rows : List Row) (options : List CommandOption) → AreOwn known options → meet rows options ≡ false → Fits (rules_of known) rows options
+  own_apart rows [] own apart = tt
+  own_apart rows (o ∷ options) own apart =
       let all = own_known known named (o ∷ options) own in
-      (all.0, a.0, own_apart (rows ++ row_of o ∷ []) options own.2 (apart_last (rules_of known) rows o options all.0 all.1 a.1 own.1))
-
-  apart_none : (options : List CommandOption) → Apart [] options
-  apart_none [] = tt
-  apart_none (o ∷ options) = (refl, apart_none options)
+      let parts = or_parts _ _ apart in
+      (all.0, parts.0, own_apart (rows ++ row_of o ∷ []) options own.2 (meet_last (rules_of known) rows o options all.0 all.1 ∙ or_from _ _ parts.1 own.1))
 
   pub own_fits : (options : List CommandOption) → AreOwn known options → Fits (rules_of known) [] options
-  own_fits options own = own_apart [] options own (apart_none options)
+  own_fits options own = own_apart [] options own (meet_none options)
 
 -- the values that clap finds are those of the options
 
 pub value_found : (id : Text) (c : List Rule) (options : List CommandOption) → AreKnown c options → first_of id (map row_of options) ≡ value_named (hyphened id) options
 value_found id c [] ks = refl
-value_found id c (o ∷ options) ks = by (bytes_eq (id_of o) id) refl (value_found id c options ks.1)
+value_found id c (o ∷ options) ks =
+    by (bytes_eq (id_of o) id) (value_found id c options ks.1)
+    ∙ sym (ap (λ (n : Text). option_map (λ (x : CommandOption). x.value) (cond (bytes_eq n (hyphened id)) (Some o) (find (λ (x : CommandOption). bytes_eq x.name (hyphened id)) options))) ks.0.name_is)
   where
-    name_is : bytes_eq o.name (hyphened id) ≡ bytes_eq (id_of o) id
-    name_is = ap (λ (n : Text). bytes_eq n (hyphened id)) ks.0.name_is
-
-    by : (b : Bool) → bytes_eq (id_of o) id ≡ b → first_of id (map row_of options) ≡ value_named (hyphened id) options → first_of id (map row_of (o ∷ options)) ≡ value_named (hyphened id) (o ∷ options)
-    by true e rest =
-        ap (λ (b : Bool). option_and_then (λ (r : Row). slice_get r.values 0) (cond b (Some (row_of o)) (find (λ (r : Row). bytes_eq r.id id) (map row_of options)))) e
-        ∙ sym (ap (λ (b : Bool). option_map (λ (x : CommandOption). x.value) (cond b (Some o) (find (λ (x : CommandOption). bytes_eq x.name (hyphened id)) options))) (name_is ∙ e))
-    by false e rest =
-        ap (λ (b : Bool). option_and_then (λ (r : Row). slice_get r.values 0) (cond b (Some (row_of o)) (find (λ (r : Row). bytes_eq r.id id) (map row_of options)))) e
-        ∙ rest
-        ∙ sym (ap (λ (b : Bool). option_map (λ (x : CommandOption). x.value) (cond b (Some o) (find (λ (x : CommandOption). bytes_eq x.name (hyphened id)) options))) (name_is ∙ e))
+    by : (b : Bool) → first_of id (map row_of options) ≡ value_named (hyphened id) options
+        → option_and_then (λ (r : Row). slice_get r.values 0) (cond b (Some (row_of o)) (find (λ (r : Row). bytes_eq r.id id) (map row_of options)))
+        ≡ option_map (λ (x : CommandOption). x.value) (cond b (Some o) (find (λ (x : CommandOption). bytes_eq x.name (hyphened id)) options))
+    by true rest = refl
+    by false rest = rest

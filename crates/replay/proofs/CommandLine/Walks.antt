@@ -1,14 +1,13 @@
 -- What clap's walk makes of words, beside the options that the definition cuts them into.
 use Rattle.std.proofs.Common.{◌≡◌, ◌||◌, ℕ, Bool, true, false, List, [], ◌∷◌, ◌++◌, drop, map, fold, Option, Some, None, refl, sym, ap, subst, ◌∙◌, append-nil, append_assoc, inl, inr, bytes_eq}
-use Rattle.std.specs.List.{AllByRecursion}
 use Rattle.std.specs.Option.{option_map_or}
 use Rattle.clap.specs.Lexer.{long_of}
 use Rattle.clap.specs.Walk.{Row, Rule, Text, Walk, has_row, settled, settled_rows, used_by_id, walked}
 use Rattle.clap.specs.Faults.{option_fault, settle_fault, turn_fault, use_fault, walk_fault}
-use Rattle.replay.specs.Commanding.{CommandOption, hyphened, is_value, option_in, options_of}
+use Rattle.replay.specs.Commanding.{CommandOption, hyphened, option_in, options_of}
 use Rattle.replay.specs.Reading.{has_escape}
 use Rattle.replay.proofs.CommandLine.Spelling.{alone_long, joined_long, long_alone, long_joined, plain_word as plain_value, spelled}
-use Rattle.replay.proofs.CommandLine.Cutting.{by_cut, cut_apart, cut_joined}
+use Rattle.replay.proofs.CommandLine.Cutting.{ArePlain, by_cut, cut_apart, cut_joined}
 use Rattle.replay.proofs.CommandLine.Turns.{IsOption, IsOptions, awaiting, fault_long, fault_no_value, fault_stray, fault_unknown, fault_value, held, none_both, none_first, none_then, opt, row, shape_with, standing, use_of_none, use_of_one, used_once, used_twice, walked_long, walked_value}
 
 -- what clap finds for an option
@@ -26,10 +25,6 @@ pub record Known (c : List Rule) (o : CommandOption) : Type 0 where
 abbrev pub Fits : List Rule → List Row → List CommandOption → Type 0
 Fits c rows [] = Unit {0}
 Fits c rows (o ∷ options) = Known c o × (has_row (id_of o) rows ≡ false) × Fits c (rows ++ row_of o ∷ []) options
-
--- no hyphen begins a value
-abbrev pub ArePlain : List CommandOption → Type 0
-ArePlain options = AllByRecursion (λ (o : CommandOption). is_value o.value ≡ true) options
 
 -- The walk over the words has no fault, and these rows at its end.
 pub record Passes (c : List Rule) (w : Walk) (words : List Text) (rows : List Row) : Type 0 where
