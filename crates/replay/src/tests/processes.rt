@@ -316,17 +316,17 @@ fn play(
 
 // A drawn script, and what it is to be answered.
 #[derive(Drop)]
-struct Drawn {
+struct Script {
     script: String,
     replies: String,
 }
 
-fn drawn(alloc: Global, seed: u64, lines: u32) -> Result<Drawn, NoMemory>
+fn drawn_script(alloc: Global, seed: u64, lines: u32) -> Result<Script, NoMemory>
     requires { lines ≤ 1000 }
 {
     let mut draws = Draws { state: seed };
     let mut processes = Vec::new(alloc);
-    let mut drawn = Drawn {
+    let mut drawn = Script {
         script: String::new(alloc),
         replies: String::new(alloc),
     };
@@ -343,7 +343,7 @@ fn drawn(alloc: Global, seed: u64, lines: u32) -> Result<Drawn, NoMemory>
 #[test]
 fn drawn_scripts_of_processes(rt: HostRuntime) -> Result<(), NoMemory> {
     for seed in 0..8 {
-        let drawn = drawn(rt.alloc(), seed, 150)?;
+        let drawn = drawn_script(rt.alloc(), seed, 150)?;
         for frames in ["3", "8"] {
             let mut mapper = images(rt.alloc(), &[])?;
             let words = ["mix", "--frames", frames];
@@ -375,7 +375,7 @@ fn without(alloc: Global, script: &str, gone: usize) -> Result<String, NoMemory>
 // line is answered as if there were no line in the place of the one that tells it.
 #[test]
 fn calls_of_the_mapper_fail_in_turn(rt: HostRuntime) -> Result<(), NoMemory> {
-    let drawn = drawn(rt.alloc(), 5, 60)?;
+    let drawn = drawn_script(rt.alloc(), 5, 60)?;
     let script = drawn.script.as_str();
     let words = ["mix", "--frames", "3"];
     for kind in [
