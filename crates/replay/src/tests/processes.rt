@@ -16,14 +16,13 @@ const IMAGE: [u8; 5] = [0x7f, 0x41, 0x42, 0x43, 0x44];
 fn images(alloc: Global, fails: &[CallNo]) -> Result<MemoryMapper, NoMemory>
     ensures { IfOk result (λ m. m.page_bytes ≡ PAGE) }
 {
-    let mut segment = Vec::new(alloc);
-    for first in IMAGE {
-        segment.push(first)?;
-        for _ in 1..PAGE {
-            segment.push(0)?;
-        }
-    }
-    MemoryMapper::new(alloc, &[segment], &[], 2048, fails, PAGE as u32)
+    let mut segment = vec![in alloc; 0u8; 5 * PAGE]?;
+    segment[0] = IMAGE[0];
+    segment[PAGE] = IMAGE[1];
+    segment[2 * PAGE] = IMAGE[2];
+    segment[3 * PAGE] = IMAGE[3];
+    segment[4 * PAGE] = IMAGE[4];
+    MemoryMapper::new(alloc, &[segment], &[], 512, fails, PAGE as u32)
 }
 
 const FORKED_AND_GROWN: &str = "exec 1 1 2 1
