@@ -3,7 +3,9 @@ pub mod Answering
 pub mod Outcome
 pub mod Seen
 pub mod Tying
+pub mod Use
 pub mod Inner
+pub mod Starting
 pub mod Calling
 pub mod Rows
 pub mod Laws

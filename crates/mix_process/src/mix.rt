@@ -1,11 +1,12 @@
 // The processes, and the calls of them.
-ghost use Rattle.std.specs.Prelude.{◌≡◌, ℕ, Option, ◌≤◌, ◌+◌, ◌-◌, ◌*◌, ◌^◌, [], length, slice_set, None, Some, IfNone, IfSome};
+ghost use Rattle.std.specs.Prelude.{◌≡◌, ℕ, Option, ◌≤◌, ◌<◌, ◌+◌, ◌-◌, ◌*◌, ◌^◌, [], length, option_map, slice_get, slice_set, None, Some, IfNone, IfSome};
 ghost use Rattle.vm_ids.specs.Held.{Held};
 ghost use Rattle.vm_model.specs.Answering.{answer_by};
-ghost use Rattle.vm_model.specs.Machine.{numbered};
+ghost use Rattle.vm_model.specs.Machine.{Cache, cache_of, numbered};
 ghost use Rattle.gmi_calls.specs.Calling.{done_by};
 ghost use Rattle.mix_process.specs.Calling.{MixCall};
 ghost use Rattle.mix_process.specs.Inner.{AreApart, AreCleared, AreOwn, IsEnded, own_pages, spare_of, with_extra};
+ghost use Rattle.mix_process.specs.Starting.{Checks, IsLastAlive, IsMadeOrTakenBack, IsOpened, IsStarted, image_for};
 ghost use Rattle.mix_process.specs.Tying.{AreAble, CanCall, IsBare, none_spare};
 
 use crate::Area;
@@ -260,6 +261,9 @@ impl<G> Mix<G> {
     ) -> Result<CacheId, Trouble>
     where
         G: Gmi<M, C>,
+        requires can { CanCall G.Gmi self.old (M.held mapper.old) (M.page_bytes mapper.old) }
+        requires made { G.made self.old.gmi ≤ 2 ^ 62 }
+        ensures { IsOpened M.Mapper G.Gmi mapper.old self.old seg result mapper.new self.new }
     {
         if let Some(cache) = cache_for(&self.images, seg) {
             return Ok(cache);
@@ -274,6 +278,10 @@ impl<G> Mix<G> {
     fn check_image<M: Mapper, C: Chooser>(&self, image: CacheId, pages: u32) -> Result<(), Trouble>
     where
         G: Gmi<M, C>,
+        requires { 1 ≤ pages }
+        ensures { (told : Option Held) → G.valid self.now.gmi told → G.room self.now.gmi ≡ None
+            → (cache : Cache) → cache_of (G.machine self.now.gmi told) image.0 ≡ Some cache
+            → Checks cache.pages pages result }
     {
         match self.gmi.chain(image, PageNo(pages - 1)) {
             Ok(_) => Ok(()),
@@ -286,6 +294,10 @@ impl<G> Mix<G> {
     fn make_process<M: Mapper, C: Chooser>(&mut self) -> Result<(), Trouble>
     where
         G: Gmi<M, C>,
+        requires valid { (told : Option Held) × G.valid self.old.gmi told }
+        requires made { G.made self.old.gmi ≤ 2 ^ 62 }
+        ensures { (told : Option Held) (page_bytes : Option ℕ) → CanCall G.Gmi self.old told page_bytes
+            → IsStarted G.Gmi told page_bytes self.old result self.new }
     {
         self.processes.reserve(1)?;
         let actor = self.gmi.make_actor()?;
@@ -339,7 +351,11 @@ impl<G> Mix<G> {
     }
 
     // A part of a process.
-    fn part_of(&self, place: usize, part: usize) -> Option<Part> {
+    fn part_of(&self, place: usize, part: usize) -> Option<Part>
+        requires { place < length self.now.processes.items }
+        ensures { IfSome (numbered self.now.processes.items (place + 1))
+            (λ p. result ≡ slice_get p.parts.items part) }
+    {
         match &self.processes[place] {
             Some(process) => process.parts.get(part).copied(),
             None => None,
@@ -419,6 +435,11 @@ impl<G> Mix<G> {
     ) -> Result<ProcId, Trouble>
     where
         G: Gmi<M, C>,
+        requires can { CanCall G.Gmi self.old (M.held mapper.old) (M.page_bytes mapper.old) }
+        requires made { G.made self.old.gmi ≤ 2 ^ 61 + 2 ^ 30 }
+        requires last { IsLastAlive self.old.processes.items }
+        ensures { IsMadeOrTakenBack M.Mapper G.Gmi mapper.old self.old made result mapper.new
+            self.new }
     {
         match made {
             Ok(()) => Ok(ProcId(self.processes.len() as u32)),
@@ -487,7 +508,9 @@ fn take(processes: &mut [Option<Process>], of: ProcId) -> Option<Process>
 }
 
 // The cache of a segment among these.
-fn cache_for(images: &[Image], seg: SegId) -> Option<CacheId> {
+fn cache_for(images: &[Image], seg: SegId) -> Option<CacheId>
+    ensures { result ≡ option_map (λ i. i.cache) (image_for images.now seg.0) }
+{
     for image in images {
         if image.seg == seg {
             return Some(image.cache);
