@@ -15,7 +15,6 @@ use Rattle.gmi_calls.specs.Calling.{MapperCall, RaisesMade}
 use Rattle.gmi_calls.specs.Managing.{meanings_of}
 use Rattle.gmi_calls.specs.declared.gmi.Gmi.{Ghosts as GhostsOfGmi}
 use Rattle.gmi_calls.proofs.Rising.{rise_none, rise_then}
-use Rattle.gmi_calls.proofs.Temporary.{IsDone, free_destroyed}
 use Rattle.mix_process.specs.ProcessMachine.{may_write}
 use Rattle.mix_process.specs.Inner.{AreApart, AreCleared, AreOwn, IsMadeAlike, own_pages, spare_of}
 use Rattle.mix_process.specs.Seen.{cache_pages, processes_seen}
@@ -25,6 +24,7 @@ use Rattle.mix_process.specs.declared.process.Part.{Part}
 use Rattle.mix_process.proofs.Able.{able_after, is_call, respared, sync_after}
 use Rattle.mix_process.proofs.Clearing.{images_without, kept_other, not_mapped, own_kept, seen_without, tied_without, without}
 use Rattle.mix_process.proofs.Lists.{get_append, get_last, get_past}
+use Rattle.mix_process.proofs.Temporary.{IsDone, free_destroyed}
 
 -- Lists that end in a part
 

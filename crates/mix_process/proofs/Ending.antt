@@ -3,7 +3,7 @@ use Rattle.std.proofs.Common.{◌≡◌, ◌≢◌, ◌⊎◌, inl, inr, ◌==�
 use Rattle.std.specs.Prelude.{Ok, Err, Result, option_map, slice_get}
 use Rattle.std.proofs.lemmas.Bool.{cases_eq}
 use Rattle.std.proofs.lemmas.Bool.Decides.{nat_tests}
-use Rattle.std.proofs.lemmas.List.{length-set}
+use Rattle.std.proofs.lemmas.List.{length-set, map-set}
 use Rattle.std.proofs.lemmas.Option.{slice_get_within}
 use Rattle.vm_ids.specs.Counting.{MapperCounts}
 use Rattle.vm_ids.specs.Held.{Held, Segments, segments_of}
@@ -21,7 +21,6 @@ use Rattle.gmi_calls.specs.Calling.{CallDone, MapperCall, RaisesMade}
 use Rattle.gmi_calls.specs.Managing.{meanings_of}
 use Rattle.gmi_calls.specs.declared.gmi.Gmi.{Ghosts as GhostsOfGmi}
 use Rattle.gmi_calls.proofs.Still.{without_mapper}
-use Rattle.gmi_calls.proofs.Temporary.{IsDone, living_exited, map-set}
 use Rattle.mix_process.specs.ProcessMachine as model
 use Rattle.mix_process.specs.ProcessMachine.{ProcessMachine, may_write, process_of}
 use Rattle.mix_process.specs.Answering as mix
@@ -40,6 +39,7 @@ use Rattle.mix_process.proofs.Clearing.{own_kept}
 use Rattle.mix_process.proofs.Lists.{number_at}
 use Rattle.mix_process.proofs.Putting.{number_other}
 use Rattle.mix_process.proofs.Single.{none_here, refused_called}
+use Rattle.mix_process.proofs.Temporary.{IsDone, living_exited}
 
 -- How many pages of its own a process has at most
 

@@ -11,6 +11,7 @@ pub mod Loading
 pub mod Putting
 pub mod Storing
 pub mod Single
+pub mod Temporary
 pub mod Clearing
 pub mod Able
 pub mod Destroying

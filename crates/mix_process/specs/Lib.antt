@@ -6,6 +6,7 @@ pub mod Tying
 pub mod Use
 pub mod Inner
 pub mod Starting
+pub mod Adding
 pub mod Calling
 pub mod Rows
 pub mod Laws

@@ -51,6 +51,10 @@ usage_for caches pages =
 abbrev pub usage_to_fork : Process → Usage
 usage_to_fork p = usage_for (2 + p.pieces) (length p.text_pages + length p.data_pages + length p.stack_pages)
 
+-- a growth makes one cache of so many pages, and its region
+abbrev pub usage_to_grow : ℕ → Usage
+usage_to_grow pages = record { living = 0; actors = 0; caches = 1; regions = 1; pages = pages }
+
 -- What a call makes at most. An exec makes three caches: one for the segment, if none was made for
 -- it yet, one for the data and one for the stack.
 abbrev pub makes : ProcessMachine → MixCommand → Segments → Usage
@@ -59,8 +63,7 @@ makes m (commands.Exec seg text data_pages stack) h =
     (option_map_or length (image_of (with_image m seg.0 (get h.pages seg.0)) seg.0) 0
     + data_pages + stack)
 makes m (commands.Fork process) h = option_map_or usage_to_fork (process_of m process.0) no_usage
-makes m (commands.Grow process pages) h =
-    record { living = 0; actors = 0; caches = 1; regions = 1; pages = pages }
+makes m (commands.Grow process pages) h = usage_to_grow pages
 makes m command h = no_usage
 
 -- with so much more, a limit would be passed

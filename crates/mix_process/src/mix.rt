@@ -4,9 +4,11 @@ ghost use Rattle.vm_ids.specs.Held.{Held};
 ghost use Rattle.vm_model.specs.Answering.{answer_by};
 ghost use Rattle.vm_model.specs.Machine.{Cache, cache_of, numbered};
 ghost use Rattle.gmi_calls.specs.Calling.{done_by};
+ghost use Rattle.mix_process.specs.Adding.{IsAdded, MapsPart, MayAdd, MayMap};
 ghost use Rattle.mix_process.specs.Calling.{MixCall};
 ghost use Rattle.mix_process.specs.Inner.{AreApart, AreCleared, AreOwn, IsEnded, own_pages, spare_of, with_extra};
 ghost use Rattle.mix_process.specs.Starting.{Checks, IsLastAlive, IsMadeOrTakenBack, IsOpened, IsStarted, image_for};
+ghost use Rattle.mix_process.specs.declared.process.Process.{Process};
 ghost use Rattle.mix_process.specs.Tying.{AreAble, CanCall, IsBare, none_spare};
 
 use crate::Area;
@@ -374,6 +376,14 @@ impl<G> Mix<G> {
     ) -> Result<(), Trouble>
     where
         G: Gmi<M, C>,
+        requires can { CanCall G.Gmi self.old (M.held mapper.old) (M.page_bytes mapper.old) }
+        requires may { (process : Process) × MayAdd (G.machine self.old.gmi (M.held mapper.old))
+            self.old.processes.items place process area pages source }
+        requires made { G.made self.old.gmi ≤ 2 ^ 61 + 2 ^ 30 }
+        ensures { (process : Process) → MayAdd (G.machine self.old.gmi (M.held mapper.old))
+            self.old.processes.items place process area pages source
+            → IsAdded M.Mapper G.Gmi mapper.old self.old place process area pages source result
+            mapper.new self.new }
     {
         let cache = self.gmi.make_temp(pages)?;
         let part = Part { area, cache, pages };
@@ -415,9 +425,15 @@ impl<G> Mix<G> {
     fn map_part<M: Mapper, C: Chooser>(&mut self, place: usize, part: Part) -> Result<(), Trouble>
     where
         G: Gmi<M, C>,
+        requires may { (told : Option Held) × (page_bytes : Option ℕ) × (process : Process)
+            × MayMap G.Gmi told page_bytes self.old place process part }
+        requires made { G.made self.old.gmi ≤ 2 ^ 62 }
+        ensures { (told : Option Held) (page_bytes : Option ℕ) (process : Process)
+            → MayMap G.Gmi told page_bytes self.old place process part
+            → MapsPart G.Gmi told page_bytes self.old place process part result self.new }
     {
         let Some(process) = &mut self.processes[place] else {
-            return Ok(());
+            unreachable!()
         };
         process.parts.reserve(1)?;
         let mapping = mapping_behind(&process.parts, part);
