@@ -21,3 +21,7 @@ pub mod Mapping
 pub mod Regions
 pub mod Starting
 pub mod Beginning
+pub mod Using
+pub mod Imaging
+pub mod Keeping
+pub mod Images

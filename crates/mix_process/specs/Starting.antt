@@ -98,6 +98,11 @@ pub record IsOpened {Manager Mapper Chooser : Type 0} (M : GhostsOfMapper Mapper
       (segments_of (M.held after)) old.processes.items old.images.items new.images.items seg rises
       result
 
+-- a refusal of the manager is one of the image
+abbrev pub as_bad_image : Trouble → Trouble
+as_bad_image (Refused refusal) = Refused BadImage
+as_bad_image trouble = trouble
+
 -- whether a cache has so many pages, where there is memory to ask
 abbrev pub Checks : List Page → ℕ → Result (Unit {0}) Trouble → Type 0
 Checks has pages (Ok u) = pages ≤ length has

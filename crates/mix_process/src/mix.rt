@@ -7,7 +7,7 @@ ghost use Rattle.gmi_calls.specs.Calling.{done_by};
 ghost use Rattle.mix_process.specs.Adding.{IsAdded, MapsPart, MayAdd, MayMap};
 ghost use Rattle.mix_process.specs.Calling.{MixCall};
 ghost use Rattle.mix_process.specs.Inner.{AreApart, AreCleared, AreOwn, IsEnded, own_pages, spare_of, with_extra};
-ghost use Rattle.mix_process.specs.Starting.{Checks, IsLastAlive, IsMadeOrTakenBack, IsOpened, IsStarted, image_for};
+ghost use Rattle.mix_process.specs.Starting.{Checks, IsLastAlive, IsMadeOrTakenBack, IsOpened, IsStarted, as_bad_image, image_for};
 ghost use Rattle.mix_process.specs.declared.process.Process.{Process};
 ghost use Rattle.mix_process.specs.Tying.{AreAble, CanCall, IsBare, none_spare};
 
@@ -267,8 +267,9 @@ impl<G> Mix<G> {
         requires made { G.made self.old.gmi ≤ 2 ^ 62 }
         ensures { IsOpened M.Mapper G.Gmi mapper.old self.old seg result mapper.new self.new }
     {
-        if let Some(cache) = cache_for(&self.images, seg) {
-            return Ok(cache);
+        match cache_for(&self.images, seg) {
+            Some(cache) => return Ok(cache),
+            None => {}
         }
         self.images.reserve(1)?;
         let cache = self.gmi.open_segment(seg, mapper)?;
@@ -287,8 +288,7 @@ impl<G> Mix<G> {
     {
         match self.gmi.chain(image, PageNo(pages - 1)) {
             Ok(_) => Ok(()),
-            Err(Trouble::Refused(_)) => Err(Trouble::Refused(Refusal::BadImage)),
-            Err(trouble) => Err(trouble),
+            Err(trouble) => Err(bad_image(trouble)),
         }
     }
 
@@ -521,6 +521,16 @@ fn take(processes: &mut [Option<Process>], of: ProcId) -> Option<Process>
         return None;
     }
     processes[of.0 as usize - 1].take()
+}
+
+// What a segment's cache refuses is a bad image.
+fn bad_image(trouble: Trouble) -> Trouble
+    ensures { result ≡ as_bad_image trouble }
+{
+    match trouble {
+        Trouble::Refused(_) => Trouble::Refused(Refusal::BadImage),
+        trouble => trouble,
+    }
 }
 
 // The cache of a segment among these.
