@@ -15,6 +15,9 @@ use Rattle.vm_ids.specs.declared.reply.Trouble.{Trouble}
 use Rattle.vm_ids.specs.declared.reply.Trouble.TheVariants as troubles
 use Rattle.vm_model.specs.Answering.{Answer}
 use Rattle.vm_model.specs.Machine.{Actor, Cache, Machine, Page, cache_named, cache_of, live_pages, numbered, pages_in}
+use Rattle.vm_model.specs.Run as vm_run
+use Rattle.vm_model.specs.Run.{CallIs}
+use Rattle.vm_model.proofs.Outcomes.Kept.{IsKept}
 use Rattle.vm_model.specs.declared.limits.TheConstants.{LIVE_PAGES}
 use Rattle.vm_port.specs.declared.traits.mapper.Mapper.{Ghosts as GhostsOfMapper}
 use Rattle.gmi_calls.specs.Calling.{MapperCall, RaisesMade}
@@ -149,6 +152,7 @@ module _ {Manager X Chooser : Type 0} (M : GhostsOfMapper X) (G : GhostsOfGmi Ma
     unnamed : is_some (cache_named m.caches seg.0) ≡ false
     unnamed = named_none seg.0 m.caches (λ k c there named. no_other (k + 1) c (numbered_at m.caches k c there) named)
 
+    abbrev it : CallIs (M.counts before) (M.counts after) (vm_run.state_of G.machine G.forest old.gmi (M.held before)) (vm_commands.OpenSegment seg) a (vm_run.state_of G.machine G.forest gmi (M.held after))
     it = is_call M G old.gmi gmi before after (vm_commands.OpenSegment seg) a old.images.items (length old.processes.items) (numbered old.processes.items) none_spare can call
 
     row : Opening told m seg.0 it.rises a n
@@ -157,6 +161,7 @@ module _ {Manager X Chooser : Type 0} (M : GhostsOfMapper X) (G : GhostsOfGmi Ma
     made_less : (answer : Answer) → a ≡ answer → RaisesMade m (vm_commands.OpenSegment seg) answer n (G.made old.gmi) (G.made gmi)
     made_less answer e = subst (λ (x : Answer). RaisesMade m (vm_commands.OpenSegment seg) x n (G.made old.gmi) (G.made gmi)) e call.made
 
+    kept_sizes : IsKept m (vm_commands.OpenSegment seg) a n
     kept_sizes = keeps_sizes M G old.gmi gmi before after (vm_commands.OpenSegment seg) a old.images.items (length old.processes.items) (numbered old.processes.items) none_spare can call
 
     same_segments : segments_of (M.held after) ≡ segments_of (M.held before)

@@ -25,3 +25,4 @@ pub mod Using
 pub mod Imaging
 pub mod Keeping
 pub mod Images
+pub mod Begun
