@@ -17,13 +17,11 @@ use Rattle.vm_model.specs.Machine.{Machine, cache_of, live_pages, living_actors,
 use Rattle.vm_model.specs.Outcome.{IsAlike, Outcome, OutcomeAt, blank}
 use Rattle.vm_model.specs.PageForest.{PageForest}
 use Rattle.vm_model.specs.Run as vm_run
-use Rattle.vm_model.specs.Run.{CallIs}
+use Rattle.vm_model.specs.Run.{AnswerIs}
 use Rattle.vm_model.specs.declared.limits.TheConstants.{LIVING_ACTORS, MOST_MADE}
-use Rattle.vm_port.specs.declared.traits.mapper.Mapper.{Ghosts as GhostsOfMapper}
-use Rattle.gmi_calls.specs.Calling.{CallDone, MapperCall, RaisesMade}
+use Rattle.gmi_calls.specs.Calling.{CallDone, RaisesMade}
 use Rattle.gmi_calls.specs.Managing.{meanings_of}
 use Rattle.gmi_calls.specs.declared.gmi.Gmi.{Ghosts as GhostsOfGmi}
-use Rattle.gmi_calls.proofs.Still.{without_mapper}
 use Rattle.mix_process.specs.Outcome.{Usage, usage_of}
 use Rattle.mix_process.specs.Seen.{cache_pages}
 use Rattle.mix_process.specs.Starting.{IsStarted, start_budget, usage_to_start}
@@ -32,13 +30,9 @@ use Rattle.mix_process.specs.Use.{IsLack}
 use Rattle.mix_process.specs.declared.mix.Image.{Image}
 use Rattle.mix_process.specs.declared.mix.Mix.{Mix}
 use Rattle.mix_process.specs.declared.process.Process.{Process}
-use Rattle.mix_process.proofs.Able.{able_after, is_call, sync_after}
+use Rattle.mix_process.proofs.Calls.{able_called, answered, sync_called}
 use Rattle.mix_process.proofs.Starting.{tied_started}
-use Rattle.mix_process.proofs.Using.{actors_past, each_unless, living_past, passed_next, usage_blank}
-
--- A mapper that tells just this: a call that takes no mapper is one of it.
-pub told_mapper : Option Held → Option ℕ → GhostsOfMapper (Unit {0})
-told_mapper told page_bytes = record { held = λ u. told; given = λ u. None; counts = λ u. no_counts; page_bytes = λ u. page_bytes }
+use Rattle.mix_process.proofs.Passing.{actors_past, each_unless, living_past, passed_next, usage_blank}
 
 -- The row
 
@@ -126,30 +120,21 @@ module _ {Manager X Chooser : Type 0} (G : GhostsOfGmi Manager X Chooser) (old :
   abbrev n : Machine
   n = G.machine gmi told
 
-  abbrev M : GhostsOfMapper (Unit {0})
-  M = told_mapper told page_bytes
-
-  abbrev gone : Unit {0}
-  gone = tt
-
-  abbrev call : MapperCall M (meanings_of G) gone old.gmi vm_commands.MakeActor a gone gmi
-  call = without_mapper M (meanings_of G) gone old.gmi can.valid vm_commands.MakeActor a gmi called
-
-  abbrev it : CallIs no_counts no_counts (vm_run.state_of G.machine G.forest old.gmi told) vm_commands.MakeActor a (vm_run.state_of G.machine G.forest gmi told)
-  it = is_call M G old.gmi gmi gone gone vm_commands.MakeActor a old.images.items (length old.processes.items) (numbered old.processes.items) none_spare can call
+  abbrev it : AnswerIs (vm_run.state_of G.machine G.forest old.gmi told) vm_commands.MakeActor a [] no_counts (vm_run.state_of G.machine G.forest gmi told)
+  it = answered G old.gmi gmi told page_bytes vm_commands.MakeActor a old.images.items (length old.processes.items) (numbered old.processes.items) none_spare can called
 
   row : Making m a n
-  row = making (segments_of told) m (G.forest old.gmi told) a n it.rises it.is.outcome
+  row = making (segments_of told) m (G.forest old.gmi told) a n no_counts it.outcome
 
   made_less : (answer : Answer) → a ≡ answer → RaisesMade m vm_commands.MakeActor answer n (G.made old.gmi) (G.made gmi)
-  made_less answer e = subst (λ (x : Answer). RaisesMade m vm_commands.MakeActor x n (G.made old.gmi) (G.made gmi)) e call.made
+  made_less answer e = subst (λ (x : Answer). RaisesMade m vm_commands.MakeActor x n (G.made old.gmi) (G.made gmi)) e (called.made told can.valid)
 
   able : (table : List (Option Process)) → n.caches ≡ m.caches → length table ≤ length n.actors → length n.actors ≤ MOST_MADE → AreTied n (numbered table) none_spare old.images.items
       → AreAble G gmi old.images.items told page_bytes (length table) (numbered table) none_spare
   able table same few most tied =
-      able_after M G old.gmi gmi gone gone vm_commands.MakeActor a old.images.items (length old.processes.items) (numbered old.processes.items) none_spare can call
+      able_called G old.gmi gmi told page_bytes vm_commands.MakeActor a old.images.items (length old.processes.items) (numbered old.processes.items) none_spare can called
       old.images.items (length table) (numbered table) none_spare few most tied
-      (sync_after M G old.gmi gmi gone gone vm_commands.MakeActor a old.images.items (length old.processes.items) (numbered old.processes.items) none_spare can call
+      (sync_called G old.gmi gmi told page_bytes vm_commands.MakeActor a old.images.items (length old.processes.items) (numbered old.processes.items) none_spare can called
       (λ i image e. ap (λ caches. cache_pages (record m { caches = caches }) image.cache.0) same))
 
   abbrev with_table : Vec (Option Process) Global → Mix Manager

@@ -14,6 +14,7 @@ pub mod Single
 pub mod Temporary
 pub mod Clearing
 pub mod Able
+pub mod Calls
 pub mod Destroying
 pub mod Ending
 pub mod Taking
@@ -21,8 +22,9 @@ pub mod Mapping
 pub mod Regions
 pub mod Starting
 pub mod Beginning
-pub mod Using
+pub mod Passing
 pub mod Imaging
 pub mod Keeping
 pub mod Images
 pub mod Begun
+pub mod Back

@@ -6,6 +6,7 @@ ghost use Rattle.vm_model.specs.Machine.{Cache, cache_of, numbered};
 ghost use Rattle.gmi_calls.specs.Calling.{done_by};
 ghost use Rattle.mix_process.specs.Adding.{IsAdded, MapsPart, MayAdd, MayMap};
 ghost use Rattle.mix_process.specs.Calling.{MixCall, beginning, made_by};
+ghost use Rattle.mix_process.specs.Copying.{AreFilled, IsCopied, MayCopy, MayFill};
 ghost use Rattle.mix_process.specs.Inner.{AreApart, AreCleared, AreOwn, IsEnded, own_pages, spare_of, with_extra};
 ghost use Rattle.mix_process.specs.Starting.{Checks, IsLastAlive, IsMadeOrTakenBack, IsOpened, IsStarted, as_bad_image, image_for};
 ghost use Rattle.mix_process.specs.Seen.{state_of};
@@ -340,20 +341,48 @@ impl<G> Mix<G> {
     ) -> Result<(), Trouble>
     where
         G: Gmi<M, C>,
+        requires can { CanCall G.Gmi self.old (M.held mapper.old) (M.page_bytes mapper.old) }
+        requires may { (process : Process) × MayFill self.old.processes.items parent process }
+        requires made { G.made self.old.gmi ≤ 2 ^ 61 + 2 ^ 29 }
+        ensures { (process : Process) (may : MayFill self.old.processes.items parent process)
+            → AreFilled M.Mapper G.Gmi mapper.old self.old may.front process result mapper.new
+            self.new }
     {
         let place = self.processes.len() - 1;
         let mut next = 0;
         while let Some(part) = self.part_of(parent, next) {
-            match part.area {
-                Area::Text => self.map_part(place, part)?,
-                _ => {
-                    let source = Some((part.cache, PageNo(0)));
-                    self.add_own(place, part.area, part.pages, source, mapper, chooser)?;
-                }
-            }
+            self.copy_part(place, part, mapper, chooser)?;
             next += 1;
         }
         Ok(())
+    }
+
+    // A process gets what this part of another has.
+    fn copy_part<M: Mapper, C: Chooser>(
+        &mut self,
+        place: usize,
+        part: Part,
+        mapper: &mut M,
+        chooser: &mut C,
+    ) -> Result<(), Trouble>
+    where
+        G: Gmi<M, C>,
+        requires can { CanCall G.Gmi self.old (M.held mapper.old) (M.page_bytes mapper.old) }
+        requires may { (process : Process) × MayCopy (G.machine self.old.gmi (M.held mapper.old))
+            self.old.processes.items place process part }
+        requires made { G.made self.old.gmi ≤ 2 ^ 61 + 2 ^ 30 }
+        ensures { (process : Process) → MayCopy (G.machine self.old.gmi (M.held mapper.old))
+            self.old.processes.items place process part
+            → IsCopied M.Mapper G.Gmi mapper.old self.old place process part result mapper.new
+            self.new }
+    {
+        match part.area {
+            Area::Text => self.map_part(place, part),
+            Area::Data | Area::Stack => {
+                let source = Some((part.cache, PageNo(0)));
+                self.add_own(place, part.area, part.pages, source, mapper, chooser)
+            }
+        }
     }
 
     // A part of a process.
@@ -464,8 +493,9 @@ impl<G> Mix<G> {
         match made {
             Ok(()) => Ok(ProcId(self.processes.len() as u32)),
             Err(trouble) => {
-                if let Some(Some(process)) = self.processes.pop() {
-                    self.end(process, mapper, chooser);
+                match self.processes.pop() {
+                    Some(Some(process)) => self.end(process, mapper, chooser),
+                    _ => unreachable!(),
                 }
                 Err(trouble)
             }

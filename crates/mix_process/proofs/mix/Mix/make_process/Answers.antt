@@ -1,7 +1,8 @@
-use Rattle.std.proofs.Common.{◌≡◌, List, Option, None, Some, Ok, Err, refl, sym, ap, subst, ◌∙◌}
+use Rattle.std.proofs.Common.{◌≡◌, ◌++◌, ◌∷◌, [], List, Option, None, Some, Ok, Err, refl, sym, ap, subst, ◌∙◌}
 use Rattle.std.proofs.lemmas.Result.{err_from_is_err_and}
 use Rattle.vm_ids.specs.declared.reply.Reply.TheVariants as replies
 use Rattle.vm_model.specs.Answering.{answer_by}
+use Rattle.mix_process.specs.declared.process.Process.{Process}
 use Rattle.mix_process.proofs.Begun.{begun, no_room, not_begun}
 use Rattle.mix_process.proofs.mix.Mix.make_process.Goals as goal
 
@@ -18,4 +19,6 @@ returns-in_err-actor g c = λ told page_bytes can.
     rw (p.1, p.2) made
 
 pub returns : goal.returns
-returns g c = λ told page_bytes can. ?
+returns g c = λ told page_bytes can.
+    begun g.G.Gmi c.args.self.now told page_bytes can _ _ c.make_actor.ensures (record { actor = c.in_ok-actor.actor; parts = c.new-parts.result }) (ap (answer_by replies.Actor) c.in_ok-actor.was) c.new-parts.ensures.items c.push_reserved.new.self
+    (c.push_reserved.ensures.items ∙ ap (λ (xs : List (Option Process)). xs ++ Some (record { actor = c.in_ok-actor.actor; parts = c.new-parts.result }) ∷ []) c.reserve.ensures.items)
