@@ -1,13 +1,16 @@
 // The processes, and the calls of them.
-ghost use Rattle.std.specs.Prelude.{◌≡◌, ℕ, Option, ◌≤◌, ◌+◌, ◌-◌, ◌*◌, ◌^◌, [], length, slice_set, None, Some, IfNone, IfSome};
+ghost use Rattle.std.specs.Prelude.{◌≡◌, ℕ, Option, ◌≤◌, ◌+◌, ◌-◌, ◌*◌, ◌^◌, [], length, slice_set, None, Some, IfErr, IfNone, IfOk, IfSome, OnErr, slice_get};
 ghost use Rattle.vm_ids.specs.Held.{Held};
+ghost use Rattle.vm_ids.specs.declared.refusal.Refusal.TheVariants.{NoProcess};
 ghost use Rattle.vm_model.specs.Answering.{answer_by};
 ghost use Rattle.vm_model.specs.Machine.{numbered};
 ghost use Rattle.gmi_calls.specs.Calling.{done_by};
-ghost use Rattle.mix_process.specs.Adding.{IsAdded, MapsPart, MayAdd, MayMap};
+ghost use Rattle.mix_process.specs.Adding.{FillsAndMaps, HasSpare, IsAdded, IsFilled, IsSourceOf, MapsPart, MayAdd, MayFill, MayMap};
 ghost use Rattle.mix_process.specs.Calling.{MixCall};
 ghost use Rattle.mix_process.specs.Inner.{AreApart, AreCleared, AreOwn, IsEnded, own_pages, spare_of, with_extra};
 ghost use Rattle.mix_process.specs.declared.process.Process.{Process};
+ghost use Rattle.mix_process.specs.Seen.{pages_in};
+ghost use Rattle.mix_process.specs.declared.area.Area.TheVariants.{Data};
 ghost use Rattle.mix_process.specs.Tying.{AreAble, CanCall, IsBare, none_spare};
 
 use crate::Area;
@@ -236,7 +239,12 @@ impl<G> Mix<G> {
     }
 
     // Where a living process stands.
-    fn place_of(&self, of: ProcId) -> Result<usize, Refusal> {
+    fn place_of(&self, of: ProcId) -> Result<usize, Refusal>
+        ensures found { IfOk result (λ place. (of.0 ≡ place + 1)
+            × ((p : Process) × (slice_get self.now.processes.items place ≡ Some (Some p)))) }
+        ensures nobody { OnErr result (numbered self.now.processes.items of.0 ≡ None) }
+        ensures refusal { IfErr result (λ r. r ≡ NoProcess) }
+    {
         if of.0 == 0 {
             return Err(Refusal::NoProcess);
         }
@@ -247,7 +255,12 @@ impl<G> Mix<G> {
     }
 
     // How many pages of data a process has.
-    fn data_pages(&self, place: usize) -> u64 {
+    fn data_pages(&self, place: usize) -> u64
+        requires there { (p : Process) × (slice_get self.now.processes.items place ≡ Some (Some p))
+            × (pages_in Data p.parts.items ≤ MOST_DATA) }
+        ensures { (p : Process) → slice_get self.now.processes.items place ≡ Some (Some p)
+            → result ≡ pages_in Data p.parts.items }
+    {
         match &self.processes[place] {
             Some(process) => pages_in(Area::Data, &process.parts),
             None => 0,
@@ -380,7 +393,7 @@ impl<G> Mix<G> {
         }
     }
 
-    // Copies pages into a cache, where a source is told, and maps it.
+    // Copies pages into a spare cache, where a source is told, and maps it.
     fn fill_and_map<M: Mapper, C: Chooser>(
         &mut self,
         place: usize,
@@ -391,18 +404,44 @@ impl<G> Mix<G> {
     ) -> Result<(), Trouble>
     where
         G: Gmi<M, C>,
+        requires may { (process : Process) × MayFill M.Mapper G.Gmi mapper.old self.old place
+            process part source }
+        requires made { G.made self.old.gmi ≤ 2 ^ 61 + 2 ^ 31 }
+        ensures { (process : Process) → MayFill M.Mapper G.Gmi mapper.old self.old place process
+            part source
+            → FillsAndMaps M.Mapper G.Gmi mapper.old self.old place process part source result
+            mapper.new self.new }
     {
-        if let Some((from, from_page)) = source {
-            let span = Span {
-                from,
-                from_page,
-                to: part.cache,
-                to_page: PageNo(0),
-                pages: part.pages,
-            };
-            self.gmi.copy_pages(span, mapper, chooser)?;
-        }
+        self.fill(part, source, mapper, chooser)?;
         self.map_part(place, part)
+    }
+
+    // Copies pages into a spare cache, where a source is told.
+    fn fill<M: Mapper, C: Chooser>(
+        &mut self,
+        part: Part,
+        source: Option<(CacheId, PageNo)>,
+        mapper: &mut M,
+        chooser: &mut C,
+    ) -> Result<(), Trouble>
+    where
+        G: Gmi<M, C>,
+        requires has { HasSpare M.Mapper G.Gmi mapper.old self.old part }
+        requires source { IsSourceOf (G.machine self.old.gmi (M.held mapper.old)) part source }
+        requires made { G.made self.old.gmi ≤ 2 ^ 61 + 2 ^ 31 }
+        ensures { IsFilled M.Mapper G.Gmi mapper.old self.old part source result mapper.new self.new }
+    {
+        let Some((from, from_page)) = source else {
+            return Ok(());
+        };
+        let span = Span {
+            from,
+            from_page,
+            to: part.cache,
+            to_page: PageNo(0),
+            pages: part.pages,
+        };
+        self.gmi.copy_pages(span, mapper, chooser)
     }
 
     // Maps a part into a process, behind what its area has.
