@@ -14,6 +14,8 @@ use Rattle.vm_ids.specs.declared.reply.Trouble.TheVariants as troubles
 use Rattle.vm_model.specs.Answering.{Answer, overwrite, put_cache, put_pages, put_span}
 use Rattle.vm_model.specs.Machine.{Actor, Cache, Machine, Page, cache_of, live_pages, living_actors, numbered}
 use Rattle.vm_model.specs.Machine as vm_machine
+use Rattle.vm_model.specs.Run.{CallIs}
+use Rattle.vm_model.specs.Run as vm_run
 use Rattle.vm_model.proofs.Parts.Lists.{numbered_place, sum_by_same}
 use Rattle.vm_port.specs.declared.traits.mapper.Mapper.{Ghosts as GhostsOfMapper}
 use Rattle.gmi_calls.specs.Calling.{MapperCall, RaisesMade, done_by}
@@ -62,9 +64,9 @@ done_no_lack : (result : Result (Unit {0}) Trouble) → done_by result ≡ Ok re
 done_no_lack (Ok u) e = tt
 done_no_lack (Err t) e = absurd (cc e)
 
-lacks_not_ok : {P : Type 0} (result : Result (Unit {0}) Trouble) → done_by result ≡ Err troubles.Memory → OnOk result P
-lacks_not_ok (Ok u) e = absurd (cc e)
-lacks_not_ok (Err t) e = tt
+lacks_not_ok : (P : Type 0) (result : Result (Unit {0}) Trouble) → done_by result ≡ Err troubles.Memory → OnOk result P
+lacks_not_ok P (Ok u) e = absurd (cc e)
+lacks_not_ok P (Err t) e = tt
 
 lacks_memory : (result : Result (Unit {0}) Trouble) → done_by result ≡ Err troubles.Memory → IfErr result (λ t. t ≡ troubles.Memory)
 lacks_memory (Ok u) e = tt
@@ -131,7 +133,7 @@ module _ {Manager X Chooser : Type 0} (M : GhostsOfMapper X) (G : GhostsOfGmi Ma
       abbrev new_cache : Cache
       new_cache = put_pages 0 pages d
 
-      abbrev it : _
+      abbrev it : CallIs (M.counts before) (M.counts after) (vm_run.state_of G.machine G.forest old.gmi (M.held before)) (vm_commands.Copy span) (done_by result) (vm_run.state_of G.machine G.forest gmi (M.held after))
       it = is_call M G old.gmi gmi before after (vm_commands.Copy span) (done_by result) old.images.items (length old.processes.items) (numbered old.processes.items) spare has.able call
 
       may : MayCopy m span c d
@@ -174,6 +176,7 @@ module _ {Manager X Chooser : Type 0} (M : GhostsOfMapper X) (G : GhostsOfGmi Ma
       }
 
       put_pages_are : n ≡ put_span m span c d → cache_pages n part.cache.0 ≡ filled m part (Some source)
+      unfolding put
       put_pages_are is =
           pages_there n part.cache.0 new_cache (put is).own.there
           ∙ pages_new
@@ -227,5 +230,5 @@ module _ {Manager X Chooser : Type 0} (M : GhostsOfMapper X) (G : GhostsOfGmi Ma
       pub fill_some : IsFilled M G before old part (Some source) result after (record old { gmi = gmi })
       fill_some = elim copies [
         | inl e ↦ done_with (put e.1) (done_ok result (put_pages_are e.1)) (done_no_lack result e.0)
-        | inr e ↦ done_with (left e.1) (lacks_not_ok result e.0) (lacks_memory result e.0)
+        | inr e ↦ done_with (left e.1) (lacks_not_ok _ result e.0) (lacks_memory result e.0)
       ]

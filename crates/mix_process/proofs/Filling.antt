@@ -1,6 +1,6 @@
 -- The pages of a spare cache become copies of others.
 use Rattle.std.proofs.Common.{◌≡◌, ◌≢◌, ◌⊎◌, inl, inr, ◌==◌, ℕ, ◌+◌, ◌-◌, ◌*◌, ◌≤◌, ◌<◌, Bool, true, false, cond, List, [], ◌∷◌, ◌++◌, length, map, set, take, drop, Option, Some, None, refl, sym, ap, subst, ◌∙◌, arith}
-use Rattle.std.specs.Prelude.{◌&&◌, ◌||◌, Ok, Err, Result, nat_lt, option_and_then, option_map, slice_get}
+use Rattle.std.specs.Prelude.{◌&&◌, ◌||◌, Ok, Err, Result, nat_le, nat_lt, option_and_then, option_map, slice_get}
 use Rattle.std.specs.List.{list_any, range_with_len}
 use Rattle.std.specs.Option.{option_map_or}
 use Rattle.std.proofs.lemmas.Bool.Decides.{nat_tests}
@@ -54,7 +54,7 @@ never_locked m processes spare images t cache page = none_any (locks_any cache p
         let run = t.run whose.0 whose.1 whose.2 in
         let both : Some run.regions ≡ Some regions = run_regions m whose.1 run (i + 1) regions whose.3 at in
         let same : run.regions ≡ regions = cc in
-        ap (λ (b : Bool). b && r.cache == cache && _ && _) (region_unlocked run.mapped k r (ap (λ (rs : Actor). slice_get rs k) same ∙ f))
+        ap (λ (b : Bool). b && r.cache == cache && nat_le r.offset page && nat_lt page (r.offset + r.pages)) (region_unlocked run.mapped k r (ap (λ (rs : Actor). slice_get rs k) same ∙ f))
 
     by_actor : (i : ℕ) (o : Option Actor) → slice_get m.actors i ≡ Some o → locks_any cache page o ≡ false
     by_actor i None e = refl

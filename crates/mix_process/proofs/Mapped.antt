@@ -129,7 +129,7 @@ module _ (table : List (Option Process)) (place : ℕ) (p q : Process) (there : 
 -- what the processes are able to, over what they are
 pub able_as : {Manager X Chooser : Type 0} (G : GhostsOfGmi Manager X Chooser) (told : Option Held) (page : Option ℕ) (spare : ℕ → Type 0) (old new : Mix Manager) (gmi : Manager) (table : List (Option Process)) → new.gmi ≡ gmi → new.images ≡ old.images → new.processes.items ≡ table
     → AreAble G gmi old.images.items told page (length table) (numbered table) spare → AreAble G new.gmi new.images.items told page (length new.processes.items) (numbered new.processes.items) spare
-able_as G told page spare old new gmi table g images processes able =
+able_as {Manager} {X} {Chooser} G told page spare old new gmi table g images processes able =
     subst (λ (x : Manager). AreAble G x new.images.items told page (length new.processes.items) (numbered new.processes.items) spare) (sym g)
     (subst (λ (xs : List (Option Process)). AreAble G gmi new.images.items told page (length xs) (numbered xs) spare) (sym processes)
     (subst (λ (xs : List Image). AreAble G gmi xs told page (length table) (numbered table) spare) (λ i. (sym images i).items) able))

@@ -138,12 +138,12 @@ module _ (m w : Machine) (is : m ≡ blank w) where
   pub regions_whole : w.regions_made ≡ m.regions_made
   regions_whole = sym (ap (λ (x : Machine). x.regions_made) is)
 
-mapped_blank : (m w next wn : Machine) (actor : ℕ) (regions : Actor) (mapping : Mapping) (a b : Answer) → m ≡ blank w → next ≡ blank wn → IsAlike a b → Maps w actor regions mapping a wn → Maps m actor regions mapping b next
-mapped_blank m w next wn actor regions mapping a b is is_next alike (inl r) = inl (record {
+mapped_blank : (m w next wn : Machine) (actor : ℕ) (regions : Actor) (at : Mapping) (a b : Answer) → m ≡ blank w → next ≡ blank wn → IsAlike a b → Maps w actor regions at a wn → Maps m actor regions at b next
+mapped_blank m w next wn actor regions at a b is is_next alike (inl r) = inl (record {
   answer_is = made_alike (w.regions_made + 1) b (subst (λ (x : Answer). IsAlike x b) r.answer_is alike) ∙ ap (λ (n : ℕ). let x : Answer = Ok (replies.Region (record { 0 = n + 1 })) in x) (regions_whole m w is);
-  next_is = is_next ∙ ap blank r.next_is ∙ ap (λ (x : Machine). add_region x actor regions mapping) (sym is);
+  next_is = is_next ∙ ap blank r.next_is ∙ ap (λ (x : Machine). add_region x actor regions at) (sym is);
 })
-mapped_blank m w next wn actor regions mapping a b is is_next alike (inr u) = inr (record {
+mapped_blank m w next wn actor regions at a b is is_next alike (inr u) = inr (record {
   next_is = is_next ∙ ap blank u.next_is ∙ sym is;
   why = elim u.why [
     | inl e ↦ inl (memory_alike b (subst (λ (x : Answer). IsAlike x b) e alike))

@@ -245,12 +245,9 @@ impl<G> Mix<G> {
         ensures nobody { OnErr result (numbered self.now.processes.items of.0 ≡ None) }
         ensures refusal { IfErr result (λ r. r ≡ NoProcess) }
     {
-        if of.0 == 0 {
-            return Err(Refusal::NoProcess);
-        }
-        match self.processes.get(of.0 as usize - 1) {
-            Some(Some(_)) => Ok(of.0 as usize - 1),
-            _ => Err(Refusal::NoProcess),
+        match numbered(&self.processes, of.0) {
+            Some(_) => Ok(of.0 as usize - 1),
+            None => Err(Refusal::NoProcess),
         }
     }
 
