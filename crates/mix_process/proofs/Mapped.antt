@@ -1,5 +1,5 @@
 -- What becomes of the processes where a part is to be mapped into one of them.
-use Rattle.std.proofs.Common.{◌≡◌, ◌≢◌, ◌⊎◌, inl, inr, ℕ, zero, suc, ◌+◌, ◌-◌, ◌*◌, ◌≤◌, ◌<◌, Bool, true, false, cond, List, [], ◌∷◌, ◌++◌, length, set, Option, Some, None, refl, sym, ap, subst, ◌∙◌, arith}
+use Rattle.std.proofs.Common.{◌≡◌, ◌≢◌, ◌⊎◌, inl, inr, ℕ, zero, suc, ◌+◌, ◌-◌, ◌*◌, ◌≤◌, ◌<◌, Bool, true, false, cond, List, [], ◌∷◌, ◌++◌, length, get_or, set, Option, Some, None, refl, sym, ap, subst, ◌∙◌, arith}
 use Rattle.std.specs.Prelude.{◌||◌, Ok, Err, Result, is_some, nat_le, nat_lt, slice_get}
 use Rattle.std.specs.Bool.{IsTrue}
 use Rattle.std.specs.List.{AllByRecursion}
@@ -7,7 +7,7 @@ use Rattle.std.specs.Option.{option_map_or}
 use Rattle.std.proofs.lemmas.Bool.{cases_eq}
 use Rattle.std.proofs.lemmas.Bool.Decides.{nat_tests}
 use Rattle.std.proofs.lemmas.List.{append-nil, length-set}
-use Rattle.std.proofs.lemmas.Option.{slice_get_within}
+use Rattle.std.proofs.lemmas.Option.{get_or_from_slice_get, slice_get_within}
 use Rattle.vm_ids.specs.Counting.{no_counts}
 use Rattle.vm_ids.specs.Held.{Held, segments_of}
 use Rattle.vm_ids.specs.declared.command.Command.TheVariants as vm_commands
@@ -26,7 +26,7 @@ use Rattle.vm_model.proofs.Parts.Lists.{get_set_same, numbered_place, sum_by_les
 use Rattle.gmi_calls.specs.Calling.{CallDone, RaisesMade}
 use Rattle.gmi_calls.specs.Managing.{meanings_of}
 use Rattle.gmi_calls.specs.declared.gmi.Gmi.{Ghosts as GhostsOfGmi}
-use Rattle.mix_process.specs.Adding.{HasRoom, IsMapped, IsPutAt, IsUnmapped, MayMap, map_budget, put_at, usage_to_map}
+use Rattle.mix_process.specs.Adding.{HasRoom, IsMapped, IsPutAt, IsUnmapped, MapsInto, MapsPart, MayMap, map_budget, put_at, usage_to_map}
 use Rattle.mix_process.specs.Inner.{spare_of}
 use Rattle.mix_process.specs.Outcome.{usage_of}
 use Rattle.mix_process.specs.ProcessMachine as model
@@ -125,6 +125,10 @@ module _ (table : List (Option Process)) (place : ℕ) (p q : Process) (there : 
 
     pub tied_put : (m : Machine) (spare : ℕ → Type 0) (images : List Image) → AreTied m (numbered table) spare images → AreTied m (numbered put) spare images
     tied_put m spare images t = tied_alike m (numbered table) (numbered put) spare images to back t
+
+-- what is read at the place is the process
+pub read_there : (table : List (Option Process)) (place : ℕ) (o : Option Process) (p q : Process) → slice_get table place ≡ Some (Some p) → o ≡ get_or table place o → o ≡ Some q → q ≡ p
+read_there table place o p q there value is = let both : Some q ≡ Some p = sym is ∙ value ∙ get_or_from_slice_get table place (Some p) o there in cc both
 
 -- what the processes are able to, over what they are
 pub able_as : {Manager X Chooser : Type 0} (G : GhostsOfGmi Manager X Chooser) (told : Option Held) (page : Option ℕ) (spare : ℕ → Type 0) (old new : Mix Manager) (gmi : Manager) (table : List (Option Process)) → new.gmi ≡ gmi → new.images ≡ old.images → new.processes.items ≡ table
@@ -286,3 +290,14 @@ module _ {Manager X Chooser : Type 0} (G : GhostsOfGmi Manager X Chooser) (told 
               };
               made = omega (arith, ap G.made g, raised (ap live_pages made.next_is));
             }
+
+  pub maps_part : (gmi : Manager) (now : Process) (result : Result (Unit {0}) Trouble) → MapsInto G old.gmi p part result gmi now → (new : Mix Manager) → new.gmi ≡ gmi → new.processes.items ≡ set old.processes.items place (Some now) → new.images ≡ old.images
+      → MapsPart G told page old place p part result new
+  maps_part gmi now (Ok u) is new g processes images =
+      mapped gmi (Ok is.call.0) is.call.1 is.call.0 refl new g (record { now = now; processes = processes; images = images; actor = is.actor; parts_now = is.parts })
+  maps_part gmi now (Err t) is new g processes images =
+      let put : IsPutAt old place p [] new = record { now = now; processes = processes; images = images; actor = is.actor; parts_now = is.parts ∙ sym (append-nil p.parts.items) } in
+      elim is.call [
+        | inl e ↦ subst (λ (x : Trouble). IsUnmapped G told page old place p part x new) (sym e.0) (not_reserved new (g ∙ e.1) put)
+        | inr called ↦ unmapped gmi (Err t) called t refl new g put
+      ]

@@ -1,19 +1,26 @@
 -- What the inner calls say that give a process one more part.
-use Rattle.std.specs.Prelude.{◌≡◌, ◌≢◌, ◌≤◌, ℕ, ◌+◌, ◌*◌, List, [], ◌∷◌, ◌++◌, length, take, drop, replicate, Option, Some, None, slice_get, slice_set, Result, Ok, Err, IfErr, IfSome, OnOk, true}
+use Rattle.std.specs.Prelude.{◌≡◌, ◌≢◌, ◌⊎◌, ◌≤◌, ℕ, ◌+◌, ◌*◌, List, [], ◌∷◌, ◌++◌, length, take, drop, replicate, Option, Some, None, slice_get, slice_set, Result, Ok, Err, IfErr, IfSome, OnOk, true}
 use Rattle.vm_ids.specs.Counting.{MapperCounts, Rise}
 use Rattle.vm_ids.specs.Held.{Held, Segments, segments_of}
+use Rattle.vm_ids.specs.declared.command.Command.TheVariants.{Map}
+use Rattle.vm_ids.specs.declared.command.Mapping.{Mapping}
+use Rattle.vm_ids.specs.declared.numbers.ActorId.{ActorId}
 use Rattle.vm_ids.specs.declared.numbers.CacheId.{CacheId}
 use Rattle.vm_ids.specs.declared.numbers.PageNo.{PageNo}
+use Rattle.vm_ids.specs.declared.numbers.RegionId.{RegionId}
+use Rattle.vm_ids.specs.declared.reply.Reply.TheVariants.{Region}
 use Rattle.vm_ids.specs.declared.reply.Trouble.{Trouble}
 use Rattle.vm_ids.specs.declared.reply.Trouble.TheVariants.{Memory}
 use Rattle.vm_model.specs.Machine.{Cache, Machine, Page, cache_of, numbered, zero_page}
 use Rattle.vm_port.specs.declared.traits.mapper.Mapper.{Ghosts as GhostsOfMapper}
+use Rattle.gmi_calls.specs.Calling.{CallDone}
+use Rattle.gmi_calls.specs.Managing.{meanings_of}
 use Rattle.gmi_calls.specs.declared.gmi.Gmi.{Ghosts as GhostsOfGmi}
 use Rattle.mix_process.specs.Inner.{spare_of}
 use Rattle.mix_process.specs.Outcome.{Usage, usage_of, usage_to_grow}
 use Rattle.mix_process.specs.ProcessMachine as model
 use Rattle.mix_process.specs.ProcessMachine.{ProcessMachine, may_write}
-use Rattle.mix_process.specs.Seen.{cache_pages, pages_in, part_seen, process_seen, processes_seen}
+use Rattle.mix_process.specs.Seen.{cache_pages, mapping_behind, pages_in, part_seen, process_seen, processes_seen}
 use Rattle.mix_process.specs.Tying.{AreAble, CanCall, IsOwnCache, IsOwnPart, IsPart}
 use Rattle.mix_process.specs.Use.{IsLack, IsWithin, usage_sum}
 use Rattle.mix_process.specs.declared.area.Area.{Area}
@@ -71,6 +78,27 @@ usage_to_map = record { living = 0; actors = 0; caches = 0; regions = 1; pages =
 -- how far it may raise the number that bounds the manager's counters
 abbrev pub map_budget : Machine → Part → ℕ
 map_budget m part = 8 * (part.pages + length (cache_pages m part.cache.0)) + 8
+
+-- the parts that a process has then: one more where it was mapped
+abbrev pub parts_then : List Part → Part → Result (Unit {0}) Trouble → List Part
+parts_then parts part (Ok u) = parts ++ part ∷ []
+parts_then parts part (Err trouble) = parts
+
+-- The manager answered the map, or wasn't called for want of memory.
+abbrev pub MapCalled : {Manager Mapper Chooser : Type 0} → GhostsOfGmi Manager Mapper Chooser
+    → Manager → ActorId → Mapping → Result (Unit {0}) Trouble → Manager → Type 0
+MapCalled G old actor mapping (Ok u) new = (region : RegionId)
+    × CallDone (meanings_of G) old (Map actor mapping) (Ok (Region region)) new
+MapCalled G old actor mapping (Err trouble) new = ((trouble ≡ Memory) × (new ≡ old))
+    ⊎ CallDone (meanings_of G) old (Map actor mapping) (Err trouble) new
+
+-- A part was mapped into a process, or there was a lack.
+pub record MapsInto {Manager Mapper Chooser : Type 0} (G : GhostsOfGmi Manager Mapper Chooser)
+    (old : Manager) (process : Process) (part : Part) (result : Result (Unit {0}) Trouble)
+    (new : Manager) (now : Process) : Type 0 where
+  pub actor : now.actor ≡ process.actor
+  pub parts : now.parts.items ≡ parts_then process.parts.items part result
+  pub call : MapCalled G old process.actor (mapping_behind process.parts.items part) result new
 
 -- The part can be mapped into the process at this place. Its cache is spare, where it is to be the
 -- process's own.

@@ -5,7 +5,7 @@ ghost use Rattle.vm_ids.specs.declared.refusal.Refusal.TheVariants.{NoProcess};
 ghost use Rattle.vm_model.specs.Answering.{answer_by};
 ghost use Rattle.vm_model.specs.Machine.{numbered};
 ghost use Rattle.gmi_calls.specs.Calling.{done_by};
-ghost use Rattle.mix_process.specs.Adding.{FillsAndMaps, HasSpare, IsAdded, IsFilled, IsSourceOf, MapsPart, MayAdd, MayFill, MayMap};
+ghost use Rattle.mix_process.specs.Adding.{FillsAndMaps, HasSpare, IsAdded, IsFilled, IsSourceOf, MapsInto, MapsPart, MayAdd, MayFill, MayMap};
 ghost use Rattle.mix_process.specs.Calling.{MixCall};
 ghost use Rattle.mix_process.specs.Inner.{AreApart, AreCleared, AreOwn, IsEnded, own_pages, spare_of, with_extra};
 ghost use Rattle.mix_process.specs.declared.process.Process.{Process};
@@ -452,14 +452,10 @@ impl<G> Mix<G> {
             → MayMap G.Gmi told page_bytes self.old place process part
             → MapsPart G.Gmi told page_bytes self.old place process part result self.new }
     {
-        let Some(process) = &mut self.processes[place] else {
-            unreachable!()
-        };
-        process.parts.reserve(1)?;
-        let mapping = mapping_behind(&process.parts, part);
-        self.gmi.map(process.actor, mapping)?;
-        process.parts.push_reserved(part);
-        Ok(())
+        match &mut self.processes[place] {
+            Some(process) => map_into(&mut self.gmi, process, part),
+            None => unreachable!(),
+        }
     }
 
     // The number of the last process; or it is taken back, since it couldn't be made whole.
@@ -523,6 +519,27 @@ impl<G> Mix<G> {
             }
         }
     }
+}
+
+// Maps a part into a process, behind what its area has.
+fn map_into<G, M: Mapper, C: Chooser>(
+    gmi: &mut G,
+    process: &mut Process,
+    part: Part,
+) -> Result<(), Trouble>
+where
+    G: Gmi<M, C>,
+    requires some { 1 ≤ part.pages }
+    requires few { pages_in part.area process.old.parts.items ≤ 2 ^ 32 }
+    requires valid { (told : Option Held) × G.valid gmi.old told }
+    requires made { G.made gmi.old ≤ 2 ^ 62 }
+    ensures { MapsInto G.Gmi gmi.old process.old part result gmi.new process.new }
+{
+    process.parts.reserve(1)?;
+    let mapping = mapping_behind(&process.parts, part);
+    gmi.map(process.actor, mapping)?;
+    process.parts.push_reserved(part);
+    Ok(())
 }
 
 // Takes a process out of the table, where it is alive.
