@@ -30,7 +30,7 @@ use Rattle.mix_process.specs.declared.process.Part.{Part}
 use Rattle.mix_process.specs.declared.process.Process.{Process}
 use Rattle.mix_process.proofs.Clearing.{run_kept}
 use Rattle.mix_process.proofs.Lists.{number_at}
-use Rattle.mix_process.proofs.Pushes.{still_synchronised}
+use Rattle.mix_process.proofs.Pushes.{segments_stay, still_synchronised}
 use Rattle.mix_process.proofs.Putting.{all_at, number_other}
 use Rattle.mix_process.proofs.Single.{fits_still, unlimited_still}
 use Rattle.mix_process.proofs.Storing.{own_cache}
@@ -52,6 +52,10 @@ module _ {Manager X Chooser : Type 0} (M : GhostsOfMapper X) (G : GhostsOfGmi Ma
   pub sync_after : ((i : ℕ) (image : Image) → slice_get images i ≡ Some image → cache_pages (G.machine gmi (M.held after)) image.cache.0 ≡ cache_pages (G.machine old (M.held before)) image.cache.0)
       → AreSynchronised (G.machine gmi (M.held after)) images (M.held after)
   sync_after alike = sync_images (M.held after) alike (still_synchronised (G.machine old (M.held before)) processes spare images can.tied (M.held before) (M.held after) is_call.pushes is_call.is.pushed can.synchronised)
+
+  -- no segment changes
+  pub segments_after : segments_of (M.held after) ≡ segments_of (M.held before)
+  segments_after = segments_stay (G.machine old (M.held before)) processes spare images can.tied (M.held before) (segments_of (M.held after)) is_call.pushes is_call.is.pushed can.synchronised
 
   pub able_after : (images' : List Image) (made' : ℕ) (processes' : ℕ → Option Process) (spare' : ℕ → Type 0) → made' ≤ length (G.machine gmi (M.held after)).actors → length (G.machine gmi (M.held after)).actors ≤ MOST_MADE
       → AreTied (G.machine gmi (M.held after)) processes' spare' images' → AreSynchronised (G.machine gmi (M.held after)) images' (M.held after)

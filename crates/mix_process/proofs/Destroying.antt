@@ -21,7 +21,7 @@ use Rattle.mix_process.specs.Seen.{cache_pages, processes_seen}
 use Rattle.mix_process.specs.Tying.{AreAble, AreTied, IsOwnCache}
 use Rattle.mix_process.specs.declared.mix.Mix.{Mix}
 use Rattle.mix_process.specs.declared.process.Part.{Part}
-use Rattle.mix_process.proofs.Able.{able_after, is_call, respared, sync_after}
+use Rattle.mix_process.proofs.Able.{able_after, is_call, respared, segments_after, sync_after}
 use Rattle.mix_process.proofs.Clearing.{images_without, kept_other, not_mapped, own_kept, seen_without, tied_without, without}
 use Rattle.mix_process.proofs.Lists.{get_append, get_last, get_past}
 use Rattle.mix_process.proofs.Temporary.{IsDone, free_destroyed}
@@ -57,6 +57,7 @@ module _ {Manager X Chooser : Type 0} (M : GhostsOfMapper X) (G : GhostsOfGmi Ma
     alike = record { actors = refl; caches = refl; regions = refl };
     rises = no_counts;
     rose = rise_none (M.counts before);
+    segments = refl;
   }
 
   module _ (parts rest : List Part) (part : Part) (now : X) (mix : Mix Manager) (c : AreCleared M G before old parts (rest ++ part ∷ []) now mix) where
@@ -87,6 +88,7 @@ module _ {Manager X Chooser : Type 0} (M : GhostsOfMapper X) (G : GhostsOfGmi Ma
       alike = c.alike;
       rises = c.rises;
       rose = c.rose;
+      segments = c.segments;
     }
 
     abbrev m : Machine
@@ -128,4 +130,5 @@ module _ {Manager X Chooser : Type 0} (M : GhostsOfMapper X) (G : GhostsOfGmi Ma
           };
           rises = counts_sum c.rises it.rises;
           rose = rise_then (M.counts before) (M.counts now) (M.counts after) c.rises it.rises c.rose it.rose;
+          segments = segments_after M G mix.gmi gmi now after (vm_commands.Destroy part.cache) a old.images.items (length old.processes.items) (numbered old.processes.items) (spare_of (rest ++ part ∷ [])) c.able call ∙ c.segments;
         }

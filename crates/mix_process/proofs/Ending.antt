@@ -24,7 +24,8 @@ use Rattle.gmi_calls.proofs.Still.{without_mapper}
 use Rattle.mix_process.specs.ProcessMachine as model
 use Rattle.mix_process.specs.ProcessMachine.{ProcessMachine, may_write, process_of}
 use Rattle.mix_process.specs.Answering as mix
-use Rattle.mix_process.specs.Calling.{MixCall, StepAt}
+use Rattle.mix_process.specs.Calling.{MixCall}
+use Rattle.mix_process.specs.Stepping.{StepAt}
 use Rattle.mix_process.specs.Inner.{AreApart, AreCleared, AreOwn, IsEnded, own_pages, spare_of, with_extra}
 use Rattle.mix_process.specs.Seen.{cache_pages, pages_in, process_seen, processes_seen, same_area, state_of}
 use Rattle.mix_process.specs.Tying.{AreAble, AreTied, CanCall, IsRun, none_spare}
@@ -126,6 +127,7 @@ module _ {Manager X Chooser : Type 0} (M : GhostsOfMapper X) (G : GhostsOfGmi Ma
     };
     rises = c.rises;
     rose = c.rose;
+    segments = c.segments;
   }
 
 -- A process is taken out of the table
@@ -241,7 +243,7 @@ module _ {Manager X Chooser : Type 0} (M : GhostsOfMapper X) (G : GhostsOfGmi Ma
     made = omega (arith, e.made, ap G.made gmi);
     rises = e.rises;
     rose = e.rose;
-    step = go (segments_of (M.held after));
+    is = record { step = go (segments_of (M.held after)); segments = e.segments };
   }
     where
       n : Machine

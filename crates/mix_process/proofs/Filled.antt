@@ -31,7 +31,7 @@ use Rattle.mix_process.specs.Use.{IsWithin}
 use Rattle.mix_process.specs.declared.mix.Image.{Image}
 use Rattle.mix_process.specs.declared.mix.Mix.{Mix}
 use Rattle.mix_process.specs.declared.process.Part.{Part}
-use Rattle.mix_process.proofs.Able.{able_after, is_call, sync_after}
+use Rattle.mix_process.proofs.Able.{able_after, is_call, segments_after, sync_after}
 use Rattle.mix_process.proofs.Clearing.{image_kept}
 use Rattle.mix_process.proofs.Filling.{Copies, MayCopy, copied_at, never_locked}
 use Rattle.mix_process.proofs.Joining.{all_seen}
@@ -224,7 +224,7 @@ module _ {Manager X Chooser : Type 0} (M : GhostsOfMapper X) (G : GhostsOfGmi Ma
             made = omega (arith, rises_for_copy m n span (done_by result) (G.made old.gmi) (G.made gmi) k.live call.made, ap length (pages_there m part.cache.0 d has.cache.there), has.cache.many);
             rises = it.rises;
             rose = it.rose;
-            segments = ?;
+            segments = segments_after M G old.gmi gmi before after (vm_commands.Copy span) (done_by result) old.images.items (length old.processes.items) (numbered old.processes.items) spare has.able call;
           }
 
       pub fill_some : IsFilled M G before old part (Some source) result after (record old { gmi = gmi })

@@ -1,17 +1,18 @@
 -- What is pushed to the segment of an image is what it holds.
-use Rattle.std.proofs.Common.{◌≡◌, ◌≢◌, ◌⊎◌, inl, inr, ℕ, zero, suc, ◌+◌, ◌-◌, Bool, true, false, cond, List, [], ◌∷◌, length, set, Option, Some, None, refl, sym, ap, subst, ◌∙◌, arith}
+use Rattle.std.proofs.Common.{◌≡◌, ◌≢◌, ◌⊎◌, inl, inr, ℕ, zero, suc, ◌==◌, ◌+◌, ◌-◌, Bool, true, false, cond, List, [], ◌∷◌, length, set, Option, Some, None, refl, sym, ap, subst, ◌∙◌, arith}
 use Rattle.std.specs.Prelude.{IsSome, is_some, option_and_then, option_map, slice_get, unwrap_or, IfSome}
 use Rattle.std.specs.List.{AllByRecursion}
 use Rattle.std.specs.Option.{option_map_or}
-use Rattle.std.specs.FinMap.{get, get-insert, insert}
+use Rattle.std.specs.FinMap.{FinMap, get, get-insert, insert, nat_cmp-IsAntisymmetric, same_map}
 use Rattle.std.specs.Ordering.{eq_by_cmp, nat_cmp}
 use Rattle.std.specs.Cmp.{nat_cmp_total, unsigned_tied}
 use Rattle.std.proofs.lemmas.Bool.{cases_eq, eq-eqb, ne_eqb}
+use Rattle.std.proofs.lemmas.Bool.Decides.{nat_tests}
 use Rattle.vm_ids.specs.Held.{Held, Segments, put_segment_page, segments_in, segments_of}
-use Rattle.vm_model.specs.Machine.{Cache, Machine, Page, cache_named, cache_of, segment_of}
+use Rattle.vm_model.specs.Machine.{Cache, Machine, Page, cache_named, cache_of, is_named_by}
 use Rattle.vm_model.specs.Pushing.{MayPush, PushRule, page_named, segments_after}
 use Rattle.vm_model.proofs.Parts.Lists.{is_there}
-use Rattle.vm_model.proofs.Parts.Naming.{only_named, segment_cache}
+use Rattle.vm_model.proofs.Parts.ListParts.{at_some}
 use Rattle.mix_process.specs.Seen.{cache_pages}
 use Rattle.mix_process.specs.Tying.{AreSynchronised, AreTied}
 use Rattle.mix_process.specs.declared.mix.Image.{Image}
@@ -24,60 +25,79 @@ put_back [] i x e = refl
 put_back (y ∷ xs) zero x e = let same : y ≡ x = cc in ap (λ z. z ∷ xs) (sym same)
 put_back (y ∷ xs) (suc i) x e = ap (λ zs. y ∷ zs) (put_back xs i x e)
 
+-- the cache that a segment names stands somewhere
+abbrev IsNamedAt : ℕ → List (Option Cache) → Cache → Type 0
+IsNamedAt seg cs c = (i : ℕ) × (slice_get cs i ≡ Some (Some c)) × (is_named_by seg (Some c) ≡ true)
+
+here_or_behind : (seg : ℕ) (o : Option Cache) (cs : List (Option Cache)) (c : Cache) (b : Bool) → is_named_by seg o ≡ b → cond b o (cache_named cs seg) ≡ Some c → (cache_named cs seg ≡ Some c → IsNamedAt seg cs c) → IsNamedAt seg (o ∷ cs) c
+here_or_behind seg o cs c true named e behind = (0, ap (λ (x : Option Cache). Some x) e, ap (is_named_by seg) (sym e) ∙ named)
+here_or_behind seg o cs c false named e behind = let r = behind e in (suc r.0, r.1, r.2)
+
+named_at : (seg : ℕ) (cs : List (Option Cache)) (c : Cache) → cache_named cs seg ≡ Some c → IsNamedAt seg cs c
+named_at seg [] c e = absurd (cc e)
+named_at seg (o ∷ cs) c e = here_or_behind seg o cs c (is_named_by seg o) refl e (named_at seg cs c)
+
+named_by : (o : Option ℕ) (seg : ℕ) → option_map_or (λ s. s == seg) o false ≡ true → o ≡ Some seg
+named_by None seg e = absurd (cc e)
+named_by (Some s) seg e = let same : s ≡ seg = grind (arith, nat_tests) in ap (λ (n : ℕ). Some n) same
+
 module _ (m : Machine) (processes : ℕ → Option Process) (spare : ℕ → Type 0) (images : List Image) (t : AreTied m processes spare images) where
   -- the segments hold what the images have
   abbrev Sync : Segments → Type 0
   Sync s = (i : ℕ) (image : Image) → slice_get images i ≡ Some image → get s.pages image.seg.0 ≡ Some (cache_pages m image.cache.0)
 
-  -- a cache that this segment names is the image's
-  only : (i : ℕ) (image : Image) → slice_get images i ≡ Some image → (k : ℕ) → segment_of m k ≡ Some image.seg.0 → k ≡ image.cache.0
-  only i image e k named =
-      let c = segment_cache m k image.seg.0 named in
-      let other = t.no_more_images k image.seg.0 c.0 c.1 c.2 in
-      let d = t.images_there other.0 other.1 other.2 in
-      let there : Some d.0 ≡ Some c.0 = sym d.1 ∙ ap (cache_of m) other.3 ∙ c.1 in
-      let same_cache : d.0 ≡ c.0 = cc in
-      let segments : Some other.1.seg.0 ≡ Some image.seg.0 = sym d.2 ∙ ap (λ (c : Cache). c.segment) same_cache ∙ c.2 in
-      let same_seg : other.1.seg.0 ≡ image.seg.0 = cc in
-      let place : other.0 ≡ i = t.images_apart other.0 i other.1 image other.2 e same_seg in
-      let found : Some other.1 ≡ Some image = sym other.2 ∙ ap (slice_get images) place ∙ e in
-      let same : other.1 ≡ image = cc in
-      sym other.3 ∙ ap (λ (i : Image). i.cache.0) same
-
-  page_is : (i : ℕ) (image : Image) → slice_get images i ≡ Some image → (page : ℕ) → page_named m image.seg.0 page ≡ slice_get (cache_pages m image.cache.0) page
-  page_is i image e page =
-      let c = t.images_there i image e in
-      ap (option_and_then (λ (c : Cache). slice_get c.pages page)) (only_named m image.cache.0 image.seg.0 c.0 c.1 c.2 (only i image e))
-      ∙ ap (λ (pages : List Page). slice_get pages page) (sym (pages_there m image.cache.0 c.0 c.1))
-
-  pushed_one : (s : Segments) (seg page : ℕ) → IsSome (page_named m seg page) → Sync s → Sync (put_segment_page seg page (unwrap_or (page_named m seg page) []) s)
-  pushed_one s seg page some sync i image e = go (cases_eq image.seg.0 seg)
+  -- the page that is pushed to a segment is the one that it holds
+  pushed_one : (s : Segments) (seg page : ℕ) → IsSome (page_named m seg page) → Sync s → put_segment_page seg page (unwrap_or (page_named m seg page) []) s ≡ s
+  pushed_one s seg page some sync = at (cache_named m.caches seg) refl
     where
-      got : get (put_segment_page seg page (unwrap_or (page_named m seg page) []) s).pages image.seg.0
-          ≡ cond (eq_by_cmp nat_cmp image.seg.0 seg) (Some (set (unwrap_or (get s.pages seg) []) page (unwrap_or (page_named m seg page) []))) (get s.pages image.seg.0)
-      got = get-insert nat_cmp_total s.pages seg (set (unwrap_or (get s.pages seg) []) page (unwrap_or (page_named m seg page) [])) image.seg.0
+      at : (o : Option Cache) → cache_named m.caches seg ≡ o → put_segment_page seg page (unwrap_or (page_named m seg page) []) s ≡ s
+      at None e =
+          let has = is_there (page_named m seg page) some in
+          let wrong : option_and_then (λ (c : Cache). slice_get c.pages page) None ≡ Some has.0 = sym (ap (option_and_then (λ (c : Cache). slice_get c.pages page)) e) ∙ has.1 in
+          absurd (cc wrong)
+      at (Some c) e =
+          let place = named_at seg m.caches c e in
+          let named : c.segment ≡ Some seg = named_by c.segment seg place.2 in
+          let there : cache_of m (suc place.0) ≡ Some c = at_some m.caches (suc place.0) (omega arith) ∙ ap (option_and_then (λ x. x)) (ap (slice_get m.caches) (let k : suc place.0 - 1 ≡ place.0 = omega arith in k) ∙ place.1) in
+          let i = t.no_more_images (suc place.0) seg c there named in
+          let d = t.images_there i.0 i.1 i.2 in
+          let same : Some d.0 ≡ Some c = sym d.1 ∙ ap (cache_of m) i.3 ∙ there in
+          let is : d.0 ≡ c = cc in
+          let segments : Some i.1.seg.0 ≡ Some seg = sym d.2 ∙ ap (λ (c : Cache). c.segment) is ∙ named in
+          let of_image : i.1.seg.0 ≡ seg = cc in
+          let held : get s.pages seg ≡ Some c.pages = ap (get s.pages) (sym of_image) ∙ sync i.0 i.1 i.2 ∙ ap (λ (k : ℕ). Some (cache_pages m k)) i.3 ∙ ap (λ (pages : List Page). Some pages) (pages_there m (suc place.0) c there) in
+          let has = is_there (page_named m seg page) some in
+          let had : slice_get c.pages page ≡ Some has.0 = sym (ap (option_and_then (λ (c : Cache). slice_get c.pages page)) e) ∙ has.1 in
+          let put : set (unwrap_or (get s.pages seg) []) page (unwrap_or (page_named m seg page) []) ≡ c.pages =
+          (λ j. set (unwrap_or (held j) []) page (unwrap_or (has.1 j) [])) ∙ put_back c.pages page has.0 had in
+          ap (λ (pages : FinMap nat_cmp (List Page)). record s { pages = pages })
+          (same_map nat_cmp_total nat_cmp-IsAntisymmetric (insert s.pages seg (set (unwrap_or (get s.pages seg) []) page (unwrap_or (page_named m seg page) []))) s.pages (λ q.
+          get-insert nat_cmp_total s.pages seg (set (unwrap_or (get s.pages seg) []) page (unwrap_or (page_named m seg page) [])) q
+          ∙ elim (cases_eq q seg) as (λ r. cond (eq_by_cmp nat_cmp q seg) (Some (set (unwrap_or (get s.pages seg) []) page (unwrap_or (page_named m seg page) []))) (get s.pages q) ≡ get s.pages q) [
+            | inl e ↦ ap (λ (b : Bool). cond b (Some (set (unwrap_or (get s.pages seg) []) page (unwrap_or (page_named m seg page) []))) (get s.pages q)) (unsigned_tied q seg ∙ eq-eqb q seg e) ∙ ap (λ (pages : List Page). Some pages) put ∙ sym held ∙ ap (get s.pages) (sym e)
+            | inr other ↦ ap (λ (b : Bool). cond b (Some (set (unwrap_or (get s.pages seg) []) page (unwrap_or (page_named m seg page) []))) (get s.pages q)) (unsigned_tied q seg ∙ ne_eqb q seg other)
+          ]))
 
-      go : (image.seg.0 ≡ seg) ⊎ (image.seg.0 ≢ seg) → get (put_segment_page seg page (unwrap_or (page_named m seg page) []) s).pages image.seg.0 ≡ Some (cache_pages m image.cache.0)
-      go (inr other) = got ∙ ap (λ (b : Bool). cond b (Some (set (unwrap_or (get s.pages seg) []) page (unwrap_or (page_named m seg page) []))) (get s.pages image.seg.0)) (unsigned_tied image.seg.0 seg ∙ ne_eqb image.seg.0 seg other) ∙ sync i image e
-      go (inl same) =
-          let there = is_there (page_named m seg page) some in
-          let held : get s.pages seg ≡ Some (cache_pages m image.cache.0) = ap (get s.pages) (sym same) ∙ sync i image e in
-          let had : slice_get (cache_pages m image.cache.0) page ≡ Some there.0 = sym (page_is i image e page) ∙ ap (λ (n : ℕ). page_named m n page) same ∙ there.1 in
-          got
-          ∙ ap (λ (b : Bool). cond b (Some (set (unwrap_or (get s.pages seg) []) page (unwrap_or (page_named m seg page) []))) (get s.pages image.seg.0)) (unsigned_tied image.seg.0 seg ∙ eq-eqb image.seg.0 seg same)
-          ∙ (λ j. Some (set (unwrap_or (held j) []) page (unwrap_or (there.1 j) [])))
-          ∙ ap (λ (pages : List Page). Some pages) (put_back (cache_pages m image.cache.0) page there.0 had)
-
-  pushed_all : (pushes : List (ℕ × ℕ)) (before : Segments) (s : Segments) → AllByRecursion (MayPush m (Some before)) pushes → Sync s → IfSome (segments_after m pushes (Some s)) Sync
-  pushed_all [] before s may sync = sync
-  pushed_all (p ∷ ps) before s may sync = pushed_all ps before (put_segment_page p.0 p.1 (unwrap_or (page_named m p.0 p.1) []) s) may.1 (pushed_one s p.0 p.1 may.0.0 sync)
+  pushed_all : (pushes : List (ℕ × ℕ)) (before s : Segments) → AllByRecursion (MayPush m (Some before)) pushes → Sync s → segments_after m pushes (Some s) ≡ Some s
+  pushed_all [] before s may sync = refl
+  pushed_all (p ∷ ps) before s may sync =
+      ap (λ (s : Segments). segments_after m ps (Some s)) (pushed_one s p.0 p.1 may.0.0 sync) ∙ pushed_all ps before s may.1 sync
 
   after_none : (pushes : List (ℕ × ℕ)) → segments_after m pushes None ≡ None
   after_none [] = refl
   after_none (p ∷ ps) = after_none ps
 
+  -- What is pushed is what the segments hold, so they stay.
+  pub segments_stay : (before : Option Held) (now : Option Segments) (pushes : List (ℕ × ℕ)) → PushRule m (segments_of before) pushes now → AreSynchronised m images before → now ≡ segments_of before
+  segments_stay None now pushes rule sync = rule.pushed ∙ after_none pushes
+  segments_stay (Some h) now pushes rule sync = rule.pushed ∙ pushed_all pushes (segments_in h) (segments_in h) rule.may sync
+
+  synchronised_as : (before now : Option Held) → segments_of now ≡ segments_of before → AreSynchronised m images before → AreSynchronised m images now
+  synchronised_as before None same sync = tt
+  synchronised_as None (Some g) same sync = absurd (cc same)
+  synchronised_as (Some h) (Some g) same sync = let is : segments_in g ≡ segments_in h = cc same in
+      λ i image e. ap (λ (s : Segments). get s.pages image.seg.0) is ∙ sync i image e
+
   -- after what was pushed, the segments still hold what the images have
   pub still_synchronised : (before now : Option Held) (pushes : List (ℕ × ℕ)) → PushRule m (segments_of before) pushes (segments_of now) → AreSynchronised m images before → AreSynchronised m images now
-  still_synchronised before None pushes rule sync = tt
-  still_synchronised None (Some g) pushes rule sync = absurd (let e : Some (segments_in g) ≡ None = rule.pushed ∙ after_none pushes in cc)
-  still_synchronised (Some h) (Some g) pushes rule sync = subst (λ (o : Option Segments). IfSome o Sync) (sym rule.pushed) (pushed_all pushes (segments_in h) (segments_in h) rule.may sync)
+  still_synchronised before now pushes rule sync = synchronised_as before now (segments_stay before (segments_of now) pushes rule sync) sync

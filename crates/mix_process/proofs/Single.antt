@@ -36,7 +36,8 @@ use Rattle.gmi_calls.proofs.Rising.{rise_none}
 use Rattle.mix_process.specs.Answering as mix
 use Rattle.mix_process.specs.ProcessMachine as model
 use Rattle.mix_process.specs.ProcessMachine.{ProcessMachine, place_of, process_of}
-use Rattle.mix_process.specs.Calling.{MixCall, StepAt, StepOver, call_budget}
+use Rattle.mix_process.specs.Calling.{MixCall, call_budget}
+use Rattle.mix_process.specs.Stepping.{StepAt, StepOver}
 use Rattle.mix_process.specs.Outcome as mix_outcome
 use Rattle.mix_process.specs.Outcome.{RaisedBy, Usage, makes, usage_of}
 use Rattle.mix_process.specs.Seen.{cache_pages, process_seen, processes_seen, state_of}
@@ -45,7 +46,7 @@ use Rattle.mix_process.specs.declared.mix.Image.{Image}
 use Rattle.mix_process.specs.declared.mix.Mix.{Mix}
 use Rattle.mix_process.specs.declared.process.Process.{Process}
 use Rattle.mix_process.proofs.Loading.{IsLiving, load_outcome}
-use Rattle.mix_process.proofs.Pushes.{still_synchronised}
+use Rattle.mix_process.proofs.Pushes.{segments_stay, still_synchronised}
 use Rattle.mix_process.proofs.Shapes.{HasShape, shape_self, tied_like}
 use Rattle.mix_process.proofs.Storing.{IsPut, store_outcome, store_put}
 
@@ -142,7 +143,10 @@ module _ {Manager X Chooser : Type 0} (M : GhostsOfMapper X) (G : GhostsOfGmi Ma
     made = raises_little m n c a (G.made old.gmi) (G.made gmi) one (keeps.live can.live) call.made;
     rises = call_is.rises;
     rose = call_is.rose;
-    step = go (segments_of (M.held after)) call_is.is.outcome;
+    is = record {
+      step = go (segments_of (M.held after)) call_is.is.outcome;
+      segments = segments_stay m (numbered old.processes.items) none_spare old.images.items can.tied (M.held before) (segments_of (M.held after)) call_is.pushes call_is.is.pushed can.synchronised;
+    };
   }
     where
       go : (told : Option Segments) → OutcomeAt told m (G.forest old.gmi (M.held before)) c a n call_is.rises → StepAt told (state_of G old (M.held before)) command answer call_is.rises (state_of G with_manager (M.held after))
@@ -189,7 +193,7 @@ module _ {Manager X Chooser : Type 0} (M : GhostsOfMapper X) (G : GhostsOfGmi Ma
     made = omega arith;
     rises = no_counts;
     rose = rise_none (M.counts before);
-    step = go (segments_of (M.held before));
+    is = record { step = go (segments_of (M.held before)); segments = refl };
   }
     where
       go : (told : Option Segments) → StepAt told (state_of G old (M.held before)) command answer no_counts (state_of G old (M.held before))

@@ -1,6 +1,7 @@
 -- What the inner calls say, by which processes are made and ended.
 use Rattle.std.specs.Prelude.{◌≡◌, ◌==◌, ◌≤◌, ℕ, ◌+◌, ◌*◌, ◌^◌, true, List, [], ◌∷◌, length, Option, Some, slice_get, if◌then◌else◌}
 use Rattle.vm_ids.specs.Counting.{MapperCounts, Rise}
+use Rattle.vm_ids.specs.Held.{segments_of}
 use Rattle.vm_model.specs.Machine.{Machine, numbered}
 use Rattle.vm_port.specs.declared.traits.mapper.Mapper.{Ghosts as GhostsOfMapper}
 use Rattle.gmi_calls.specs.declared.gmi.Gmi.{Ghosts as GhostsOfGmi}
@@ -53,6 +54,7 @@ pub record AreCleared {Manager Mapper Chooser : Type 0} (M : GhostsOfMapper Mapp
   pub alike : IsMadeAlike (G.machine old.gmi (M.held before)) (G.machine new.gmi (M.held after))
   pub rises : MapperCounts
   pub rose : Rise (M.counts before) (M.counts after) rises
+  pub segments : segments_of (M.held after) ≡ segments_of (M.held before)
 
 -- these processes, and one more under the number 0
 abbrev pub with_extra : Process → (ℕ → Option Process) → ℕ → Option Process
@@ -74,3 +76,4 @@ pub record IsEnded {Manager Mapper Chooser : Type 0} (M : GhostsOfMapper Mapper)
   pub alike : IsMadeAlike (G.machine old.gmi (M.held before)) (G.machine new.gmi (M.held after))
   pub rises : MapperCounts
   pub rose : Rise (M.counts before) (M.counts after) rises
+  pub segments : segments_of (M.held after) ≡ segments_of (M.held before)

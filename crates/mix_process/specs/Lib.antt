@@ -1,6 +1,7 @@
 pub mod ProcessMachine
 pub mod Answering
 pub mod Outcome
+pub mod Stepping
 pub mod Seen
 pub mod Tying
 pub mod Use

@@ -1,12 +1,13 @@
 -- The machine of processes for which the processes over a manager stand.
 use Rattle.std.specs.Prelude.{◌==◌, ℕ, ◌+◌, ◌-◌, ◌*◌, Bool, true, false, List, [], ◌∷◌, ◌++◌, map, take, Option, Some, None, option_map, if◌then◌else◌}
 use Rattle.std.specs.Option.{option_map_or}
-use Rattle.vm_ids.specs.Held.{Held, Segments, segments_of}
+use Rattle.vm_ids.specs.Held.{Held, segments_of}
 use Rattle.vm_ids.specs.declared.command.Mapping.{Mapping}
 use Rattle.vm_model.specs.Machine.{Cache, Machine, Page, cache_of}
 use Rattle.mix_process.specs.ProcessMachine as model
 use Rattle.mix_process.specs.ProcessMachine.{ProcessMachine, area_start, may_write}
-use Rattle.mix_process.specs.Outcome.{Usage, usage_of}
+use Rattle.mix_process.specs.Outcome.{usage_of}
+use Rattle.mix_process.specs.Stepping.{State}
 use Rattle.mix_process.specs.declared.area.Area.{Area}
 use Rattle.mix_process.specs.declared.area.Area.TheVariants.{Data, Stack, Text}
 use Rattle.mix_process.specs.declared.process.Part.{Part}
@@ -69,13 +70,6 @@ processes_seen m processes images = record {
   processes = map (option_map (process_seen m)) processes;
   images = map (image_seen m) images;
 }
-
--- What there is between two answers: the processes, what the manager has, and the mapper's segments
--- where they are told.
-pub record State : Type 0 where
-  pub processes : ProcessMachine
-  pub usage : Usage
-  pub segments : Option Segments
 
 -- what the processes over a manager and what its mapper tells stand for
 abbrev pub state_of : {Manager Mapper Chooser : Type 0} → GhostsOfGmi Manager Mapper Chooser

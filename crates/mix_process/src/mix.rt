@@ -1,15 +1,15 @@
 // The processes, and the calls of them.
 ghost use Rattle.std.specs.Prelude.{◌≡◌, ℕ, Option, ◌≤◌, ◌+◌, ◌-◌, ◌*◌, ◌^◌, [], length, slice_set, None, Some, IfErr, IfNone, IfOk, IfSome, OnErr, slice_get};
-ghost use Rattle.vm_ids.specs.Held.{Held};
+ghost use Rattle.vm_ids.specs.Held.{Held, segments_of};
 ghost use Rattle.vm_ids.specs.declared.refusal.Refusal.TheVariants.{NoProcess};
 ghost use Rattle.vm_model.specs.Answering.{answer_by};
 ghost use Rattle.vm_model.specs.Machine.{numbered};
 ghost use Rattle.gmi_calls.specs.Calling.{done_by};
 ghost use Rattle.mix_process.specs.Adding.{FillsAndMaps, HasSpare, IsAdded, IsFilled, IsSourceOf, MapsInto, MapsPart, MayAdd, MayFill, MayMap};
-ghost use Rattle.mix_process.specs.Calling.{MixCall};
+ghost use Rattle.mix_process.specs.Calling.{MixCall, beginning, made_by};
 ghost use Rattle.mix_process.specs.Inner.{AreApart, AreCleared, AreOwn, IsEnded, own_pages, spare_of, with_extra};
 ghost use Rattle.mix_process.specs.declared.process.Process.{Process};
-ghost use Rattle.mix_process.specs.Seen.{pages_in};
+ghost use Rattle.mix_process.specs.Seen.{pages_in, state_of};
 ghost use Rattle.mix_process.specs.declared.area.Area.TheVariants.{Data};
 ghost use Rattle.mix_process.specs.Tying.{AreAble, CanCall, IsBare, none_spare};
 
@@ -46,8 +46,11 @@ impl<G> Mix<G> {
     pub fn new<M: Mapper, C: Chooser>(alloc: Global, gmi: G) -> Mix<G>
     where
         G: Gmi<M, C>,
-        ensures { (told : Option Held) (page_bytes : Option ℕ) → IsBare G.Gmi gmi told page_bytes
-            → CanCall G.Gmi result told page_bytes }
+        ensures can { (told : Option Held) (page_bytes : Option ℕ)
+            → IsBare G.Gmi gmi told page_bytes → CanCall G.Gmi result told page_bytes }
+        ensures begins { (told : Option Held) → state_of G.Gmi result told
+            ≡ beginning (G.machine gmi told) (segments_of told) }
+        ensures made { made_by G.Gmi result ≡ G.made gmi }
     {
         Mix {
             alloc,
