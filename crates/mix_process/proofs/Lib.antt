@@ -20,6 +20,12 @@ pub mod Ending
 pub mod Taking
 pub mod Mapping
 pub mod Regions
+pub mod Using
+pub mod Calls
+pub mod Joining
+pub mod Mapped
+pub mod Filling
+pub mod Filled
 pub mod Starting
 pub mod Beginning
 pub mod Passing

@@ -50,14 +50,14 @@ shape_then m n o s t = record { page = t.page ∙ s.page; actors = t.actors ∙ 
 
 -- Machines without bytes
 
-blank_at : (w : Machine) (k : ℕ) → cache_of (blank w) k ≡ option_map blank_cache (cache_of w k)
+pub blank_at : (w : Machine) (k : ℕ) → cache_of (blank w) k ≡ option_map blank_cache (cache_of w k)
 blank_at w k = numbered-map blank_cache w.caches k
 
-mapped_some : {A B : Type 0} (f : A → B) (o : Option A) (y : B) → option_map f o ≡ Some y → (x : A) × (o ≡ Some x) × (f x ≡ y)
+pub mapped_some : {A B : Type 0} (f : A → B) (o : Option A) (y : B) → option_map f o ≡ Some y → (x : A) × (o ≡ Some x) × (f x ≡ y)
 mapped_some f None y e = absurd (cc e)
 mapped_some f (Some x) y e = (x, refl, cc e)
 
-abbrev emptied : Page → Page
+abbrev pub emptied : Page → Page
 emptied page = []
 
 pub blank_shape : (w : Machine) → HasShape w (blank w)
@@ -87,7 +87,7 @@ module _ (m n : Machine) (s : HasShape m n) where
       let d = s.there p.cache.0 h.cache h.there in
       record { cache = d.0; seg = h.seg; there = d.1; named = d.2.segment ∙ h.named; some = h.some; many = omega (arith, h.many, d.2.many) }
 
-  part_like : (a : Area) (p : Part) → IsPart m a p → IsPart n a p
+  pub part_like : (a : Area) (p : Part) → IsPart m a p → IsPart n a p
   part_like Text p h = image_like p h
   part_like Data p h = own_like p h
   part_like Stack p h = own_like p h

@@ -55,7 +55,7 @@ destroyed m cache c there free =
     ap (λ (o : Option Cache). with_some o refusals.NoCache m (λ c. unless (is_mapped m cache) refusals.InUse m (reply replies.Done (without m cache)))) there
     ∙ ap (λ (b : Bool). unless b refusals.InUse m (reply replies.Done (without m cache))) free
 
-no_name : (m : Machine) (cache : ℕ) (c : Cache) → cache_of m cache ≡ Some c → c.segment ≡ None → IsNamed m cache → ⊥
+pub no_name : (m : Machine) (cache : ℕ) (c : Cache) → cache_of m cache ≡ Some c → c.segment ≡ None → IsNamed m cache → ⊥
 no_name m cache c there none named =
     let not_so : is_named m cache ≡ false = ap (λ (o : Option Cache). option_map_or (λ (c : Cache). is_some c.segment) o false) there ∙ ap is_some none in
     let wrong : false ≡ true = subst IsTrue not_so named in

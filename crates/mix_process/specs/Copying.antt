@@ -84,7 +84,7 @@ abbrev pub copy_budget : ℕ
 copy_budget = 2 ^ 26
 
 -- A process without parts stands last, and its parent before it.
-pub record MayFill (processes : List (Option Process)) (place : ℕ) (parent : Process)
+pub record MayInherit (processes : List (Option Process)) (place : ℕ) (parent : Process)
     : Type 0 where
   pub front : List (Option Process)
   pub child : Process
@@ -93,14 +93,14 @@ pub record MayFill (processes : List (Option Process)) (place : ℕ) (parent : P
   pub bare : child.parts.items ≡ []
 
 -- The last process has what its parent had; or the manager lacks something.
-abbrev pub FillsParts : Machine → model.ProcessMachine → model.ProcessMachine → ℕ → Process
+abbrev pub Inherits : Machine → model.ProcessMachine → model.ProcessMachine → ℕ → Process
     → Result (Unit {0}) Trouble → Type 0
-FillsParts m before after last parent (Ok u) = after ≡ put_at before last (process_seen m parent)
-FillsParts m before after last parent (Err trouble) =
+Inherits m before after last parent (Ok u) = after ≡ put_at before last (process_seen m parent)
+Inherits m before after last parent (Err trouble) =
     IsLack (usage_of m) (usage_of_parts parent.parts.items) trouble
 
 -- The parts of a process were copied into the last one, or there was a lack.
-pub record AreFilled {Manager Mapper Chooser : Type 0} (M : GhostsOfMapper Mapper)
+pub record IsInherited {Manager Mapper Chooser : Type 0} (M : GhostsOfMapper Mapper)
     (G : GhostsOfGmi Manager Mapper Chooser) (before : Mapper) (old : Mix Manager)
     (front : List (Option Process)) (parent : Process) (result : Result (Unit {0}) Trouble)
     (after : Mapper) (new : Mix Manager) : Type 0 where
@@ -108,7 +108,7 @@ pub record AreFilled {Manager Mapper Chooser : Type 0} (M : GhostsOfMapper Mappe
   pub child : Process
   pub table : new.processes.items ≡ front ++ Some child ∷ []
   pub images : new.images ≡ old.images
-  pub fills : FillsParts (G.machine old.gmi (M.held before))
+  pub inherits : Inherits (G.machine old.gmi (M.held before))
       (processes_seen (G.machine old.gmi (M.held before)) old.processes.items old.images.items)
       (processes_seen (G.machine new.gmi (M.held after)) new.processes.items new.images.items)
       (length front) parent result

@@ -1,16 +1,18 @@
 // The processes, and the calls of them.
-ghost use Rattle.std.specs.Prelude.{◌≡◌, ℕ, Option, ◌≤◌, ◌<◌, ◌+◌, ◌-◌, ◌*◌, ◌^◌, [], length, option_map, slice_get, slice_set, None, Some, IfNone, IfSome};
+ghost use Rattle.std.specs.Prelude.{◌≡◌, ℕ, Option, ◌≤◌, ◌<◌, ◌+◌, ◌-◌, ◌*◌, ◌^◌, [], length, option_map, slice_get, slice_set, None, Some, IfErr, IfNone, IfOk, IfSome, OnErr};
 ghost use Rattle.vm_ids.specs.Held.{Held, segments_of};
+ghost use Rattle.vm_ids.specs.declared.refusal.Refusal.TheVariants.{NoProcess};
 ghost use Rattle.vm_model.specs.Answering.{answer_by};
 ghost use Rattle.vm_model.specs.Machine.{Cache, cache_of, numbered};
 ghost use Rattle.gmi_calls.specs.Calling.{done_by};
-ghost use Rattle.mix_process.specs.Adding.{IsAdded, MapsPart, MayAdd, MayMap};
+ghost use Rattle.mix_process.specs.Adding.{FillsAndMaps, HasSpare, IsAdded, IsFilled, IsSourceOf, MapsInto, MapsPart, MayAdd, MayFill, MayMap};
 ghost use Rattle.mix_process.specs.Calling.{MixCall, beginning, made_by};
-ghost use Rattle.mix_process.specs.Copying.{AreFilled, IsCopied, MayCopy, MayFill};
+ghost use Rattle.mix_process.specs.Copying.{IsCopied, IsInherited, MayCopy, MayInherit};
 ghost use Rattle.mix_process.specs.Inner.{AreApart, AreCleared, AreOwn, IsEnded, own_pages, spare_of, with_extra};
 ghost use Rattle.mix_process.specs.Starting.{Checks, IsLastAlive, IsMadeOrTakenBack, IsOpened, IsStarted, as_bad_image, image_for};
-ghost use Rattle.mix_process.specs.Seen.{state_of};
 ghost use Rattle.mix_process.specs.declared.process.Process.{Process};
+ghost use Rattle.mix_process.specs.Seen.{pages_in, state_of};
+ghost use Rattle.mix_process.specs.declared.area.Area.TheVariants.{Data};
 ghost use Rattle.mix_process.specs.Tying.{AreAble, CanCall, IsBare, none_spare};
 
 use crate::Area;
@@ -242,18 +244,25 @@ impl<G> Mix<G> {
     }
 
     // Where a living process stands.
-    fn place_of(&self, of: ProcId) -> Result<usize, Refusal> {
-        if of.0 == 0 {
-            return Err(Refusal::NoProcess);
-        }
-        match self.processes.get(of.0 as usize - 1) {
-            Some(Some(_)) => Ok(of.0 as usize - 1),
-            _ => Err(Refusal::NoProcess),
+    fn place_of(&self, of: ProcId) -> Result<usize, Refusal>
+        ensures found { IfOk result (λ place. (of.0 ≡ place + 1)
+            × ((p : Process) × (slice_get self.now.processes.items place ≡ Some (Some p)))) }
+        ensures nobody { OnErr result (numbered self.now.processes.items of.0 ≡ None) }
+        ensures refusal { IfErr result (λ r. r ≡ NoProcess) }
+    {
+        match numbered(&self.processes, of.0) {
+            Some(_) => Ok(of.0 as usize - 1),
+            None => Err(Refusal::NoProcess),
         }
     }
 
     // How many pages of data a process has.
-    fn data_pages(&self, place: usize) -> u64 {
+    fn data_pages(&self, place: usize) -> u64
+        requires there { (p : Process) × (slice_get self.now.processes.items place ≡ Some (Some p))
+            × (pages_in Data p.parts.items ≤ MOST_DATA) }
+        ensures { (p : Process) → slice_get self.now.processes.items place ≡ Some (Some p)
+            → result ≡ pages_in Data p.parts.items }
+    {
         match &self.processes[place] {
             Some(process) => pages_in(Area::Data, &process.parts),
             None => 0,
@@ -342,10 +351,10 @@ impl<G> Mix<G> {
     where
         G: Gmi<M, C>,
         requires can { CanCall G.Gmi self.old (M.held mapper.old) (M.page_bytes mapper.old) }
-        requires may { (process : Process) × MayFill self.old.processes.items parent process }
+        requires may { (process : Process) × MayInherit self.old.processes.items parent process }
         requires made { G.made self.old.gmi ≤ 2 ^ 61 + 2 ^ 29 }
-        ensures { (process : Process) (may : MayFill self.old.processes.items parent process)
-            → AreFilled M.Mapper G.Gmi mapper.old self.old may.front process result mapper.new
+        ensures { (process : Process) (may : MayInherit self.old.processes.items parent process)
+            → IsInherited M.Mapper G.Gmi mapper.old self.old may.front process result mapper.new
             self.new }
     {
         let place = self.processes.len() - 1;
@@ -429,7 +438,7 @@ impl<G> Mix<G> {
         }
     }
 
-    // Copies pages into a cache, where a source is told, and maps it.
+    // Copies pages into a spare cache, where a source is told, and maps it.
     fn fill_and_map<M: Mapper, C: Chooser>(
         &mut self,
         place: usize,
@@ -440,18 +449,44 @@ impl<G> Mix<G> {
     ) -> Result<(), Trouble>
     where
         G: Gmi<M, C>,
+        requires may { (process : Process) × MayFill M.Mapper G.Gmi mapper.old self.old place
+            process part source }
+        requires made { G.made self.old.gmi ≤ 2 ^ 61 + 2 ^ 31 }
+        ensures { (process : Process) → MayFill M.Mapper G.Gmi mapper.old self.old place process
+            part source
+            → FillsAndMaps M.Mapper G.Gmi mapper.old self.old place process part source result
+            mapper.new self.new }
     {
-        if let Some((from, from_page)) = source {
-            let span = Span {
-                from,
-                from_page,
-                to: part.cache,
-                to_page: PageNo(0),
-                pages: part.pages,
-            };
-            self.gmi.copy_pages(span, mapper, chooser)?;
-        }
+        self.fill(part, source, mapper, chooser)?;
         self.map_part(place, part)
+    }
+
+    // Copies pages into a spare cache, where a source is told.
+    fn fill<M: Mapper, C: Chooser>(
+        &mut self,
+        part: Part,
+        source: Option<(CacheId, PageNo)>,
+        mapper: &mut M,
+        chooser: &mut C,
+    ) -> Result<(), Trouble>
+    where
+        G: Gmi<M, C>,
+        requires has { HasSpare M.Mapper G.Gmi mapper.old self.old part }
+        requires source { IsSourceOf (G.machine self.old.gmi (M.held mapper.old)) part source }
+        requires made { G.made self.old.gmi ≤ 2 ^ 61 + 2 ^ 31 }
+        ensures { IsFilled M.Mapper G.Gmi mapper.old self.old part source result mapper.new self.new }
+    {
+        let Some((from, from_page)) = source else {
+            return Ok(());
+        };
+        let span = Span {
+            from,
+            from_page,
+            to: part.cache,
+            to_page: PageNo(0),
+            pages: part.pages,
+        };
+        self.gmi.copy_pages(span, mapper, chooser)
     }
 
     // Maps a part into a process, behind what its area has.
@@ -465,14 +500,10 @@ impl<G> Mix<G> {
             → MayMap G.Gmi told page_bytes self.old place process part
             → MapsPart G.Gmi told page_bytes self.old place process part result self.new }
     {
-        let Some(process) = &mut self.processes[place] else {
-            unreachable!()
-        };
-        process.parts.reserve(1)?;
-        let mapping = mapping_behind(&process.parts, part);
-        self.gmi.map(process.actor, mapping)?;
-        process.parts.push_reserved(part);
-        Ok(())
+        match &mut self.processes[place] {
+            Some(process) => map_into(&mut self.gmi, process, part),
+            None => unreachable!(),
+        }
     }
 
     // The number of the last process; or it is taken back, since it couldn't be made whole.
@@ -542,6 +573,27 @@ impl<G> Mix<G> {
             }
         }
     }
+}
+
+// Maps a part into a process, behind what its area has.
+fn map_into<G, M: Mapper, C: Chooser>(
+    gmi: &mut G,
+    process: &mut Process,
+    part: Part,
+) -> Result<(), Trouble>
+where
+    G: Gmi<M, C>,
+    requires some { 1 ≤ part.pages }
+    requires few { pages_in part.area process.old.parts.items ≤ 2 ^ 32 }
+    requires valid { (told : Option Held) × G.valid gmi.old told }
+    requires made { G.made gmi.old ≤ 2 ^ 62 }
+    ensures { MapsInto G.Gmi gmi.old process.old part result gmi.new process.new }
+{
+    process.parts.reserve(1)?;
+    let mapping = mapping_behind(&process.parts, part);
+    gmi.map(process.actor, mapping)?;
+    process.parts.push_reserved(part);
+    Ok(())
 }
 
 // Takes a process out of the table, where it is alive.
