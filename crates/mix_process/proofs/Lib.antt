@@ -34,3 +34,4 @@ pub mod Keeping
 pub mod Images
 pub mod Begun
 pub mod Back
+pub mod Copied

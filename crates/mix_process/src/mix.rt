@@ -385,12 +385,11 @@ impl<G> Mix<G> {
             → IsCopied M.Mapper G.Gmi mapper.old self.old place process part result mapper.new
             self.new }
     {
-        match part.area {
-            Area::Text => self.map_part(place, part),
-            Area::Data | Area::Stack => {
-                let source = Some((part.cache, PageNo(0)));
-                self.add_own(place, part.area, part.pages, source, mapper, chooser)
-            }
+        if may_write(part.area) {
+            let source = Some((part.cache, PageNo(0)));
+            self.add_own(place, part.area, part.pages, source, mapper, chooser)
+        } else {
+            self.map_part(place, part)
         }
     }
 
