@@ -25,5 +25,6 @@ pub mod Joining
 pub mod Mapped
 pub mod Filling
 pub mod Filled
+pub mod Fitted
 pub mod Starting
 pub mod Beginning
