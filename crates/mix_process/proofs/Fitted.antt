@@ -24,7 +24,7 @@ use Rattle.mix_process.specs.declared.mix.Image.{Image}
 use Rattle.mix_process.specs.declared.mix.Mix.{Mix}
 use Rattle.mix_process.specs.declared.process.Part.{Part}
 use Rattle.mix_process.specs.declared.process.Process.{Process}
-use Rattle.mix_process.proofs.Joining.{map_place, set_same}
+use Rattle.mix_process.proofs.Joining.{one_same, set_same}
 use Rattle.mix_process.proofs.Seeing.{pages_there}
 use Rattle.mix_process.proofs.Using.{lack_still}
 
@@ -100,12 +100,7 @@ module _ {Manager X Chooser : Type 0} (M : GhostsOfMapper X) (G : GhostsOfGmi Ma
     seen_before = ap (λ (x : Mix Manager). processes_seen between_is x.processes.items x.images.items) f.same ∙ f.seen
 
     process_before : process_seen between_is p ≡ process_seen m p
-    process_before =
-        let both : Some (Some (process_seen between_is p)) ≡ Some (Some (process_seen m p)) =
-        sym (map_place (option_map (process_seen between_is)) old.processes.items place (Some p) may.room.there)
-        ∙ ap (λ (s : ProcessMachine). slice_get s.processes place) f.seen
-        ∙ map_place (option_map (process_seen m)) old.processes.items place (Some p) may.room.there in
-        cc both
+    process_before = one_same m between_is old.processes.items old.images.items place p may.room.there f.seen
 
     pages_before : length (cache_pages between_is part.cache.0) ≡ part.pages
     pages_before = ap length (pages_there between_is part.cache.0 f.has.cache.cache f.has.cache.there) ∙ f.has.cache.many

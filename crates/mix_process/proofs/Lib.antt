@@ -26,5 +26,6 @@ pub mod Mapped
 pub mod Filling
 pub mod Filled
 pub mod Fitted
+pub mod Owning
 pub mod Starting
 pub mod Beginning
