@@ -170,7 +170,7 @@ module _ (m : Machine) (processes others : ℕ → Option Process) (images : Lis
 
 -- The same caches are spare, in other words
 
-tied_respared : (m : Machine) (processes : ℕ → Option Process) (spare others : ℕ → Type 0) (images : List Image) → AreTied m processes spare images → ((k : ℕ) → spare k → others k) → ((k : ℕ) → others k → spare k) → AreTied m processes others images
+pub tied_respared : (m : Machine) (processes : ℕ → Option Process) (spare others : ℕ → Type 0) (images : List Image) → AreTied m processes spare images → ((k : ℕ) → spare k → others k) → ((k : ℕ) → others k → spare k) → AreTied m processes others images
 tied_respared m processes spare others images t to from = record {
   page = t.page;
   run = t.run;

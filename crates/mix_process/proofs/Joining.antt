@@ -8,6 +8,7 @@ use Rattle.vm_model.specs.Machine.{Cache, Machine, Page, cache_of, numbered}
 use Rattle.vm_model.proofs.Parts.Lists.{numbered_place}
 use Rattle.mix_process.specs.Adding.{IsPutAt, put_at, with_more}
 use Rattle.mix_process.specs.ProcessMachine as model
+use Rattle.mix_process.specs.ProcessMachine.{ProcessMachine}
 use Rattle.mix_process.specs.Seen.{area_seen, cache_pages, image_seen, part_seen, parts_in, process_seen, processes_seen, same_area}
 use Rattle.mix_process.specs.Tying.{AreTied, IsPart}
 use Rattle.mix_process.specs.declared.area.Area.{Area}
@@ -93,7 +94,7 @@ set_same [] i x e = refl
 set_same (y ∷ xs) zero x e = let same : y ≡ x = cc in ap (λ z. z ∷ xs) (sym same)
 set_same (y ∷ xs) (suc i) x e = ap (λ zs. y ∷ zs) (set_same xs i x e)
 
-map_place : {A B : Type 0} (f : A → B) (xs : List A) (i : ℕ) (x : A) → slice_get xs i ≡ Some x → slice_get (map f xs) i ≡ Some (f x)
+pub map_place : {A B : Type 0} (f : A → B) (xs : List A) (i : ℕ) (x : A) → slice_get xs i ≡ Some x → slice_get (map f xs) i ≡ Some (f x)
 map_place f [] i x e = absurd (cc e)
 map_place f (y ∷ xs) zero x e = let same : y ≡ x = cc in ap (λ z. Some (f z)) same
 map_place f (y ∷ xs) (suc i) x e = map_place f xs i x e
@@ -130,3 +131,12 @@ module _ (m n : Machine) (table : List (Option Process)) (spare : ℕ → Type 0
     processes = map_same (option_map (process_seen n)) (option_map (process_seen m)) table one_seen i;
     images = map_same (image_seen n) (image_seen m) images (λ k image e. ap (λ (pages : List Page). let x : ℕ × List Page = (image.seg.0, pages) in x) (images_kept k image e)) i;
   }
+
+-- and so is each of the processes
+pub one_same : (m n : Machine) (table : List (Option Process)) (images : List Image) (place : ℕ) (p : Process) → slice_get table place ≡ Some (Some p) → processes_seen n table images ≡ processes_seen m table images → process_seen n p ≡ process_seen m p
+one_same m n table images place p there same =
+    let both : Some (Some (process_seen n p)) ≡ Some (Some (process_seen m p)) =
+    sym (map_place (option_map (process_seen n)) table place (Some p) there)
+    ∙ ap (λ (s : ProcessMachine). slice_get s.processes place) same
+    ∙ map_place (option_map (process_seen m)) table place (Some p) there in
+    cc both

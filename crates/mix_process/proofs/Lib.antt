@@ -26,6 +26,8 @@ pub mod Joining
 pub mod Mapped
 pub mod Filling
 pub mod Filled
+pub mod Fitted
+pub mod Owning
 pub mod Starting
 pub mod Beginning
 pub mod Passing

@@ -138,6 +138,14 @@ able_as {Manager} {X} {Chooser} G told page spare old new gmi table g images pro
     (subst (λ (xs : List (Option Process)). AreAble G gmi new.images.items told page (length xs) (numbered xs) spare) (sym processes)
     (subst (λ (xs : List Image). AreAble G gmi xs told page (length table) (numbered table) spare) (λ i. (sym images i).items) able))
 
+-- the cache of one part is spare
+pub spare_only : (part : Part) (k : ℕ) → spare_of (part ∷ []) k → IsOwnPart part × (k ≡ part.cache.0)
+spare_only part k s = only s.0 s.1 s.2 s.3 s.4
+  where
+    only : (j : ℕ) (x : Part) → slice_get (part ∷ []) j ≡ Some x → IsOwnPart x → x.cache.0 ≡ k → IsOwnPart part × (k ≡ part.cache.0)
+    only zero x e own same = let it : part ≡ x = cc in (subst IsOwnPart (sym it) own, sym same ∙ ap (λ (x : Part). x.cache.0) (sym it))
+    only (suc j) x e own same = absurd (cc e)
+
 -- Numbers
 
 pub pages_of_cache : (o : Option Cache) → vm_machine.pages_in o ≡ length (option_map_or (λ (c : Cache). c.pages) o [])
@@ -247,13 +255,6 @@ module _ {Manager X Chooser : Type 0} (G : GhostsOfGmi Manager X Chooser) (told 
     pub mapped : (r : RegionId) → result ≡ Ok r → (new : Mix Manager) → new.gmi ≡ gmi → IsPutAt old place p (part ∷ []) new → IsMapped G told page old place p part new
     mapped r is new g put = go maps
       where
-        spare_is : (k : ℕ) → spare k → IsOwnPart part × (k ≡ part.cache.0)
-        spare_is k s = only s.0 s.1 s.2 s.3 s.4
-          where
-            only : (j : ℕ) (x : Part) → slice_get (part ∷ []) j ≡ Some x → IsOwnPart x → x.cache.0 ≡ k → IsOwnPart part × (k ≡ part.cache.0)
-            only zero x e own same = let it : part ≡ x = cc in (subst IsOwnPart (sym it) own, sym same ∙ ap (λ (x : Part). x.cache.0) (sym it))
-            only (suc j) x e own same = absurd (cc e)
-
         go : Maps m p.actor.0 run.regions (mapping_behind p.parts.items part) a n → IsMapped G told page old place p part new
         go (inr u) = absurd (elim u.why [
           | inl e ↦ (let wrong : Ok (replies.Region r) ≡ Err troubles.Memory = ap (answer_by replies.Region) (sym is) ∙ e in cc wrong)
@@ -265,7 +266,7 @@ module _ {Manager X Chooser : Type 0} (G : GhostsOfGmi Manager X Chooser) (told 
             let tied : AreTied n (numbered (set old.processes.items place (Some put.now))) none_spare old.images.items =
             subst (λ (x : Machine). AreTied x (numbered (set old.processes.items place (Some put.now))) none_spare old.images.items) (sym made.next_is)
             (subst (λ (k : ℕ). AreTied (add_region m p.actor.0 run.regions (mapping_behind p.parts.items part)) (numbered (set old.processes.items k (Some put.now))) none_spare old.images.items) even
-            (tied_mapped m old.processes.items spare old.images.items able.tied (place + 1) p put.now alive_at part may.is_part may.room.few may.room.first spare_is (λ own. (0, part, refl, own, refl)) put.actor put.parts_now)) in
+            (tied_mapped m old.processes.items spare old.images.items able.tied (place + 1) p put.now alive_at part may.is_part may.room.few may.room.first (spare_only part) (λ own. (0, part, refl, own, refl)) put.actor put.parts_now)) in
             let actors : length n.actors ≡ length m.actors = ap (λ (x : Machine). length x.actors) made.next_is ∙ length-set m.actors (p.actor.0 - 1) (Some (insert_region (region_of (m.regions_made + 1) (mapping_behind p.parts.items part)) run.regions)) in
             let machine : G.machine new.gmi told ≡ add_region m p.actor.0 run.regions (mapping_behind p.parts.items part) = ap (λ (x : Manager). G.machine x told) g ∙ made.next_is in
             let at = numbered_place m.actors p.actor.0 run.regions run.there in

@@ -1,11 +1,12 @@
 -- The ties hold of each machine of the same shape: with the same actors, and as many pages in each
 -- cache.
 use Rattle.std.proofs.Common.{◌≡◌, ◌≢◌, ◌⊎◌, inl, inr, ℕ, ◌+◌, ◌-◌, ◌≤◌, List, [], ◌∷◌, length, map, Option, Some, None, refl, sym, ap, subst, ◌∙◌, arith}
-use Rattle.std.specs.Prelude.{option_map, slice_get}
+use Rattle.std.specs.Prelude.{option_map, slice_get, sum_by}
 use Rattle.std.specs.Option.{option_map_or}
 use Rattle.std.proofs.lemmas.List.{length-map}
+use Rattle.std.proofs.lemmas.List.Sums.{sum_by-cons}
 use Rattle.std.specs.List.{AllByRecursion}
-use Rattle.vm_model.specs.Machine.{Actor, Cache, Machine, Page, actor_of, cache_of, numbered}
+use Rattle.vm_model.specs.Machine.{Actor, Cache, Machine, Page, actor_of, cache_of, live_pages, numbered, pages_in}
 use Rattle.vm_model.specs.Outcome.{blank, blank_cache}
 use Rattle.vm_model.proofs.Parts.Lists.{numbered-map}
 use Rattle.mix_process.specs.Seen.{cache_pages}
@@ -75,6 +76,17 @@ blank_of (Some c) = refl
 
 pub blank_pages : (w : Machine) (k : ℕ) → cache_pages (blank w) k ≡ map (λ _. []) (cache_pages w k)
 blank_pages w k = ap (λ (o : Option Cache). option_map_or (λ (c : Cache). c.pages) o []) (blank_at w k) ∙ blank_of (cache_of w k)
+
+same_pages : (o : Option Cache) → pages_in (option_map blank_cache o) ≡ pages_in o
+same_pages None = refl
+same_pages (Some c) = length-map c.pages emptied
+
+blank_sum : (cs : List (Option Cache)) → sum_by pages_in (map (option_map blank_cache) cs) ≡ sum_by pages_in cs
+blank_sum [] = refl
+blank_sum (c ∷ cs) = omega (arith, sum_by-cons pages_in (option_map blank_cache c) (map (option_map blank_cache) cs), sum_by-cons pages_in c cs, same_pages c, blank_sum cs)
+
+pub blank_live : (w : Machine) → live_pages (blank w) ≡ live_pages w
+blank_live w = blank_sum w.caches
 
 module _ (m n : Machine) (s : HasShape m n) where
   own_like : (p : Part) → IsOwnCache m p → IsOwnCache n p
