@@ -48,9 +48,6 @@ text_is Text e = refl
 text_is Data e = absurd (cc e)
 text_is Stack e = absurd (cc e)
 
-not_text : (a : Area) → may_write a ≡ true → a ≢ Text
-not_text a e is = let wrong : true ≡ false = sym e ∙ ap may_write is in absurd (cc wrong)
-
 pub within_more : (u more : Usage) → IsWithin u (usage_sum u more)
 within_more u more = record { living = omega arith; actors = omega arith; caches = omega arith; regions = omega arith; pages = omega arith }
 
@@ -114,7 +111,7 @@ module _ {Manager X Chooser : Type 0} (M : GhostsOfMapper X) (G : GhostsOfGmi Ma
     is_own = own_cache m part.area part own may.is_part
 
     pub may_add : MayAdd m old.processes.items place process part.area part.pages source
-    may_add = record { room = may.room; own = not_text part.area own; source_there = (is_own.cache, is_own.there, (let enough : 0 + part.pages ≤ length is_own.cache.pages = omega (arith, is_own.many) in enough)) }
+    may_add = record { room = may.room; own = own; source_there = (is_own.cache, is_own.there, (let enough : 0 + part.pages ≤ length is_own.cache.pages = omega (arith, is_own.many) in enough)) }
 
     as_own : (P : Bool → Type 0) → P true → P (may_write part.area)
     as_own P h = subst P (sym own) h

@@ -11,5 +11,5 @@ map_part-requires-clause-may g c = (_, _, c.requires.may.0, may_map g.M.Mapper g
 pub returns-then-may_write : goal.returns-then-may_write
 returns-then-may_write g c = λ process may. added g.M.Mapper g.G.Gmi c.args.self.now c.args.mapper.now c.requires.can c.args.place process c.args.part may (sym c.if-may_write.ensures) _ _ _ (c.add_own.ensures process (may_add g.M.Mapper g.G.Gmi c.args.self.now c.args.mapper.now c.requires.can c.args.place process c.args.part may (sym c.if-may_write.ensures)))
 
-pub returns : goal.returns
-returns g c = λ process may. mapped g.M.Mapper g.G.Gmi c.args.self.now c.args.mapper.now c.requires.can c.args.place process c.args.part may (sym c.if-may_write.ensures) _ _ (c.map_part.ensures _ _ process (may_map g.M.Mapper g.G.Gmi c.args.self.now c.args.mapper.now c.requires.can c.args.place process c.args.part may (sym c.if-may_write.ensures)))
+pub returns-else-may_write : goal.returns-else-may_write
+returns-else-may_write g c = λ process may. mapped g.M.Mapper g.G.Gmi c.args.self.now c.args.mapper.now c.requires.can c.args.place process c.args.part may (sym c.if-may_write.ensures) _ _ (c.map_part.ensures _ _ process (may_map g.M.Mapper g.G.Gmi c.args.self.now c.args.mapper.now c.requires.can c.args.place process c.args.part may (sym c.if-may_write.ensures)))
