@@ -37,3 +37,6 @@ pub mod Images
 pub mod Begun
 pub mod Back
 pub mod Copied
+pub mod Counts
+pub mod Inheriting
+pub mod Forking
