@@ -13,6 +13,7 @@ use Rattle.vm_ids.specs.declared.refusal.Refusal.TheVariants as refusals
 use Rattle.vm_ids.specs.declared.reply.Reply.TheVariants as replies
 use Rattle.vm_ids.specs.declared.reply.Trouble.{Trouble}
 use Rattle.vm_ids.specs.declared.reply.Trouble.TheVariants as troubles
+use Rattle.vm_model.specs.Answering.{answer_by}
 use Rattle.vm_model.specs.Machine.{Actor, Machine, cache_of, numbered}
 use Rattle.vm_model.specs.Outcome.{IsNotRefused}
 use Rattle.vm_model.proofs.Parts.Lists.{numbered-map}
@@ -27,7 +28,7 @@ use Rattle.mix_process.specs.Outcome.{Outcome, RaisedBy, Usage, makes, no_usage,
 use Rattle.mix_process.specs.ProcessMachine as model
 use Rattle.mix_process.specs.ProcessMachine.{ProcessMachine, process_of}
 use Rattle.mix_process.specs.Seen.{process_seen, processes_seen, state_of}
-use Rattle.mix_process.specs.Starting.{IsLastAlive, IsStarted, IsTakenBack, usage_to_start}
+use Rattle.mix_process.specs.Starting.{IsLastAlive, IsMadeOrTakenBack, IsStarted, IsTakenBack, usage_to_start}
 use Rattle.mix_process.specs.Stepping.{StepAt}
 use Rattle.mix_process.specs.Tying.{AreTied, CanCall, IsRun, none_spare}
 use Rattle.mix_process.specs.Use.{IsLack, IsWithin, usage_sum}
@@ -146,7 +147,7 @@ module _ {Manager X Chooser : Type 0} (M : GhostsOfMapper X) (G : GhostsOfGmi Ma
       abbrev k : Machine
       k = G.machine mid.gmi (M.held before)
 
-      pub may_inherit : MayInherit mid.processes.items place p
+      abbrev pub may_inherit : MayInherit mid.processes.items place p
       may_inherit = record { front = old.processes.items; child = st.starts.process; is = st.starts.table; there = there; bare = st.starts.bare }
 
       kept : AreKept m k
@@ -243,3 +244,14 @@ module _ {Manager X Chooser : Type 0} (M : GhostsOfMapper X) (G : GhostsOfGmi Ma
                 (lack_still u (usage_to_fork P) (usage_of k) (usage_of_parts p.parts.items) less t f.inherits);
             raised = raised h (usage_of (G.machine new.gmi (M.held after))) (omega (arith, w.actors, b.alike.actors)) (omega (arith, w.caches, b.alike.caches)) (omega (arith, w.regions, b.alike.regions));
           })
+
+      -- what was made is whole, or taken back
+      pub finished : (made : Result (Unit {0}) Trouble) (next : Mix Manager) (now : X) → IsInherited M G before mid old.processes.items p made now next
+          → (result : Result ProcId Trouble) (new : Mix Manager) (after : X) → IsMadeOrTakenBack M G now next made result after new
+          → MixCall M G before old (commands.Fork of) (answer_by (λ (x : ProcId). replies.Process x) result) after new
+      finished (Ok u) next now f result new after b =
+          subst (λ (r : Result ProcId Trouble). MixCall M G before old (commands.Fork of) (answer_by (λ (x : ProcId). replies.Process x) r) after new) (sym b.is)
+          (subst (λ (x : Mix Manager). MixCall M G before old (commands.Fork of) (Ok (replies.Process (record { 0 = length next.processes.items }))) after x) (sym b.same)
+          (subst (λ (y : X). MixCall M G before old (commands.Fork of) (Ok (replies.Process (record { 0 = length next.processes.items }))) y next) (sym b.mapper) (forked next now f)))
+      finished (Err t) next now f result new after b =
+          subst (λ (r : Result ProcId Trouble). MixCall M G before old (commands.Fork of) (answer_by (λ (x : ProcId). replies.Process x) r) after new) (sym b.is) (unforked t next now f result new after b)
