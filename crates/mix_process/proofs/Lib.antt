@@ -27,5 +27,6 @@ pub mod Filling
 pub mod Filled
 pub mod Fitted
 pub mod Owning
+pub mod Growing
 pub mod Starting
 pub mod Beginning
