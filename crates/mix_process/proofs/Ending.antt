@@ -207,6 +207,7 @@ renamed_able {Manager} {X} {Chooser} {G} {gmi} {images} {told} made made' proces
   most = can.most;
   tied = tied_renamed processes others r (G.machine gmi told) none_spare images can.tied;
   synchronised = can.synchronised;
+  blank = can.blank;
 }
 
 -- The exit

@@ -6,6 +6,7 @@ pub mod Lasting
 pub mod Looking
 pub mod Seeing
 pub mod Shapes
+pub mod Untold
 pub mod Pushes
 pub mod Loading
 pub mod Putting
