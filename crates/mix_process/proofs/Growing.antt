@@ -1,7 +1,8 @@
 -- How the data of a process grow.
-use Rattle.std.proofs.Common.{◌≡◌, ◌≢◌, ℕ, ◌+◌, ◌-◌, ◌*◌, ◌^◌, ◌≤◌, ◌<◌, Bool, true, false, List, [], ◌∷◌, ◌++◌, length, set, replicate, Option, Some, None, refl, sym, ap, subst, ◌∙◌, arith}
+use Rattle.std.proofs.Common.{◌≡◌, ◌≢◌, ℕ, ◌+◌, ◌-◌, ◌*◌, ◌^◌, ◌≤◌, ◌<◌, Bool, true, false, List, [], ◌∷◌, ◌++◌, length, map, set, replicate, Option, Some, None, refl, sym, ap, subst, ◌∙◌, arith}
 use Rattle.std.specs.Prelude.{Ok, Err, Result, nat_lt, option_map, slice_get}
 use Rattle.std.proofs.lemmas.Bool.Decides.{nat_tests}
+use Rattle.std.proofs.lemmas.List.{length-map, map-append}
 use Rattle.vm_ids.specs.Counting.{MapperCounts, no_counts}
 use Rattle.vm_ids.specs.Held.{Segments, segments_of}
 use Rattle.vm_ids.specs.declared.command.MixCommand.TheVariants as commands
@@ -11,7 +12,7 @@ use Rattle.vm_ids.specs.declared.reply.Reply.TheVariants as replies
 use Rattle.vm_ids.specs.declared.reply.Trouble.{Trouble}
 use Rattle.vm_ids.specs.declared.reply.Trouble.TheVariants as troubles
 use Rattle.vm_model.specs.Answering.{Answer}
-use Rattle.vm_model.specs.Machine.{Machine, Page, numbered}
+use Rattle.vm_model.specs.Machine.{Machine, Page, numbered, zero_page}
 use Rattle.vm_model.specs.Outcome.{IsNotRefused}
 use Rattle.vm_model.proofs.Parts.Lists.{numbered-map, numbered_place}
 use Rattle.vm_port.specs.declared.traits.mapper.Mapper.{Ghosts as GhostsOfMapper}
@@ -25,7 +26,7 @@ use Rattle.mix_process.specs.Outcome.{Outcome, RaisedBy, Usage, makes, usage_of,
 use Rattle.mix_process.specs.ProcessMachine as model
 use Rattle.mix_process.specs.ProcessMachine.{ProcessMachine, process_of}
 use Rattle.mix_process.specs.Seen.{pages_in, process_seen, processes_seen, state_of}
-use Rattle.mix_process.specs.Stepping.{StepAt}
+use Rattle.mix_process.specs.Stepping.{StepAt, each_of}
 use Rattle.mix_process.specs.Tying.{CanCall, IsRun}
 use Rattle.mix_process.specs.Use.{IsLack}
 use Rattle.mix_process.specs.declared.area.Area.TheVariants.{Data}
@@ -35,6 +36,7 @@ use Rattle.mix_process.specs.declared.process.Process.{Process}
 use Rattle.mix_process.proofs.Mapped.{at_place}
 use Rattle.mix_process.proofs.Seeing.{seen_length}
 use Rattle.mix_process.proofs.Single.{none_here, refused_called}
+use Rattle.mix_process.proofs.Untold.{as_untold, filled_put, filled_up, map-replicate, seen_filled, step_filled, zeros}
 
 -- The row
 
@@ -87,7 +89,7 @@ module _ {Manager X Chooser : Type 0} (M : GhostsOfMapper X) (G : GhostsOfGmi Ma
   s = processes_seen m old.processes.items old.images.items
 
   pub grow_nobody : numbered old.processes.items of.0 ≡ None → MixCall M G mapper old (commands.Grow of pages) (Err (troubles.Refused refusals.NoProcess)) mapper old
-  grow_nobody none = refused_called M G old mapper can (commands.Grow of pages) (Err (troubles.Refused refusals.NoProcess)) (λ h. grow_none s of.0 pages (none_here M G old mapper can of.0 none))
+  grow_nobody none = refused_called M G old mapper can (commands.Grow of pages) (Err (troubles.Refused refusals.NoProcess)) (λ x like h. grow_none x of.0 pages (like.nobody of.0 (none_here M G old mapper can of.0 none)))
 
   module _ (place : ℕ) (at : of.0 ≡ place + 1) (p : Process) (there : slice_get old.processes.items place ≡ Some (Some p)) where
     alive : numbered old.processes.items of.0 ≡ Some p
@@ -107,7 +109,7 @@ module _ {Manager X Chooser : Type 0} (M : GhostsOfMapper X) (G : GhostsOfGmi Ma
     data_few = run.small.data_pages
 
     pub grow_too_large : MOST_DATA < pages_in Data p.parts.items + pages → MixCall M G mapper old (commands.Grow of pages) (Err (troubles.Refused refusals.TooLarge)) mapper old
-    grow_too_large large = refused_called M G old mapper can (commands.Grow of pages) (Err (troubles.Refused refusals.TooLarge)) (λ h. grow_large s of.0 pages (process_seen m p) seen_there (omega (arith, large, many)))
+    grow_too_large large = refused_called M G old mapper can (commands.Grow of pages) (Err (troubles.Refused refusals.TooLarge)) (λ x like h. (let q = like.somebody of.0 (process_seen m p) seen_there in grow_large x of.0 pages q.0 q.1 (omega (arith, large, many, q.2))))
 
     module _ (some : 1 ≤ pages) (few : pages_in Data p.parts.items + pages ≤ MOST_DATA) where
       pub may_grow : MayAdd m old.processes.items place p Data pages None
@@ -134,9 +136,32 @@ module _ {Manager X Chooser : Type 0} (M : GhostsOfMapper X) (G : GhostsOfGmi Ma
         raised : RaisedBy (usage_to_grow pages) (usage_of m) (usage_of n)
         raised = record { actors = a.used.actors; caches = a.used.caches; regions = a.used.regions }
 
-        step : (told : Option Segments) → Adds m n told old place p Data pages None result new → StepAt told (state_of G old (M.held mapper)) (commands.Grow of pages) (done_by result) a.rises (state_of G new (M.held after))
-        step None adds = tt
-        step (Some h) adds = record {
+        filled_is : process_of (filled_up s) of.0 ≡ Some (each_of zeros (process_seen m p))
+        filled_is = numbered-map (each_of zeros) s.processes of.0 ∙ ap (option_map (each_of zeros)) seen_there
+
+        -- with zeros in place of the missing bytes
+        more_filled : each_of zeros (with_more Data (replicate pages (fresh_page None m.page_bytes)) (process_seen m p)) ≡ grown_by m.page_bytes pages (each_of zeros (process_seen m p))
+        more_filled = λ i. record (each_of zeros (process_seen m p)) {
+          data_pages = (map-append zeros (process_seen m p).data_pages (replicate pages []) ∙ ap (λ (xs : List Page). map zeros (process_seen m p).data_pages ++ xs) (map-replicate zeros pages [] ∙ ap (λ (b : ℕ). replicate pages (zero_page b)) (sym can.tied.page))) i;
+          pieces = (process_seen m p).pieces + 1;
+        }
+
+        grows_filled : (r : Result (Unit {0}) Trouble) → Adds m n None old place p Data pages None r new → GrowsTo (filled_up s) (usage_of m) of.0 pages (each_of zeros (process_seen m p)) r (filled_up next)
+        grows_filled (Ok u) adds =
+            ap filled_up (adds.seen ∙ ap (λ (k : ℕ). put_at s k (with_more Data (replicate pages (fresh_page None m.page_bytes)) (process_seen m p))) number)
+            ∙ filled_put s of.0 (Some (with_more Data (replicate pages (fresh_page None m.page_bytes)) (process_seen m p)))
+            ∙ ap (λ (q : model.Process). put_process (filled_up s) of.0 (Some q)) more_filled
+        grows_filled (Err t) adds = (ap filled_up adds.seen, adds.lack)
+
+        step : (told : Option Segments) → segments_of (M.held after) ≡ told → Adds m n told old place p Data pages None result new → StepAt told (state_of G old (M.held mapper)) (commands.Grow of pages) (done_by result) a.rises (state_of G new (M.held after))
+        step None untold adds = step_filled (segments_of (M.held mapper)) (segments_of (M.held after)) s next (usage_of m) (usage_of n) (commands.Grow of pages) (done_by result) a.rises
+            (seen_filled m old.processes.items old.images.items (as_untold (M.held mapper) (sym a.segments ∙ untold) can.blank))
+            (seen_filled n new.processes.items new.images.items (as_untold (M.held after) untold a.can.blank))
+            (λ h. record {
+              outcome = grow_outcome (filled_up s) (usage_of m) of pages (each_of zeros (process_seen m p)) filled_is (omega (arith, few, many, length-map (process_seen m p).data_pages zeros)) h a.rises result (filled_up next) (grows_filled result adds);
+              raised = raised;
+            })
+        step (Some h) told adds = record {
           outcome = grow_outcome s (usage_of m) of pages (process_seen m p) seen_there (omega (arith, few, many)) h a.rises result next (grows h result adds);
           raised = raised;
         }
@@ -148,7 +173,7 @@ module _ {Manager X Chooser : Type 0} (M : GhostsOfMapper X) (G : GhostsOfGmi Ma
           rises = a.rises;
           rose = a.rose;
           is = record {
-            step = step (segments_of (M.held after)) (subst (λ (told : Option Segments). Adds m n told old place p Data pages None result new) (sym a.segments) a.adds);
+            step = step (segments_of (M.held after)) refl (subst (λ (told : Option Segments). Adds m n told old place p Data pages None result new) (sym a.segments) a.adds);
             segments = a.segments;
           };
         }

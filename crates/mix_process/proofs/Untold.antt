@@ -1,8 +1,8 @@
 -- Steps of processes where the mapper doesn't tell what it holds.
-use Rattle.std.proofs.Common.{◌≡◌, ℕ, ◌+◌, Bool, true, false, cond, List, [], ◌∷◌, ◌++◌, length, map, set, take, replicate, Option, Some, None, refl, sym, ap, subst, ◌∙◌, arith}
+use Rattle.std.proofs.Common.{◌≡◌, ℕ, zero, suc, ◌+◌, ◌-◌, Bool, true, false, cond, List, [], ◌∷◌, ◌++◌, length, map, set, take, replicate, Option, Some, None, refl, sym, ap, subst, ◌∙◌, arith}
 use Rattle.std.specs.Prelude.{Ok, Err, IfNone, option_map}
 use Rattle.std.specs.FinMap.{empty}
-use Rattle.std.proofs.lemmas.List.{length-map, map-append, take-map}
+use Rattle.std.proofs.lemmas.List.{length-map, map-append, map-set, take-map}
 use Rattle.vm_ids.specs.Counting.{MapperCounts}
 use Rattle.vm_ids.specs.Held.{Held, Segments, segments_of}
 use Rattle.vm_ids.specs.declared.command.Command.{Command}
@@ -14,6 +14,7 @@ use Rattle.vm_model.specs.Outcome.{BlankOutcome, IsAlike, Outcome, OutcomeAt, bl
 use Rattle.vm_model.specs.PageForest.{PageForest}
 use Rattle.vm_model.proofs.Parts.Lists.{numbered-map}
 use Rattle.gmi_calls.specs.Untold.{UntoldStep}
+use Rattle.mix_process.specs.Answering.{put_process}
 use Rattle.mix_process.specs.Outcome.{Usage, usage_of}
 use Rattle.mix_process.specs.ProcessMachine as model
 use Rattle.mix_process.specs.ProcessMachine.{ProcessMachine, process_of}
@@ -36,6 +37,10 @@ then_same f g h e (x ∷ xs) = λ i. e x i ∷ then_same f g h e xs i
 some_then : {A B C : Type 0} (f : B → C) (g : A → B) (h : A → C) → ((x : A) → f (g x) ≡ h x) → (o : Option A) → option_map f (option_map g o) ≡ option_map h o
 some_then f g h e None = refl
 some_then f g h e (Some x) = ap Some (e x)
+
+pub map-replicate : {A B : Type 0} (f : A → B) (n : ℕ) (x : A) → map f (replicate n x) ≡ replicate n (f x)
+map-replicate f zero x = refl
+map-replicate f (suc n) x = ap (λ xs. f x ∷ xs) (map-replicate f n x)
 
 -- Machines without bytes
 
@@ -158,6 +163,10 @@ step_filled told now s next u v command a rises is is_next leads = record {
   alike = alike_self a;
   leads = leads no_segments;
 }
+
+-- a process is put, filled with zeros
+pub filled_put : (s : ProcessMachine) (n : ℕ) (o : Option model.Process) → filled_up (put_process s n o) ≡ put_process (filled_up s) n (option_map (each_of zeros) o)
+filled_put s n o = λ i. record (filled_up s) { processes = map-set (option_map (each_of zeros)) s.processes (n - 1) o i }
 
 -- As far as the refusals go that are found at first, one machine of processes is like another.
 pub record AreLike (s x : ProcessMachine) : Type 0 where
