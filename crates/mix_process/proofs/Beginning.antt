@@ -8,6 +8,7 @@ use Rattle.gmi_calls.specs.declared.gmi.Gmi.{Ghosts as GhostsOfGmi}
 use Rattle.mix_process.specs.Tying.{AreAble, AreSynchronised, AreTied, IsBare, none_spare}
 use Rattle.mix_process.specs.declared.mix.Image.{Image}
 use Rattle.mix_process.specs.declared.process.Process.{Process}
+use Rattle.mix_process.proofs.Untold.{blank_bare}
 
 nothing : {A : Type 0} (b : Bool) → cond b None (option_and_then {T = Option A} (λ x. x) None) ≡ None
 nothing true = refl
@@ -67,4 +68,5 @@ bare_able G gmi told page_bytes b =
       most = omega (arith, ap (λ (xs : List (Option Actor)). length xs) b.actors);
       tied = tied_bare m b.page b.caches b.actors;
       synchronised = synchronised_bare m b.page b.caches b.actors told;
+      blank = blank_bare told m b.caches;
     }

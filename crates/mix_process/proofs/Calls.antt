@@ -20,6 +20,7 @@ use Rattle.mix_process.specs.Tying.{AreAble, AreSynchronised, AreTied}
 use Rattle.mix_process.specs.declared.mix.Image.{Image}
 use Rattle.mix_process.specs.declared.process.Process.{Process}
 use Rattle.mix_process.proofs.Single.{fits_still, unlimited_still}
+use Rattle.mix_process.proofs.Untold.{blank_after}
 
 module _ {Manager X Chooser : Type 0} (G : GhostsOfGmi Manager X Chooser) (old gmi : Manager) (told : Option Held) (page : Option ℕ) (c : Command) (a : Answer) (images : List Image) (made : ℕ)
     (processes : ℕ → Option Process) (spare : ℕ → Type 0) (can : AreAble G old images told page made processes spare) (called : CallDone (meanings_of G) old c a gmi) where
@@ -55,4 +56,5 @@ module _ {Manager X Chooser : Type 0} (G : GhostsOfGmi Manager X Chooser) (old g
     most = most;
     tied = tied;
     synchronised = sync;
+    blank = blank_after told m n (G.forest old told) c a no_counts answered.outcome;
   }

@@ -31,7 +31,6 @@ use Rattle.mix_process.specs.declared.process.Part.{Part}
 use Rattle.mix_process.specs.declared.process.Process.{Process}
 use Rattle.mix_process.proofs.Clearing.{inserted_one, none_any, not_equal, run_regions}
 use Rattle.mix_process.proofs.Lists.{number_at}
-use Rattle.mix_process.proofs.Regions.{whole_shape}
 use Rattle.mix_process.proofs.Shapes.{HasShape, blank_at, emptied, mapped_some}
 use Rattle.mix_process.proofs.Temporary.{no_name}
 

@@ -6,6 +6,7 @@ pub mod Lasting
 pub mod Looking
 pub mod Seeing
 pub mod Shapes
+pub mod Untold
 pub mod Pushes
 pub mod Loading
 pub mod Putting
@@ -28,6 +29,7 @@ pub mod Filling
 pub mod Filled
 pub mod Fitted
 pub mod Owning
+pub mod Growing
 pub mod Starting
 pub mod Beginning
 pub mod Passing

@@ -203,6 +203,7 @@ module _ {Manager X Chooser : Type 0} (G : GhostsOfGmi Manager X Chooser) (told 
           most = able.most;
           tied = tied_put old.processes.items place p put.now may.room.there (alike_of put.now put.actor put.parts_now) m spare old.images.items able.tied;
           synchronised = able.synchronised;
+          blank = able.blank;
         });
         put = put;
         machine = ap (λ (g : Manager). G.machine g told) gmi;

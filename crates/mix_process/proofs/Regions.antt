@@ -26,7 +26,7 @@ use Rattle.mix_process.specs.declared.process.Part.{Part}
 use Rattle.mix_process.specs.declared.process.Process.{Process}
 use Rattle.mix_process.specs.Adding.{most_of}
 use Rattle.mix_process.proofs.Mapping.{none_overlaps}
-use Rattle.mix_process.proofs.Shapes.{HasShape, blank_shape, part_like, run_like, shape_back}
+use Rattle.mix_process.proofs.Shapes.{HasShape, part_like, run_like, whole_shape}
 
 -- It is mapped.
 pub record IsRegionMade (m : Machine) (actor : ℕ) (regions : Actor) (mapping : Mapping) (answer : Answer) (next : Machine) : Type 0 where
@@ -130,13 +130,8 @@ memory_alike b h = sym h
 many_alike : (b : Answer) → IsAlike (Err (troubles.Refused refusals.TooMany)) b → b ≡ Err (troubles.Refused refusals.TooMany)
 many_alike b h = sym h
 
--- a machine that is this one but for its bytes
-module _ (m w : Machine) (is : m ≡ blank w) where
-  pub whole_shape : HasShape m w
-  whole_shape = subst (λ (x : Machine). HasShape x w) (sym is) (shape_back w (blank w) (blank_shape w))
-
-  pub regions_whole : w.regions_made ≡ m.regions_made
-  regions_whole = sym (ap (λ (x : Machine). x.regions_made) is)
+regions_whole : (m w : Machine) → m ≡ blank w → w.regions_made ≡ m.regions_made
+regions_whole m w is = sym (ap (λ (x : Machine). x.regions_made) is)
 
 mapped_blank : (m w next wn : Machine) (actor : ℕ) (regions : Actor) (at : Mapping) (a b : Answer) → m ≡ blank w → next ≡ blank wn → IsAlike a b → Maps w actor regions at a wn → Maps m actor regions at b next
 mapped_blank m w next wn actor regions at a b is is_next alike (inl r) = inl (record {

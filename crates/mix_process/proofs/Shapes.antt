@@ -70,6 +70,10 @@ blank_shape w = record {
       (x.0, x.1, record { segment = ap (λ (c : Cache). c.segment) x.2; many = sym (length-map x.0.pages emptied) ∙ ap (λ (c : Cache). length c.pages) x.2 }));
 }
 
+-- a machine that is this one but for its bytes
+pub whole_shape : (m w : Machine) → m ≡ blank w → HasShape m w
+whole_shape m w is = subst (λ (x : Machine). HasShape x w) (sym is) (shape_back w (blank w) (blank_shape w))
+
 blank_of : (o : Option Cache) → option_map_or (λ (c : Cache). c.pages) (option_map blank_cache o) [] ≡ map (λ _. []) (option_map_or (λ (c : Cache). c.pages) o [])
 blank_of None = refl
 blank_of (Some c) = refl

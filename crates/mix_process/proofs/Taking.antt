@@ -31,6 +31,7 @@ use Rattle.mix_process.proofs.Destroying.{get_snoc}
 use Rattle.mix_process.proofs.Lists.{get_append, get_last, number_at}
 use Rattle.mix_process.proofs.Putting.{all_at}
 use Rattle.mix_process.proofs.Shapes.{blank_live, emptied}
+use Rattle.mix_process.proofs.Untold.{map-replicate}
 
 -- The row
 
@@ -75,10 +76,6 @@ module _ (h : Segments) where
   temp_outcome m f pages (Err (troubles.Refused r)) next rises o = temp_row m pages (Err (troubles.Refused r)) next o
   temp_outcome m f pages (Err (troubles.Mapper at)) next rises o = absurd o.2
   temp_outcome m f pages (Err troubles.Memory) next rises o = inr (record { next_is = o.0; why = inl refl })
-
-map-replicate : {A B : Type 0} (f : A → B) (n : ℕ) (x : A) → map f (replicate n x) ≡ replicate n (f x)
-map-replicate f zero x = refl
-map-replicate f (suc n) x = ap (λ xs. f x ∷ xs) (map-replicate f n x)
 
 cache_alike : (number : ℕ) (b : Answer) → IsAlike (Ok (replies.Cache (record { 0 = number }))) b → b ≡ Ok (replies.Cache (record { 0 = number }))
 cache_alike number b h = sym h
