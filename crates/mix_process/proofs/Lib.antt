@@ -42,3 +42,4 @@ pub mod Copied
 pub mod Counts
 pub mod Inheriting
 pub mod Forking
+pub mod Executing

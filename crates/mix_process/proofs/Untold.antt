@@ -146,7 +146,7 @@ alike_self : (a : Answer) → IsAlike a a
 alike_self (Ok (replies.Bytes bytes)) = refl
 alike_self a = refl
 
-abbrev no_segments : Segments
+abbrev pub no_segments : Segments
 no_segments = record { pages = empty; denied = [] }
 
 -- a step of states filled with zeros

@@ -8,6 +8,7 @@ pub mod Use
 pub mod Inner
 pub mod Starting
 pub mod Adding
+pub mod Loaded
 pub mod Copying
 pub mod Calling
 pub mod Rows
