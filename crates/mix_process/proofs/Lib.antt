@@ -29,5 +29,6 @@ pub mod Filled
 pub mod Fitted
 pub mod Owning
 pub mod Growing
+pub mod Booting
 pub mod Starting
 pub mod Beginning

@@ -7,6 +7,7 @@ pub mod Tying
 pub mod Use
 pub mod Inner
 pub mod Adding
+pub mod Loaded
 pub mod Calling
 pub mod Rows
 pub mod Laws

@@ -8,6 +8,7 @@ ghost use Rattle.gmi_calls.specs.Calling.{done_by};
 ghost use Rattle.mix_process.specs.Adding.{FillsAndMaps, HasSpare, IsAdded, IsFilled, IsSourceOf, MapsInto, MapsPart, MayAdd, MayFill, MayMap};
 ghost use Rattle.mix_process.specs.Calling.{MixCall, beginning, made_by};
 ghost use Rattle.mix_process.specs.Inner.{AreApart, AreCleared, AreOwn, IsEnded, own_pages, spare_of, with_extra};
+ghost use Rattle.mix_process.specs.Loaded.{IsLoaded, MayLoad};
 ghost use Rattle.mix_process.specs.declared.process.Process.{Process};
 ghost use Rattle.mix_process.specs.Seen.{pages_in, state_of};
 ghost use Rattle.mix_process.specs.declared.area.Area.TheVariants.{Data};
@@ -320,6 +321,14 @@ impl<G> Mix<G> {
     ) -> Result<(), Trouble>
     where
         G: Gmi<M, C>,
+        requires can { CanCall G.Gmi self.old (M.held mapper.old) (M.page_bytes mapper.old) }
+        requires may { MayLoad (G.machine self.old.gmi (M.held mapper.old))
+            self.old.processes.items text data_pages stack_pages }
+        requires made { G.made self.old.gmi ≤ 2 ^ 61 + 2 ^ 29 }
+        ensures { (may : MayLoad (G.machine self.old.gmi (M.held mapper.old))
+            self.old.processes.items text data_pages stack_pages)
+            → IsLoaded M.Mapper G.Gmi mapper.old self.old may.front text data_pages stack_pages
+            result mapper.new self.new }
     {
         let place = self.processes.len() - 1;
         let behind = Some((text.cache, PageNo(text.pages)));
