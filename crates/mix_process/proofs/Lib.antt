@@ -15,6 +15,7 @@ pub mod Single
 pub mod Temporary
 pub mod Clearing
 pub mod Able
+pub mod Calls
 pub mod Destroying
 pub mod Ending
 pub mod Taking
@@ -32,3 +33,13 @@ pub mod Growing
 pub mod Booting
 pub mod Starting
 pub mod Beginning
+pub mod Passing
+pub mod Imaging
+pub mod Keeping
+pub mod Images
+pub mod Begun
+pub mod Back
+pub mod Copied
+pub mod Counts
+pub mod Inheriting
+pub mod Forking

@@ -54,7 +54,7 @@ region_lies (more before rs p r rest is) k x e = elim (inserted_one r rs k x e) 
   | inr f ↦ lies_more before p x (region_lies rest f.0 x f.1)
 ]
 
-small_in : (parts : List Part) → IsSmall parts → (a : Area) → pages_in a parts ≤ most_of a
+pub small_in : (parts : List Part) → IsSmall parts → (a : Area) → pages_in a parts ≤ most_of a
 small_in parts small Text = small.text
 small_in parts small Data = small.data_pages
 small_in parts small Stack = small.stack

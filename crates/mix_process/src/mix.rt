@@ -1,14 +1,16 @@
 // The processes, and the calls of them.
-ghost use Rattle.std.specs.Prelude.{◌≡◌, ℕ, Option, ◌≤◌, ◌+◌, ◌-◌, ◌*◌, ◌^◌, [], length, slice_set, None, Some, IfErr, IfNone, IfOk, IfSome, OnErr, slice_get};
+ghost use Rattle.std.specs.Prelude.{◌≡◌, ℕ, Option, ◌≤◌, ◌<◌, ◌+◌, ◌-◌, ◌*◌, ◌^◌, [], length, option_map, slice_get, slice_set, None, Some, IfErr, IfNone, IfOk, IfSome, OnErr};
 ghost use Rattle.vm_ids.specs.Held.{Held, segments_of};
 ghost use Rattle.vm_ids.specs.declared.refusal.Refusal.TheVariants.{NoProcess};
 ghost use Rattle.vm_model.specs.Answering.{answer_by};
-ghost use Rattle.vm_model.specs.Machine.{numbered};
+ghost use Rattle.vm_model.specs.Machine.{Cache, cache_of, numbered};
 ghost use Rattle.gmi_calls.specs.Calling.{done_by};
 ghost use Rattle.mix_process.specs.Adding.{FillsAndMaps, HasSpare, IsAdded, IsFilled, IsSourceOf, MapsInto, MapsPart, MayAdd, MayFill, MayMap};
 ghost use Rattle.mix_process.specs.Calling.{MixCall, beginning, made_by};
+ghost use Rattle.mix_process.specs.Copying.{IsCopied, IsInherited, MayCopy, MayInherit};
 ghost use Rattle.mix_process.specs.Inner.{AreApart, AreCleared, AreOwn, IsEnded, own_pages, spare_of, with_extra};
 ghost use Rattle.mix_process.specs.Loaded.{IsLoaded, MayLoad};
+ghost use Rattle.mix_process.specs.Starting.{Checks, IsLastAlive, IsMadeOrTakenBack, IsOpened, IsStarted, as_bad_image, image_for};
 ghost use Rattle.mix_process.specs.declared.process.Process.{Process};
 ghost use Rattle.mix_process.specs.Seen.{pages_in, state_of};
 ghost use Rattle.mix_process.specs.declared.area.Area.TheVariants.{Data};
@@ -276,9 +278,13 @@ impl<G> Mix<G> {
     ) -> Result<CacheId, Trouble>
     where
         G: Gmi<M, C>,
+        requires can { CanCall G.Gmi self.old (M.held mapper.old) (M.page_bytes mapper.old) }
+        requires made { G.made self.old.gmi ≤ 2 ^ 62 }
+        ensures { IsOpened M.Mapper G.Gmi mapper.old self.old seg result mapper.new self.new }
     {
-        if let Some(cache) = cache_for(&self.images, seg) {
-            return Ok(cache);
+        match cache_for(&self.images, seg) {
+            Some(cache) => return Ok(cache),
+            None => {}
         }
         self.images.reserve(1)?;
         let cache = self.gmi.open_segment(seg, mapper)?;
@@ -290,11 +296,14 @@ impl<G> Mix<G> {
     fn check_image<M: Mapper, C: Chooser>(&self, image: CacheId, pages: u32) -> Result<(), Trouble>
     where
         G: Gmi<M, C>,
+        requires { 1 ≤ pages }
+        ensures { (told : Option Held) → G.valid self.now.gmi told → G.room self.now.gmi ≡ None
+            → (cache : Cache) → cache_of (G.machine self.now.gmi told) image.0 ≡ Some cache
+            → Checks cache.pages pages result }
     {
         match self.gmi.chain(image, PageNo(pages - 1)) {
             Ok(_) => Ok(()),
-            Err(Trouble::Refused(_)) => Err(Trouble::Refused(Refusal::BadImage)),
-            Err(trouble) => Err(trouble),
+            Err(trouble) => Err(bad_image(trouble)),
         }
     }
 
@@ -302,6 +311,10 @@ impl<G> Mix<G> {
     fn make_process<M: Mapper, C: Chooser>(&mut self) -> Result<(), Trouble>
     where
         G: Gmi<M, C>,
+        requires valid { (told : Option Held) × G.valid self.old.gmi told }
+        requires made { G.made self.old.gmi ≤ 2 ^ 62 }
+        ensures { (told : Option Held) (page_bytes : Option ℕ) → CanCall G.Gmi self.old told page_bytes
+            → IsStarted G.Gmi told page_bytes self.old result self.new }
     {
         self.processes.reserve(1)?;
         let actor = self.gmi.make_actor()?;
@@ -346,24 +359,55 @@ impl<G> Mix<G> {
     ) -> Result<(), Trouble>
     where
         G: Gmi<M, C>,
+        requires can { CanCall G.Gmi self.old (M.held mapper.old) (M.page_bytes mapper.old) }
+        requires may { (process : Process) × MayInherit self.old.processes.items parent process }
+        requires made { G.made self.old.gmi ≤ 2 ^ 61 + 2 ^ 29 }
+        ensures { (process : Process) (may : MayInherit self.old.processes.items parent process)
+            → IsInherited M.Mapper G.Gmi mapper.old self.old may.front process result mapper.new
+            self.new }
     {
         let place = self.processes.len() - 1;
         let mut next = 0;
         while let Some(part) = self.part_of(parent, next) {
-            match part.area {
-                Area::Text => self.map_part(place, part)?,
-                _ => {
-                    let source = Some((part.cache, PageNo(0)));
-                    self.add_own(place, part.area, part.pages, source, mapper, chooser)?;
-                }
-            }
+            self.copy_part(place, part, mapper, chooser)?;
             next += 1;
         }
         Ok(())
     }
 
+    // A process gets what this part of another has.
+    fn copy_part<M: Mapper, C: Chooser>(
+        &mut self,
+        place: usize,
+        part: Part,
+        mapper: &mut M,
+        chooser: &mut C,
+    ) -> Result<(), Trouble>
+    where
+        G: Gmi<M, C>,
+        requires can { CanCall G.Gmi self.old (M.held mapper.old) (M.page_bytes mapper.old) }
+        requires may { (process : Process) × MayCopy (G.machine self.old.gmi (M.held mapper.old))
+            self.old.processes.items place process part }
+        requires made { G.made self.old.gmi ≤ 2 ^ 61 + 2 ^ 30 }
+        ensures { (process : Process) → MayCopy (G.machine self.old.gmi (M.held mapper.old))
+            self.old.processes.items place process part
+            → IsCopied M.Mapper G.Gmi mapper.old self.old place process part result mapper.new
+            self.new }
+    {
+        if may_write(part.area) {
+            let source = Some((part.cache, PageNo(0)));
+            self.add_own(place, part.area, part.pages, source, mapper, chooser)
+        } else {
+            self.map_part(place, part)
+        }
+    }
+
     // A part of a process.
-    fn part_of(&self, place: usize, part: usize) -> Option<Part> {
+    fn part_of(&self, place: usize, part: usize) -> Option<Part>
+        requires { place < length self.now.processes.items }
+        ensures { IfSome (numbered self.now.processes.items (place + 1))
+            (λ p. result ≡ slice_get p.parts.items part) }
+    {
         match &self.processes[place] {
             Some(process) => process.parts.get(part).copied(),
             None => None,
@@ -479,12 +523,18 @@ impl<G> Mix<G> {
     ) -> Result<ProcId, Trouble>
     where
         G: Gmi<M, C>,
+        requires can { CanCall G.Gmi self.old (M.held mapper.old) (M.page_bytes mapper.old) }
+        requires made { G.made self.old.gmi ≤ 2 ^ 61 + 2 ^ 30 }
+        requires last { IsLastAlive self.old.processes.items }
+        ensures { IsMadeOrTakenBack M.Mapper G.Gmi mapper.old self.old made result mapper.new
+            self.new }
     {
         match made {
             Ok(()) => Ok(ProcId(self.processes.len() as u32)),
             Err(trouble) => {
-                if let Some(Some(process)) = self.processes.pop() {
-                    self.end(process, mapper, chooser);
+                match self.processes.pop() {
+                    Some(Some(process)) => self.end(process, mapper, chooser),
+                    _ => unreachable!(),
                 }
                 Err(trouble)
             }
@@ -567,8 +617,20 @@ fn take(processes: &mut [Option<Process>], of: ProcId) -> Option<Process>
     processes[of.0 as usize - 1].take()
 }
 
+// What a segment's cache refuses is a bad image.
+fn bad_image(trouble: Trouble) -> Trouble
+    ensures { result ≡ as_bad_image trouble }
+{
+    match trouble {
+        Trouble::Refused(_) => Trouble::Refused(Refusal::BadImage),
+        trouble => trouble,
+    }
+}
+
 // The cache of a segment among these.
-fn cache_for(images: &[Image], seg: SegId) -> Option<CacheId> {
+fn cache_for(images: &[Image], seg: SegId) -> Option<CacheId>
+    ensures { result ≡ option_map (λ i. i.cache) (image_for images.now seg.0) }
+{
     for image in images {
         if image.seg == seg {
             return Some(image.cache);
