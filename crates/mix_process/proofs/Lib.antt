@@ -22,7 +22,6 @@ pub mod Taking
 pub mod Mapping
 pub mod Regions
 pub mod Using
-pub mod Calls
 pub mod Joining
 pub mod Mapped
 pub mod Filling
