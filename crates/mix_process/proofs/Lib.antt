@@ -22,7 +22,6 @@ pub mod Taking
 pub mod Mapping
 pub mod Regions
 pub mod Using
-pub mod Calls
 pub mod Joining
 pub mod Mapped
 pub mod Filling
@@ -30,6 +29,7 @@ pub mod Filled
 pub mod Fitted
 pub mod Owning
 pub mod Growing
+pub mod Booting
 pub mod Starting
 pub mod Beginning
 pub mod Passing

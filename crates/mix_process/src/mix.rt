@@ -10,6 +10,7 @@ ghost use Rattle.mix_process.specs.Answering.{is_too_large};
 ghost use Rattle.mix_process.specs.Calling.{MixCall, beginning, made_by};
 ghost use Rattle.mix_process.specs.Copying.{IsCopied, IsInherited, MayCopy, MayInherit};
 ghost use Rattle.mix_process.specs.Inner.{AreApart, AreCleared, AreOwn, IsEnded, own_pages, spare_of, with_extra};
+ghost use Rattle.mix_process.specs.Loaded.{IsLoaded, MayLoad};
 ghost use Rattle.mix_process.specs.Starting.{Checks, IsLastAlive, IsMadeOrTakenBack, IsOpened, IsStarted, as_bad_image, image_for};
 ghost use Rattle.mix_process.specs.declared.process.Process.{Process};
 ghost use Rattle.mix_process.specs.Loaded.{IsLoaded, MayLoad};
