@@ -43,3 +43,4 @@ pub mod Counts
 pub mod Inheriting
 pub mod Forking
 pub mod Executing
+pub mod Executed

@@ -13,7 +13,6 @@ ghost use Rattle.mix_process.specs.Inner.{AreApart, AreCleared, AreOwn, IsEnded,
 ghost use Rattle.mix_process.specs.Loaded.{IsLoaded, MayLoad};
 ghost use Rattle.mix_process.specs.Starting.{Checks, IsLastAlive, IsMadeOrTakenBack, IsOpened, IsStarted, as_bad_image, image_for};
 ghost use Rattle.mix_process.specs.declared.process.Process.{Process};
-ghost use Rattle.mix_process.specs.Loaded.{IsLoaded, MayLoad};
 ghost use Rattle.mix_process.specs.Seen.{pages_in, state_of};
 ghost use Rattle.mix_process.specs.declared.area.Area.TheVariants.{Data};
 ghost use Rattle.mix_process.specs.Tying.{AreAble, CanCall, IsBare, none_spare};

@@ -1,2 +1,2 @@
-use Rattle.mix_process.proofs.Executing.{process_filled}
+use Rattle.mix_process.proofs.Executed.{large}
 use Rattle.mix_process.proofs.mix.Mix.exec.Goals as goal
