@@ -27,12 +27,12 @@ use Rattle.gmi_calls.proofs.Rising.{rise_none, rise_then}
 use Rattle.mix_process.specs.Adding.{AreKept, fresh_page, put_at}
 use Rattle.mix_process.specs.Answering.{is_too_large, process_from, with_image}
 use Rattle.mix_process.specs.Calling.{MixCall}
-use Rattle.mix_process.specs.Loaded.{IsLoaded, MayLoad, loaded, usage_to_load}
+use Rattle.mix_process.specs.Loaded.{IsLoaded, MayLoad, load_budget, loaded, usage_to_load}
 use Rattle.mix_process.specs.Outcome.{RaisedBy, Usage, usage_for, usage_of}
 use Rattle.mix_process.specs.ProcessMachine as model
 use Rattle.mix_process.specs.ProcessMachine.{ProcessMachine, image_of}
 use Rattle.mix_process.specs.Seen.{cache_pages, process_seen, processes_seen, state_of}
-use Rattle.mix_process.specs.Starting.{Checks, HasImage, HoldsIn, IsLastAlive, IsMadeOrTakenBack, IsOpened, IsStarted, IsTakenBack, IsUnopened, LacksImage, image_for, usage_to_open, usage_to_start}
+use Rattle.mix_process.specs.Starting.{Checks, HasImage, HoldsIn, IsLastAlive, IsMadeOrTakenBack, IsOpened, IsStarted, IsTakenBack, IsUnopened, LacksImage, open_budget, start_budget, usage_to_start}
 use Rattle.mix_process.specs.Stepping.{StepAt, StepOver, State, each_of, each_page, forget, no_bytes}
 use Rattle.mix_process.specs.Tying.{AreSynchronised, CanCall, IsImageCache}
 use Rattle.mix_process.specs.Use.{IsLack, IsWithin, usage_sum}
@@ -56,6 +56,10 @@ alive_one a = cond (is_some a) 1 0
 
 fit_sizes : (text data_pages stack : ℕ) → is_too_large text data_pages stack ≡ false → (text ≤ 1024) × (data_pages ≤ 65536) × (stack ≤ 1024)
 fit_sizes text data_pages stack e = (grind (arith, nat_tests), grind (arith, nat_tests), grind (arith, nat_tests))
+
+-- what the parts of an exec may raise leaves room for the rest
+made_sum : (a b c d : ℕ) → a ≤ 2 ^ 61 → b ≤ a + open_budget → c ≤ b + start_budget → d ≤ c + load_budget → d ≤ 2 ^ 61 + 2 ^ 30
+made_sum a b c d f g h i = omega (arith, f, g, h, i)
 
 -- a step of states filled with zeros, for these segments
 step_with : (h : Segments) (told now : Option Segments) (s next : ProcessMachine) (u v : Usage) (command : MixCommand) (a : Answer) (rises : MapperCounts) → s ≡ each_page no_bytes (filled_up s) → next ≡ each_page no_bytes (filled_up next)
@@ -349,6 +353,9 @@ module _ {Manager X Chooser : Type 0} (M : GhostsOfMapper X) (G : GhostsOfGmi Ma
         module _ (made : Result (Unit {0}) Trouble) (next : Mix Manager) (now : X) (f : IsLoaded M G after started mid.processes.items text_part data_pages stack made now next) where
           pub last_alive : IsLastAlive next.processes.items
           last_alive = record { front = mid.processes.items; process = f.child; is = f.table }
+
+          pub made_now : G.made old.gmi ≤ 2 ^ 61 → G.made next.gmi ≤ 2 ^ 61 + 2 ^ 30
+          made_now h = made_sum (G.made old.gmi) (G.made mid.gmi) (G.made started.gmi) (G.made next.gmi) h op.made st.made f.made
 
           raise_now : RaisedBy (usage_for 3 0) u (usage_of (G.machine next.gmi (M.held now)))
           raise_now = let a = begun_usage in let b = f.used in let w = op.opens.used in record {

@@ -1,6 +1,6 @@
 use Rattle.std.proofs.Common.{arith, sym, ap, ◌∙◌}
 use Rattle.std.proofs.lemmas.Result.{err_from_is_err_and}
-use Rattle.mix_process.proofs.Executed.{finished, image_cache, large, last_alive, may_load, not_begun, not_checked, not_opened}
+use Rattle.mix_process.proofs.Executed.{finished, image_cache, large, last_alive, made_now, may_load, not_begun, not_checked, not_opened}
 use Rattle.mix_process.proofs.mix.Mix.exec.Goals as goal
 
 pub returns-then-is_too_large : goal.returns-then-is_too_large
@@ -49,8 +49,8 @@ made_or_taken_back-requires-clause-made g c =
     let cache = image_cache g.M.Mapper g.G.Gmi c.args.self.now c.args.mapper.now c.requires.can c.args.seg c.args.text_pages c.args.data_pages c.args.stack_pages (sym c.if-is_too_large.ensures) _ _ c.in_ok-image.image opened in
     let checked = rw c.in_ok-check_image.was at (c.check_image.ensures (g.M.Mapper.held c.open_image.new.mapper) opened.can.valid opened.can.unlimited cache.0 cache.1) in
     let begun = rw c.in_ok-make_process.was at (c.make_process.ensures (g.M.Mapper.held c.open_image.new.mapper) (g.M.Mapper.page_bytes c.open_image.new.mapper) opened.can) in
-    let loaded = c.load_image-made.ensures (may_load g.M.Mapper g.G.Gmi c.args.self.now c.args.mapper.now c.requires.can c.args.seg c.args.text_pages c.args.data_pages c.args.stack_pages (sym c.if-is_too_large.ensures) _ _ c.in_ok-image.image opened checked c.requires.text c.requires.some c.requires.stack _ begun) in
-    omega (arith, opened.made, begun.made, loaded.made, c.requires.made)
+    made_now g.M.Mapper g.G.Gmi c.args.self.now c.args.mapper.now c.requires.can c.args.seg c.args.text_pages c.args.data_pages c.args.stack_pages (sym c.if-is_too_large.ensures) _ _ c.in_ok-image.image opened checked c.requires.text c.requires.some c.requires.stack _ begun _ _ _
+    (c.load_image-made.ensures (may_load g.M.Mapper g.G.Gmi c.args.self.now c.args.mapper.now c.requires.can c.args.seg c.args.text_pages c.args.data_pages c.args.stack_pages (sym c.if-is_too_large.ensures) _ _ c.in_ok-image.image opened checked c.requires.text c.requires.some c.requires.stack _ begun)) c.requires.made
 
 pub made_or_taken_back-requires-clause-last : goal.made_or_taken_back-requires-clause-last
 made_or_taken_back-requires-clause-last g c =
