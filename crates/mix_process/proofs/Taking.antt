@@ -97,10 +97,12 @@ taken_blank h m w next wn pages a b is is_next alike (inr l) = inr (record {
   next_is = is_next ∙ ap blank l.next_is ∙ sym is;
   why = elim l.why [
     | inl e ↦ inl (alike_memory a b e alike)
-    | inr e ↦ inr (alike_many a b e.0 alike,
-        ap (λ (x : Machine). is_full x pages) is
-        ∙ (λ i. nat_le MOST_MADE (length-map w.caches (option_map blank_cache) i) || nat_lt LIVE_PAGES (blank_live w i + pages))
-        ∙ e.1)
+    | inr e ↦ inr (
+      alike_many a b e.0 alike,
+      ap (λ (x : Machine). is_full x pages) is
+          ∙ (λ i. nat_le MOST_MADE (length-map w.caches (option_map blank_cache) i) || nat_lt LIVE_PAGES (blank_live w i + pages))
+          ∙ e.1,
+    )
   ];
 })
 
