@@ -42,3 +42,5 @@ pub mod Copied
 pub mod Counts
 pub mod Inheriting
 pub mod Forking
+pub mod Executing
+pub mod Executed

@@ -142,11 +142,11 @@ forget_filled s = λ i. record s {
 pub seen_filled : (m : Machine) (table : List (Option Process)) (images : List Image) → m ≡ blank m → processes_seen m table images ≡ each_page no_bytes (filled_up (processes_seen m table images))
 seen_filled m table images is = ap (λ (x : Machine). processes_seen x table images) is ∙ seen_blank m table images ∙ sym (forget_filled (processes_seen m table images))
 
-alike_self : (a : Answer) → IsAlike a a
+pub alike_self : (a : Answer) → IsAlike a a
 alike_self (Ok (replies.Bytes bytes)) = refl
 alike_self a = refl
 
-abbrev no_segments : Segments
+abbrev pub no_segments : Segments
 no_segments = record { pages = empty; denied = [] }
 
 -- a step of states filled with zeros

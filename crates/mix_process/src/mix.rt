@@ -6,6 +6,7 @@ ghost use Rattle.vm_model.specs.Answering.{answer_by};
 ghost use Rattle.vm_model.specs.Machine.{Cache, cache_of, numbered};
 ghost use Rattle.gmi_calls.specs.Calling.{done_by};
 ghost use Rattle.mix_process.specs.Adding.{FillsAndMaps, HasSpare, IsAdded, IsFilled, IsSourceOf, MapsInto, MapsPart, MayAdd, MayFill, MayMap};
+ghost use Rattle.mix_process.specs.Answering.{is_too_large};
 ghost use Rattle.mix_process.specs.Calling.{MixCall, beginning, made_by};
 ghost use Rattle.mix_process.specs.Copying.{IsCopied, IsInherited, MayCopy, MayInherit};
 ghost use Rattle.mix_process.specs.Inner.{AreApart, AreCleared, AreOwn, IsEnded, own_pages, spare_of, with_extra};
@@ -86,7 +87,7 @@ impl<G> Mix<G> {
             (MixCommand.Exec seg text_pages data_pages stack_pages) (answer_by Reply.Process result)
             mapper.new self.new }
     {
-        if text_pages > MOST_TEXT || data_pages > MOST_DATA || stack_pages > MOST_STACK {
+        if is_too_large(text_pages, data_pages, stack_pages) {
             return Err(Trouble::Refused(Refusal::TooLarge));
         }
         let image = self.open_image(seg, mapper)?;
@@ -617,6 +618,13 @@ fn take(processes: &mut [Option<Process>], of: ProcId) -> Option<Process>
         return None;
     }
     processes[of.0 as usize - 1].take()
+}
+
+// Whether an area of a process would be longer than one may be.
+fn is_too_large(text_pages: u32, data_pages: u32, stack_pages: u32) -> bool
+    ensures { result ≡ is_too_large text_pages data_pages stack_pages }
+{
+    text_pages > MOST_TEXT || data_pages > MOST_DATA || stack_pages > MOST_STACK
 }
 
 // What a segment's cache refuses is a bad image.
