@@ -18,7 +18,6 @@ nothing false = refl
 no_number : {A : Type 0} (xs : List (Option A)) (n : ℕ) (x : A) → xs ≡ [] → numbered xs n ≡ Some x → ⊥
 no_number {A} xs n x none e = let wrong : Some x ≡ None = sym e ∙ ap (λ (ys : List (Option A)). numbered ys n) none ∙ nothing {A = A} (n == 0) in absurd (cc wrong)
 
-
 module _ (m : Machine) (page : m.page_bytes ≡ 4096) (caches : m.caches ≡ []) (actors : m.actors ≡ []) where
   abbrev none : ℕ → Option Process
   none n = let xs : List (Option Process) = [] in numbered xs n

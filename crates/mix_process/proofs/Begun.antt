@@ -178,8 +178,8 @@ module _ {Manager X Chooser : Type 0} (G : GhostsOfGmi Manager X Chooser) (old :
           made = raised_start m n (G.made old.gmi) (G.made gmi) (ap live_pages h.next_is) (made_less (Ok (replies.Actor process.actor)) a_is);
           starts = record { process = process; table = longer; bare = bare; machine = h.next_is };
         }
+    -- no memory for its entry
 
-  -- no memory for its entry
 pub no_room : {Manager X Chooser : Type 0} (G : GhostsOfGmi Manager X Chooser) (old : Mix Manager) (told : Option Held) (page_bytes : Option ℕ) (can : CanCall G old told page_bytes)
     (table : Vec (Option Process) Global) → table.items ≡ old.processes.items → IsStarted G told page_bytes old (Err troubles.Memory) (record old { processes = table })
 no_room G old told page_bytes can table same = record {

@@ -29,6 +29,7 @@ use Rattle.mix_process.specs.declared.process.Part.{Part}
 use Rattle.mix_process.specs.declared.process.Process.{Process}
 use Rattle.mix_process.proofs.Able.{respared}
 use Rattle.mix_process.proofs.Fitted.{cache_few}
+use Rattle.mix_process.proofs.Inheriting.{set_again, set_last}
 use Rattle.mix_process.proofs.Joining.{map_place}
 use Rattle.mix_process.proofs.Lists.{get_last}
 use Rattle.mix_process.proofs.Looking.{pages-append}
@@ -38,17 +39,8 @@ use Rattle.mix_process.proofs.Using.{lack_still}
 
 -- Lists
 
-set_end : {A : Type 0} (xs : List A) (x y : A) → set (xs ++ x ∷ []) (length xs) y ≡ xs ++ y ∷ []
-set_end [] x y = refl
-set_end (z ∷ xs) x y = ap (λ zs. z ∷ zs) (set_end xs x y)
-
-set_twice : {A : Type 0} (xs : List A) (k : ℕ) (x y : A) → set (set xs k x) k y ≡ set xs k y
-set_twice [] k x y = refl
-set_twice (z ∷ xs) zero x y = refl
-set_twice (z ∷ xs) (suc k) x y = ap (λ zs. z ∷ zs) (set_twice xs k x y)
-
 put_twice : (s : ProcessMachine) (k : ℕ) (p q : model.Process) → put_at (put_at s k p) k q ≡ put_at s k q
-put_twice s k p q = λ i. record s { processes = set_twice s.processes k (Some p) (Some q) i }
+put_twice s k p q = λ i. record s { processes = set_again s.processes k (Some p) (Some q) i }
 
 one_more : (a : Area) (parts : List Part) (p : Part) (b : Bool) → same_area p.area a ≡ b → pages_in a (parts ++ p ∷ []) ≡ pages_in a parts + cond b p.pages 0
 one_more a parts p b e =
@@ -93,7 +85,7 @@ module _ {Manager X Chooser : Type 0} (M : GhostsOfMapper X) (G : GhostsOfGmi Ma
       → IsSoFar M G before old front (usage_sum more (usage_to_grow pages)) (budget + own_budget o source pages) after new q
   further result after new a q processes images = record {
     can = a.can;
-    table = processes ∙ ap (λ (xs : List (Option Process)). set xs (length front) (Some q)) f.table ∙ set_end front (Some child) (Some q);
+    table = processes ∙ ap (λ (xs : List (Option Process)). set xs (length front) (Some q)) f.table ∙ set_last front (Some child) (Some q) (length front) refl;
     images = images ∙ f.images;
     kept = λ k c e. a.kept k c (f.kept k c e);
     used = record {
@@ -171,7 +163,7 @@ module _ {Manager X Chooser : Type 0} (M : GhostsOfMapper X) (G : GhostsOfGmi Ma
   no_text t new i = record {
     can = respared (numbered new.processes.items) (spare_of (text ∷ [])) none_spare i.able (λ k sp. not_own (spare_only text k sp).0) (λ k none. absurd none);
     child = i.put.now;
-    table = i.put.processes ∙ ap (λ (xs : List (Option Process)). set xs last (Some i.put.now)) may.is ∙ set_end front (Some may.child) (Some i.put.now);
+    table = i.put.processes ∙ ap (λ (xs : List (Option Process)). set xs last (Some i.put.now)) may.is ∙ set_last front (Some may.child) (Some i.put.now) (length front) refl;
     images = i.put.images;
     loads = lack_still (usage_of m) (usage_to_load data_pages stack) (usage_of m) usage_to_map (record { living = omega arith; actors = omega arith; caches = omega arith; regions = omega arith; pages = omega arith }) t i.lack;
     kept = λ k c e. ap (λ (x : Machine). cache_of x k) i.machine ∙ e;
@@ -195,7 +187,7 @@ module _ {Manager X Chooser : Type 0} (M : GhostsOfMapper X) (G : GhostsOfGmi Ma
     so_far1 : IsSoFar M G before old front usage_to_map (8 * (text.pages + length file) + 8) before s1 child1
     so_far1 = record {
       can = i.can;
-      table = i.put.processes ∙ ap (λ (xs : List (Option Process)). set xs last (Some child1)) may.is ∙ set_end front (Some may.child) (Some child1);
+      table = i.put.processes ∙ ap (λ (xs : List (Option Process)). set xs last (Some child1)) may.is ∙ set_last front (Some may.child) (Some child1) (length front) refl;
       images = i.put.images;
       kept = i.kept;
       used = i.used;

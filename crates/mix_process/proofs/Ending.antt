@@ -145,9 +145,6 @@ pub written_back : {A : Type 0} (items slice new : List A) (len k : ℕ) (v : A)
 written_back items slice new len k v same e many =
     take_front new (drop (length new) items) len (omega (arith, many, ap length e, ap length same, length-set slice k v)) ∙ e ∙ ap (λ xs. set xs k v) same
 
-some_is : {A : Type 0} (x y : A) → Some x ≡ Some y → x ≡ y
-some_is x y e = cc e
-
 module _ (table : List (Option Process)) (k : ℕ) (p : Process) (there : numbered table k ≡ Some p) where
   abbrev pub left : List (Option Process)
   left = set table (k - 1) None

@@ -35,14 +35,11 @@ use Rattle.mix_process.proofs.Able.{able_after, is_call, segments_after, sync_af
 use Rattle.mix_process.proofs.Clearing.{image_kept}
 use Rattle.mix_process.proofs.Filling.{Copies, MayCopy, copied_at, never_locked}
 use Rattle.mix_process.proofs.Joining.{all_seen}
+use Rattle.mix_process.proofs.Lists.{take_none}
 use Rattle.mix_process.proofs.Mapped.{pages_of_cache}
 use Rattle.mix_process.proofs.Putting.{became, shape_kept, stayed}
 use Rattle.mix_process.proofs.Seeing.{pages_there}
 use Rattle.mix_process.proofs.Shapes.{HasShape, IsLike, shape_self, tied_like}
-
-take_none : {A : Type 0} (xs : List A) → take 0 xs ≡ []
-take_none [] = refl
-take_none (x ∷ xs) = refl
 
 -- a whole list is replaced
 pub overwritten : {A : Type 0} (part whole : List A) → length whole ≡ length part → overwrite 0 part whole ≡ part

@@ -32,7 +32,7 @@ use Rattle.mix_process.specs.declared.process.Process.{Process}
 use Rattle.mix_process.proofs.Clearing.{inserted_one, none_any, not_equal, run_regions}
 use Rattle.mix_process.proofs.Lists.{number_at}
 use Rattle.mix_process.proofs.Shapes.{HasShape, blank_at, emptied, mapped_some}
-use Rattle.mix_process.proofs.Temporary.{no_name}
+use Rattle.mix_process.proofs.Temporary.{alike_done, alike_memory, no_name}
 
 -- No page of a process is locked
 
@@ -150,12 +150,6 @@ blank_span w s x y =
     ∙ (λ i. put_cache (blank w) s.to.0 (blank_put s.to_page.0 (take s.pages (drop s.from_page.0 x.pages)) y i))
     ∙ (λ i. put_cache (blank w) s.to.0 (put_pages s.to_page.0 (blank_part s.from_page.0 s.pages x.pages i) (blank_cache y)))
 
-done_alike : (b : Answer) → IsAlike (Ok replies.Done) b → b ≡ Ok replies.Done
-done_alike b h = sym h
-
-memory_alike : (b : Answer) → IsAlike (Err troubles.Memory) b → b ≡ Err troubles.Memory
-memory_alike b h = sym h
-
 pub copied_at : (told : Option Segments) (m : Machine) (s : Span) (c d : Cache) → MayCopy m s c d → (f : Option PageForest) (a : Answer) (next : Machine) (rises : MapperCounts) → OutcomeAt told m f (vm_commands.Copy s) a next rises → Copies m s c d a next
 copied_at (Some h) m s c d may f a next rises o = copied m s c d may f h a next rises o
 copied_at None m s c d may f a next rises o =
@@ -173,6 +167,6 @@ copied_at None m s c d may f a next rises o =
       unlocked = λ page. ap (λ (y : Machine). is_locked_page y s.to.0 page) (sym o.is) ∙ may.unlocked page;
     } in
     elim (copied w s x.0 y.0 may_w f o.segments o.whole_answer o.whole_next rises o.outcome) [
-      | inl e ↦ inl (done_alike a (subst (λ (z : Answer). IsAlike z a) e.0 o.alike), o.is_next ∙ ap blank e.1 ∙ blank_span w s x.0 y.0 ∙ (λ i. put_span (sym o.is i) s (x.2 i) (y.2 i)))
-      | inr e ↦ inr (memory_alike a (subst (λ (z : Answer). IsAlike z a) e.0 o.alike), o.is_next ∙ ap blank e.1 ∙ sym o.is)
+      | inl e ↦ inl (alike_done o.whole_answer a e.0 o.alike, o.is_next ∙ ap blank e.1 ∙ blank_span w s x.0 y.0 ∙ (λ i. put_span (sym o.is i) s (x.2 i) (y.2 i)))
+      | inr e ↦ inr (alike_memory o.whole_answer a e.0 o.alike, o.is_next ∙ ap blank e.1 ∙ sym o.is)
     ]

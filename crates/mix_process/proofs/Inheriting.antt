@@ -31,7 +31,7 @@ use Rattle.mix_process.proofs.Clearing.{parts_kept}
 use Rattle.mix_process.proofs.Counts.{cheap, cost_of_parts, few_parts, have_some}
 use Rattle.mix_process.proofs.Joining.{map_place, set_same}
 use Rattle.mix_process.proofs.Keeping.{numbered_at}
-use Rattle.mix_process.proofs.Lists.{get_append, get_last}
+use Rattle.mix_process.proofs.Lists.{get_append, get_last, take_none}
 use Rattle.mix_process.proofs.Looking.{pages-append, same_self}
 use Rattle.mix_process.proofs.Mapping.{small_in}
 use Rattle.mix_process.proofs.Putting.{all_at}
@@ -40,10 +40,6 @@ use Rattle.mix_process.proofs.Taking.{part_cache}
 use Rattle.mix_process.proofs.Using.{lack_still}
 
 -- Lists
-
-take_none : {A : Type 0} (xs : List A) → take 0 xs ≡ []
-take_none [] = refl
-take_none (x ∷ xs) = refl
 
 take_next : {A : Type 0} (xs : List A) (n : ℕ) (x : A) → slice_get xs n ≡ Some x → take (n + 1) xs ≡ take n xs ++ x ∷ []
 take_next [] n x e = absurd (cc e)
@@ -67,7 +63,7 @@ set_last [] x y (suc k) e = absurd (omega (arith, e))
 set_last (z ∷ xs) x y zero e = absurd (omega (arith, e))
 set_last (z ∷ xs) x y (suc k) e = ap (λ zs. z ∷ zs) (set_last xs x y k (omega (arith, e)))
 
-set_again : {A : Type 0} (xs : List A) (k : ℕ) (x y : A) → set (set xs k x) k y ≡ set xs k y
+pub set_again : {A : Type 0} (xs : List A) (k : ℕ) (x y : A) → set (set xs k x) k y ≡ set xs k y
 set_again [] k x y = refl
 set_again (z ∷ xs) zero x y = refl
 set_again (z ∷ xs) (suc k) x y = ap (λ zs. z ∷ zs) (set_again xs k x y)

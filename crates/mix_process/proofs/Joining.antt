@@ -122,8 +122,8 @@ module _ (m n : Machine) (table : List (Option Process)) (spare : ℕ → Type 0
   one_seen i (Some p) e =
       let alive : numbered table (i + 1) ≡ Some p = number_at table (i + 1) (Some p) (omega arith) (ap (slice_get table) (let g : i + 1 - 1 ≡ i = omega arith in g) ∙ e) in
       ap (λ (x : model.Process). Some x) (process_same m n p (λ j part f.
-          let c = part_cache m part.area part (all_at (λ (part : Part). IsPart m part.area part) p.parts.items j part (t.run (i + 1) p alive).parts f) in
-          kept part.cache.0 c.0 (λ s. part_kept m (numbered table) spare images t (i + 1) p j part part.cache.0 alive f s refl) c.1))
+      let c = part_cache m part.area part (all_at (λ (part : Part). IsPart m part.area part) p.parts.items j part (t.run (i + 1) p alive).parts f) in
+      kept part.cache.0 c.0 (λ s. part_kept m (numbered table) spare images t (i + 1) p j part part.cache.0 alive f s refl) c.1))
 
   pub all_seen : processes_seen n table images ≡ processes_seen m table images
   all_seen = λ i. record {

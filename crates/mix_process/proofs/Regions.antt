@@ -27,6 +27,7 @@ use Rattle.mix_process.specs.declared.process.Process.{Process}
 use Rattle.mix_process.specs.Adding.{most_of}
 use Rattle.mix_process.proofs.Mapping.{none_overlaps}
 use Rattle.mix_process.proofs.Shapes.{HasShape, part_like, run_like, whole_shape}
+use Rattle.mix_process.proofs.Temporary.{alike_many, alike_memory}
 
 -- It is mapped.
 pub record IsRegionMade (m : Machine) (actor : ℕ) (regions : Actor) (mapping : Mapping) (answer : Answer) (next : Machine) : Type 0 where
@@ -124,12 +125,6 @@ module _ (m : Machine) (page : m.page_bytes ≡ 4096) (p : Process) (run : IsRun
 made_alike : (number : ℕ) (b : Answer) → IsAlike (Ok (replies.Region (record { 0 = number }))) b → b ≡ Ok (replies.Region (record { 0 = number }))
 made_alike number b h = sym h
 
-memory_alike : (b : Answer) → IsAlike (Err troubles.Memory) b → b ≡ Err troubles.Memory
-memory_alike b h = sym h
-
-many_alike : (b : Answer) → IsAlike (Err (troubles.Refused refusals.TooMany)) b → b ≡ Err (troubles.Refused refusals.TooMany)
-many_alike b h = sym h
-
 regions_whole : (m w : Machine) → m ≡ blank w → w.regions_made ≡ m.regions_made
 regions_whole m w is = sym (ap (λ (x : Machine). x.regions_made) is)
 
@@ -141,8 +136,8 @@ mapped_blank m w next wn actor regions at a b is is_next alike (inl r) = inl (re
 mapped_blank m w next wn actor regions at a b is is_next alike (inr u) = inr (record {
   next_is = is_next ∙ ap blank u.next_is ∙ sym is;
   why = elim u.why [
-    | inl e ↦ inl (memory_alike b (subst (λ (x : Answer). IsAlike x b) e alike))
-    | inr e ↦ inr (many_alike b (subst (λ (x : Answer). IsAlike x b) e.0 alike), ap (nat_le MOST_MADE) (sym (regions_whole m w is)) ∙ e.1)
+    | inl e ↦ inl (alike_memory a b e alike)
+    | inr e ↦ inr (alike_many a b e.0 alike, ap (nat_le MOST_MADE) (sym (regions_whole m w is)) ∙ e.1)
   ];
 })
 

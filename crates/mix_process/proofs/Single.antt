@@ -173,9 +173,10 @@ module _ {Manager X Chooser : Type 0} (M : GhostsOfMapper X) (G : GhostsOfGmi Ma
   called_steady command one steady outcome =
       let same : n ≡ m = steady_at (segments_of (M.held after)) c steady m (G.forest old.gmi (M.held before)) a n call_is.rises call_is.is.outcome in
       called command one (subst (HasShape m) (sym same) (shape_self m)) (λ i image e. ap (λ (x : Machine). cache_pages x image.cache.0) same)
-      (λ x y shape h b o. (let still : y ≡ x = outcome_steady c steady x (G.forest old.gmi (M.held before)) h b y call_is.rises o in
-          (subst (λ (z : Machine). mix_outcome.Outcome (processes_seen x table images) (usage_of x) command h b (processes_seen z table images) call_is.rises) (sym still) (outcome x y shape h b o),
-          subst (λ (z : Machine). RaisedBy (makes (processes_seen x table images) command h) (usage_of x) (usage_of z)) (sym still) (raised_none _ (usage_of x)))))
+      (λ x y shape h b o. (let still : y ≡ x = outcome_steady c steady x (G.forest old.gmi (M.held before)) h b y call_is.rises o in (
+        subst (λ (z : Machine). mix_outcome.Outcome (processes_seen x table images) (usage_of x) command h b (processes_seen z table images) call_is.rises) (sym still) (outcome x y shape h b o),
+        subst (λ (z : Machine). RaisedBy (makes (processes_seen x table images) command h) (usage_of x) (usage_of z)) (sym still) (raised_none _ (usage_of x)),
+      )))
 
 -- The calls
 
@@ -225,8 +226,8 @@ module _ {Manager X Chooser : Type 0} (M : GhostsOfMapper X) (G : GhostsOfGmi Ma
     load_called of p there address length a call =
         called_steady M G old gmi before after (vm_commands.Load p.actor address length) a can call (commands.Load of address length) (omega arith) (λ m f h. load_steady p.actor.0 address m length)
         (λ x y shape h b o.
-            let live : IsLiving x old.processes.items of.0 p = record { page = shape.page ∙ can.tied.page; there = there; run = run_like (G.machine old.gmi (M.held before)) x shape p (can.tied.run of.0 p there) } in
-            (load_outcome x old.processes.items old.images.items of p live (G.forest old.gmi (M.held before)) (usage_of x) h address length b y _ o).0)
+        let live : IsLiving x old.processes.items of.0 p = record { page = shape.page ∙ can.tied.page; there = there; run = run_like (G.machine old.gmi (M.held before)) x shape p (can.tied.run of.0 p there) } in
+        (load_outcome x old.processes.items old.images.items of p live (G.forest old.gmi (M.held before)) (usage_of x) h address length b y _ o).0)
 
     pub store_called : (of : ProcId) (p : Process) → numbered old.processes.items of.0 ≡ Some p → (address : ℕ) (piece : List ℕ) (a : Answer)
         → MapperCall M (meanings_of G) before old.gmi (vm_commands.Store p.actor address piece) a after gmi → MixCall M G before old (commands.Store of address piece) a after (record old { gmi = gmi })
@@ -236,10 +237,10 @@ module _ {Manager X Chooser : Type 0} (M : GhostsOfMapper X) (G : GhostsOfGmi Ma
         let put : IsPut m (G.machine gmi (M.held after)) old.images.items = store_put (segments_of (M.held after)) m old.processes.items none_spare old.images.items can.tied of p there (G.forest old.gmi (M.held before)) address piece a (G.machine gmi (M.held after)) it.rises it.is.outcome in
         called M G old gmi before after (vm_commands.Store p.actor address piece) a can call (commands.Store of address piece) (omega arith) put.shape put.alike
         (λ x y shape h b o.
-            let tied : AreTied x (numbered old.processes.items) none_spare old.images.items = tied_like m x shape (numbered old.processes.items) none_spare old.images.items can.tied in
-            let live : IsLiving x old.processes.items of.0 p = record { page = tied.page; there = there; run = tied.run of.0 p there } in
-            let stored = store_outcome x old.processes.items none_spare old.images.items tied of p live (G.forest old.gmi (M.held before)) (usage_of x) h address piece b y it.rises o in
-            (stored.0, record { actors = omega (arith, ap length stored.1.shape.actors); caches = omega (arith, stored.1.caches); regions = omega (arith, stored.1.regions) }))
+        let tied : AreTied x (numbered old.processes.items) none_spare old.images.items = tied_like m x shape (numbered old.processes.items) none_spare old.images.items can.tied in
+        let live : IsLiving x old.processes.items of.0 p = record { page = tied.page; there = there; run = tied.run of.0 p there } in
+        let stored = store_outcome x old.processes.items none_spare old.images.items tied of p live (G.forest old.gmi (M.held before)) (usage_of x) h address piece b y it.rises o in
+        (stored.0, record { actors = omega (arith, ap length stored.1.shape.actors); caches = omega (arith, stored.1.caches); regions = omega (arith, stored.1.regions) }))
 
   -- no living process has the number
   pub none_here : (n : ℕ) → numbered old.processes.items n ≡ None → process_of s n ≡ None

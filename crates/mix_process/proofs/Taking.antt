@@ -31,6 +31,7 @@ use Rattle.mix_process.proofs.Destroying.{get_snoc}
 use Rattle.mix_process.proofs.Lists.{get_append, get_last, number_at}
 use Rattle.mix_process.proofs.Putting.{all_at}
 use Rattle.mix_process.proofs.Shapes.{blank_live, emptied}
+use Rattle.mix_process.proofs.Temporary.{alike_many, alike_memory}
 use Rattle.mix_process.proofs.Untold.{map-replicate}
 
 -- The row
@@ -80,12 +81,6 @@ module _ (h : Segments) where
 cache_alike : (number : ℕ) (b : Answer) → IsAlike (Ok (replies.Cache (record { 0 = number }))) b → b ≡ Ok (replies.Cache (record { 0 = number }))
 cache_alike number b h = sym h
 
-memory_alike : (b : Answer) → IsAlike (Err troubles.Memory) b → b ≡ Err troubles.Memory
-memory_alike b h = sym h
-
-many_alike : (b : Answer) → IsAlike (Err (troubles.Refused refusals.TooMany)) b → b ≡ Err (troubles.Refused refusals.TooMany)
-many_alike b h = sym h
-
 taken_blank : (h : Segments) (m w next wn : Machine) (pages : ℕ) (a b : Answer) → m ≡ blank w → next ≡ blank wn → IsAlike a b → Takes (Some h) w pages a wn → Takes None m pages b next
 taken_blank h m w next wn pages a b is is_next alike (inl t) =
     let many : length w.caches ≡ length m.caches = sym (length-map w.caches (option_map blank_cache)) ∙ ap (λ (x : Machine). length x.caches) (sym is) in
@@ -101,11 +96,13 @@ taken_blank h m w next wn pages a b is is_next alike (inl t) =
 taken_blank h m w next wn pages a b is is_next alike (inr l) = inr (record {
   next_is = is_next ∙ ap blank l.next_is ∙ sym is;
   why = elim l.why [
-    | inl e ↦ inl (memory_alike b (subst (λ (x : Answer). IsAlike x b) e alike))
-    | inr e ↦ inr (many_alike b (subst (λ (x : Answer). IsAlike x b) e.0 alike),
-        ap (λ (x : Machine). is_full x pages) is
-        ∙ (λ i. nat_le MOST_MADE (length-map w.caches (option_map blank_cache) i) || nat_lt LIVE_PAGES (blank_live w i + pages))
-        ∙ e.1)
+    | inl e ↦ inl (alike_memory a b e alike)
+    | inr e ↦ inr (
+      alike_many a b e.0 alike,
+      ap (λ (x : Machine). is_full x pages) is
+          ∙ (λ i. nat_le MOST_MADE (length-map w.caches (option_map blank_cache) i) || nat_lt LIVE_PAGES (blank_live w i + pages))
+          ∙ e.1,
+    )
   ];
 })
 
@@ -175,6 +172,3 @@ module _ (m : Machine) (processes : ℕ → Option Process) (images : List Image
       | inr fresh ↦ absurd (let wrong : None ≡ Some seg = sym temporary_is ∙ ap segment_in fresh.1 ∙ named in cc wrong)
     ];
   }
-
-  pub images_with : (i : ℕ) (image : Image) → slice_get images i ≡ Some image → cache_pages with_cache image.cache.0 ≡ cache_pages m image.cache.0
-  images_with i image e = let d = t.images_there i image e in ap (λ (o : Option Cache). option_map_or (λ (c : Cache). c.pages) o []) (still_numbered m.caches (Some c) image.cache.0 d.0 d.1 ∙ sym d.1)

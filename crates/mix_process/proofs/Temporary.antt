@@ -41,8 +41,14 @@ done_by_row m f c h after row sure enough (Err (troubles.Refused r)) next rises 
 done_by_row m f c h after row sure enough (Err (troubles.Mapper at)) next rises o = absurd (sure at rises o.2)
 done_by_row m f c h after row sure enough (Err troubles.Memory) next rises o = absurd (enough o.1)
 
-alike_done : (a b : Answer) → a ≡ Ok replies.Done → IsAlike a b → b ≡ Ok replies.Done
+pub alike_done : (a b : Answer) → a ≡ Ok replies.Done → IsAlike a b → b ≡ Ok replies.Done
 alike_done a b e h = sym (subst (λ (a : Answer). IsAlike a b) e h)
+
+pub alike_memory : (a b : Answer) → a ≡ Err troubles.Memory → IsAlike a b → b ≡ Err troubles.Memory
+alike_memory a b e h = sym (subst (λ (a : Answer). IsAlike a b) e h)
+
+pub alike_many : (a b : Answer) → a ≡ Err (troubles.Refused refusals.TooMany) → IsAlike a b → b ≡ Err (troubles.Refused refusals.TooMany)
+alike_many a b e h = sym (subst (λ (a : Answer). IsAlike a b) e h)
 
 -- The cache
 

@@ -50,8 +50,8 @@ open_budget = 8 * LIVE_PAGES + 8
 
 -- The cache is that of the segment's image, which was made if there was none of it. `m` is the
 -- machine before and `next` the one after.
-pub record HasImage (m next : Machine) (processes : List (Option Process)) (before after : List Image)
-    (seg : SegId) (cache : CacheId) : Type 0 where
+pub record HasImage (m next : Machine) (processes : List (Option Process))
+    (before after : List Image) (seg : SegId) (cache : CacheId) : Type 0 where
   pub image : Image
   pub found : image_for after seg.0 ≡ Some image
   pub is : image.cache ≡ cache

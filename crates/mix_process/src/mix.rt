@@ -193,8 +193,8 @@ impl<G> Mix<G> {
         requires few { length ≤ 64 }
         requires can { CanCall G.Gmi self.old (M.held mapper.old) (M.page_bytes mapper.old) }
         requires made { G.made self.old.gmi ≤ 2 ^ 61 }
-        ensures { MixCall M.Mapper G.Gmi mapper.old self.old (MixCommand.Load of address length) (answer_by Reply.Bytes result)
-            mapper.new self.new }
+        ensures { MixCall M.Mapper G.Gmi mapper.old self.old (MixCommand.Load of address length)
+            (answer_by Reply.Bytes result) mapper.new self.new }
     {
         let actor = match numbered(&self.processes, of.0) {
             Some(process) => process.actor,
@@ -217,8 +217,8 @@ impl<G> Mix<G> {
         G: Gmi<M, C>,
         requires can { CanCall G.Gmi self.old (M.held mapper.old) (M.page_bytes mapper.old) }
         requires made { G.made self.old.gmi ≤ 2 ^ 61 }
-        ensures { MixCall M.Mapper G.Gmi mapper.old self.old (MixCommand.Store of address piece.now) (done_by result)
-            mapper.new self.new }
+        ensures { MixCall M.Mapper G.Gmi mapper.old self.old
+            (MixCommand.Store of address piece.now) (done_by result) mapper.new self.new }
     {
         let actor = match numbered(&self.processes, of.0) {
             Some(process) => process.actor,
@@ -239,8 +239,8 @@ impl<G> Mix<G> {
         requires some { 1 ≤ count }
         requires can { CanCall G.Gmi self.old (M.held mapper.old) (M.page_bytes mapper.old) }
         requires made { G.made self.old.gmi ≤ 2 ^ 61 }
-        ensures { MixCall M.Mapper G.Gmi mapper.old self.old (MixCommand.PageOut count) (done_by result)
-            mapper.new self.new }
+        ensures { MixCall M.Mapper G.Gmi mapper.old self.old (MixCommand.PageOut count)
+            (done_by result) mapper.new self.new }
     {
         self.gmi.page_out(count, mapper, chooser)
     }
@@ -314,7 +314,8 @@ impl<G> Mix<G> {
         G: Gmi<M, C>,
         requires valid { (told : Option Held) × G.valid self.old.gmi told }
         requires made { G.made self.old.gmi ≤ 2 ^ 62 }
-        ensures { (told : Option Held) (page_bytes : Option ℕ) → CanCall G.Gmi self.old told page_bytes
+        ensures { (told : Option Held) (page_bytes : Option ℕ)
+            → CanCall G.Gmi self.old told page_bytes
             → IsStarted G.Gmi told page_bytes self.old result self.new }
     {
         self.processes.reserve(1)?;
@@ -483,7 +484,8 @@ impl<G> Mix<G> {
         requires has { HasSpare M.Mapper G.Gmi mapper.old self.old part }
         requires source { IsSourceOf (G.machine self.old.gmi (M.held mapper.old)) part source }
         requires made { G.made self.old.gmi ≤ 2 ^ 61 + 2 ^ 31 }
-        ensures { IsFilled M.Mapper G.Gmi mapper.old self.old part source result mapper.new self.new }
+        ensures { IsFilled M.Mapper G.Gmi mapper.old self.old part source result mapper.new
+            self.new }
     {
         let Some((from, from_page)) = source else {
             return Ok(());

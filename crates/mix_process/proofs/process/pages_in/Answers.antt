@@ -26,8 +26,13 @@ by_area area parts i d b h e = one_more area parts i d h ∙ ap (λ (c : Bool). 
 
 pub overflow_add-pages : goal.overflow_add-pages
 overflow_add-pages c =
-    omega (arith, c.loop-part.invariant, c.requires.few, no_more_than_all c.args.area c.args.parts.now (c.loop-part.part-index + 1),
-    by_area c.args.area c.args.parts.now c.loop-part.part-index _ true c.loop-part-test.true (sym c.is_same.ensures ∙ c.if-is_same.true))
+    omega (
+      arith,
+      c.loop-part.invariant,
+      c.requires.few,
+      no_more_than_all c.args.area c.args.parts.now (c.loop-part.part-index + 1),
+      by_area c.args.area c.args.parts.now c.loop-part.part-index _ true c.loop-part-test.true (sym c.is_same.ensures ∙ c.if-is_same.true),
+    )
 
 pub loop-part-preserved : goal.loop-part-preserved
 loop-part-preserved c = elim c.if-is_same.branch [

@@ -15,9 +15,11 @@ copy_part-requires-clause-can g c = (c.loop-part.invariant c.requires.may.0 c.re
 
 pub copy_part-requires-clause-may : goal.copy_part-requires-clause-may
 copy_part-requires-clause-may g c =
-    let a = c.loop-part.invariant c.requires.may.0 c.requires.may.1 in
-    (a.child, may_copy g.M.Mapper g.G.Gmi c.args.mapper.now c.args.self.now c.requires.can c.args.parent c.requires.may.0 c.requires.may.1 _ _ _ _ a c.in-Some.part
-    (part_is g.M.Mapper g.G.Gmi c.args.mapper.now c.args.self.now c.requires.can c.args.parent c.requires.may.0 c.requires.may.1 _ _ _ _ a _ c.in-Some.ensures))
+    let a = c.loop-part.invariant c.requires.may.0 c.requires.may.1 in (
+      a.child,
+      may_copy g.M.Mapper g.G.Gmi c.args.mapper.now c.args.self.now c.requires.can c.args.parent c.requires.may.0 c.requires.may.1 _ _ _ _ a c.in-Some.part
+          (part_is g.M.Mapper g.G.Gmi c.args.mapper.now c.args.self.now c.requires.can c.args.parent c.requires.may.0 c.requires.may.1 _ _ _ _ a _ c.in-Some.ensures),
+    )
 
 pub copy_part-requires-clause-made : goal.copy_part-requires-clause-made
 copy_part-requires-clause-made g c =

@@ -12,9 +12,12 @@ returns-in_err-fill g c = λ process may.
     (unfilled g.M.Mapper g.G.Gmi c.args.mapper.now c.args.self.now c.args.place process c.args.part c.args.source may _ _ _ c.in_err-fill.ensures)
 
 pub map_part-requires-clause-may : goal.map_part-requires-clause-may
-map_part-requires-clause-may g c =
-    (g.M.Mapper.held c.fill.new.mapper, g.M.Mapper.page_bytes c.fill.new.mapper, c.requires.may.0,
-    may_map g.M.Mapper g.G.Gmi c.args.mapper.now c.args.self.now c.args.place c.requires.may.0 c.args.part c.args.source c.requires.may.1 _ _ _ c.in_ok-fill.ensures)
+map_part-requires-clause-may g c = (
+  g.M.Mapper.held c.fill.new.mapper,
+  g.M.Mapper.page_bytes c.fill.new.mapper,
+  c.requires.may.0,
+  may_map g.M.Mapper g.G.Gmi c.args.mapper.now c.args.self.now c.args.place c.requires.may.0 c.args.part c.args.source c.requires.may.1 _ _ _ c.in_ok-fill.ensures,
+)
 
 pub map_part-requires-clause-made : goal.map_part-requires-clause-made
 map_part-requires-clause-made g c =

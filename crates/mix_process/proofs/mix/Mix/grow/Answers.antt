@@ -18,14 +18,21 @@ returns-in_err-place g c =
 
 pub data_pages-requires : goal.data_pages-requires
 data_pages-requires g c = record {
-  there = (c.in_ok-place.ensures.found.1.0, c.in_ok-place.ensures.found.1.1,
-      data_few g.M.Mapper g.G.Gmi c.args.self.now c.args.mapper.now c.requires.can c.args.of c.args.pages c.in_ok-place.place c.in_ok-place.ensures.found.0 c.in_ok-place.ensures.found.1.0 c.in_ok-place.ensures.found.1.1);
+  there = (
+    c.in_ok-place.ensures.found.1.0,
+    c.in_ok-place.ensures.found.1.1,
+    data_few g.M.Mapper g.G.Gmi c.args.self.now c.args.mapper.now c.requires.can c.args.of c.args.pages c.in_ok-place.place c.in_ok-place.ensures.found.0 c.in_ok-place.ensures.found.1.0 c.in_ok-place.ensures.found.1.1,
+  );
 }
 
 pub overflow_add-data_pages : goal.overflow_add-data_pages
 overflow_add-data_pages g c =
-    omega (arith, c.ranges.pages.fits, c.data_pages.ensures c.in_ok-place.ensures.found.1.0 c.in_ok-place.ensures.found.1.1,
-    data_few g.M.Mapper g.G.Gmi c.args.self.now c.args.mapper.now c.requires.can c.args.of c.args.pages c.in_ok-place.place c.in_ok-place.ensures.found.0 c.in_ok-place.ensures.found.1.0 c.in_ok-place.ensures.found.1.1)
+    omega (
+      arith,
+      c.ranges.pages.fits,
+      c.data_pages.ensures c.in_ok-place.ensures.found.1.0 c.in_ok-place.ensures.found.1.1,
+      data_few g.M.Mapper g.G.Gmi c.args.self.now c.args.mapper.now c.requires.can c.args.of c.args.pages c.in_ok-place.place c.in_ok-place.ensures.found.0 c.in_ok-place.ensures.found.1.0 c.in_ok-place.ensures.found.1.1,
+    )
 
 pub returns-then-data_pages-pages : goal.returns-then-data_pages-pages
 returns-then-data_pages-pages g c =
@@ -33,10 +40,11 @@ returns-then-data_pages-pages g c =
     (omega (arith, c.if-data_pages-pages.true, c.data_pages.ensures c.in_ok-place.ensures.found.1.0 c.in_ok-place.ensures.found.1.1))
 
 pub add_own-requires-clause-may : goal.add_own-requires-clause-may
-add_own-requires-clause-may g c =
-    (c.in_ok-place.ensures.found.1.0,
-    may_grow g.M.Mapper g.G.Gmi c.args.self.now c.args.mapper.now c.requires.can c.args.of c.args.pages c.in_ok-place.place c.in_ok-place.ensures.found.0 c.in_ok-place.ensures.found.1.0 c.in_ok-place.ensures.found.1.1 c.requires.some
-    (omega (arith, c.if-data_pages-pages.false, c.data_pages.ensures c.in_ok-place.ensures.found.1.0 c.in_ok-place.ensures.found.1.1)))
+add_own-requires-clause-may g c = (
+  c.in_ok-place.ensures.found.1.0,
+  may_grow g.M.Mapper g.G.Gmi c.args.self.now c.args.mapper.now c.requires.can c.args.of c.args.pages c.in_ok-place.place c.in_ok-place.ensures.found.0 c.in_ok-place.ensures.found.1.0 c.in_ok-place.ensures.found.1.1 c.requires.some
+      (omega (arith, c.if-data_pages-pages.false, c.data_pages.ensures c.in_ok-place.ensures.found.1.0 c.in_ok-place.ensures.found.1.1)),
+)
 
 pub returns : goal.returns
 returns g c =
