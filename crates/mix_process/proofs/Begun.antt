@@ -32,7 +32,8 @@ use Rattle.mix_process.specs.declared.mix.Mix.{Mix}
 use Rattle.mix_process.specs.declared.process.Process.{Process}
 use Rattle.mix_process.proofs.Calls.{able_called, answered, sync_called}
 use Rattle.mix_process.proofs.Starting.{tied_started}
-use Rattle.mix_process.proofs.Passing.{actors_past, each_unless, living_past, passed_next, usage_blank}
+use Rattle.mix_process.proofs.Passing.{actors_past, each_unless, living_past, passed_next}
+use Rattle.mix_process.proofs.Untold.{usage_blank}
 
 -- The row
 

@@ -173,14 +173,20 @@ module _ {Manager X Chooser : Type 0} (M : GhostsOfMapper X) (G : GhostsOfGmi Ma
         pub bad : next ≡ y → length pages < text + data_pages → StepAt now (state_of G old (M.held before)) command (Err (troubles.Refused refusals.BadImage)) rises (state_of G new (M.held after))
         bad is less = lift (Err (troubles.Refused refusals.BadImage))
             (λ h e. over h s y next (Err (troubles.Refused refusals.BadImage)) is (step_bad s seg text data_pages stack fits u v base now rises raise h pages (held_by h e) has less))
-            (λ e. let k = segments_for seg.0 (Some filled) in (k.0, over k.0 (filled_up s) (with_image (filled_up s) seg.0 (Some filled)) (filled_up next) (Err (troubles.Refused refusals.BadImage)) (ap (λ (x : ProcessMachine). filled_up x) is ∙ with_image_filled s seg.0 pages)
-            (step_bad (filled_up s) seg text data_pages stack fits u v base now rises raise k.0 filled k.1 has_zeros (omega (arith, less, many_zeros))))) now refl
+            (λ e. let k = segments_for seg.0 (Some filled) in (
+              k.0,
+              over k.0 (filled_up s) (with_image (filled_up s) seg.0 (Some filled)) (filled_up next) (Err (troubles.Refused refusals.BadImage)) (ap (λ (x : ProcessMachine). filled_up x) is ∙ with_image_filled s seg.0 pages)
+                  (step_bad (filled_up s) seg text data_pages stack fits u v base now rises raise k.0 filled k.1 has_zeros (omega (arith, less, many_zeros))),
+            )) now refl
 
         pub lacks : (t : Trouble) → next ≡ y → IsLack u (usage_for 3 (length pages + data_pages + stack)) t → StepAt now (state_of G old (M.held before)) command (Err t) rises (state_of G new (M.held after))
         lacks t is lack = lift (Err t)
             (λ h e. over h s y next (Err t) is (step_lacks s seg text data_pages stack fits u v base now rises raise h pages (held_by h e) has t lack))
-            (λ e. let k = segments_for seg.0 (Some filled) in (k.0, over k.0 (filled_up s) (with_image (filled_up s) seg.0 (Some filled)) (filled_up next) (Err t) (ap (λ (x : ProcessMachine). filled_up x) is ∙ with_image_filled s seg.0 pages)
-            (step_lacks (filled_up s) seg text data_pages stack fits u v base now rises raise k.0 filled k.1 has_zeros t (subst (λ (n : ℕ). IsLack u (usage_for 3 (n + data_pages + stack)) t) (sym many_zeros) lack)))) now refl
+            (λ e. let k = segments_for seg.0 (Some filled) in (
+              k.0,
+              over k.0 (filled_up s) (with_image (filled_up s) seg.0 (Some filled)) (filled_up next) (Err t) (ap (λ (x : ProcessMachine). filled_up x) is ∙ with_image_filled s seg.0 pages)
+                  (step_lacks (filled_up s) seg text data_pages stack fits u v base now rises raise k.0 filled k.1 has_zeros t (subst (λ (n : ℕ). IsLack u (usage_for 3 (n + data_pages + stack)) t) (sym many_zeros) lack)),
+            )) now refl
 
         -- the process that is made
         abbrev pub made_of : Option Segments → model.Process
@@ -202,12 +208,12 @@ module _ {Manager X Chooser : Type 0} (M : GhostsOfMapper X) (G : GhostsOfGmi Ma
             (λ e. let k = segments_for seg.0 (Some filled) in let z : ProcessMachine = with_image (filled_up s) seg.0 (Some filled) in (
               k.0,
               subst (λ (j : ℕ). StepOver k.0 (record { processes = filled_up s; usage = u; segments = base }) command (Ok (replies.Process (record { 0 = j }))) rises (record { processes = filled_up next; usage = v; segments = now }))
-              (ap (λ (x : ProcessMachine). length x.processes + 1) (sym (with_image_filled s seg.0 pages)) ∙ ap (λ (j : ℕ). j + 1) (length-map y.processes (option_map (each_of zeros))) ∙ sym number)
-              (over k.0 (filled_up s) (record z { processes = z.processes ++ Some (process_from (filled_up s).page_bytes filled text data_pages stack) ∷ [] }) (filled_up next) (Ok (replies.Process (record { 0 = length z.processes + 1 })))
-              (ap (λ (x : ProcessMachine). filled_up x) is
-              ∙ (λ i. record (filled_up y) { processes = map_snoc (option_map (each_of zeros)) y.processes (Some (made_of now)) i })
-              ∙ (λ i. record (with_image_filled s seg.0 pages i) { processes = (with_image_filled s seg.0 pages i).processes ++ Some (as_zeros e i) ∷ [] }))
-              (step_good (filled_up s) seg text data_pages stack fits u v base now rises raise k.0 filled k.1 has_zeros (omega (arith, enough, many_zeros))))
+                  (ap (λ (x : ProcessMachine). length x.processes + 1) (sym (with_image_filled s seg.0 pages)) ∙ ap (λ (j : ℕ). j + 1) (length-map y.processes (option_map (each_of zeros))) ∙ sym number)
+                  (over k.0 (filled_up s) (record z { processes = z.processes ++ Some (process_from (filled_up s).page_bytes filled text data_pages stack) ∷ [] }) (filled_up next) (Ok (replies.Process (record { 0 = length z.processes + 1 })))
+                  (ap (λ (x : ProcessMachine). filled_up x) is
+                  ∙ (λ i. record (filled_up y) { processes = map_snoc (option_map (each_of zeros)) y.processes (Some (made_of now)) i })
+                  ∙ (λ i. record (with_image_filled s seg.0 pages i) { processes = (with_image_filled s seg.0 pages i).processes ++ Some (as_zeros e i) ∷ [] }))
+                  (step_good (filled_up s) seg text data_pages stack fits u v base now rises raise k.0 filled k.1 has_zeros (omega (arith, enough, many_zeros)))),
             )) now refl
 
     -- The calls

@@ -27,8 +27,8 @@ use Rattle.mix_process.specs.Starting.{usage_to_open}
 use Rattle.mix_process.specs.Stepping.{StepOver, each_in, each_of, each_page}
 use Rattle.mix_process.specs.Use.{IsLack, IsWithin, usage_sum}
 use Rattle.mix_process.proofs.Imaging.{map_snoc, same_is}
-use Rattle.mix_process.proofs.Passing.{would_pass_more}
 use Rattle.mix_process.proofs.Untold.{filled_up, map-replicate, no_segments, zeros}
+use Rattle.mix_process.proofs.Using.{passes_still}
 
 -- Segments that hold this
 
@@ -162,7 +162,7 @@ module _ (x : ProcessMachine) (seg : SegId) (text data_pages stack : ℕ) where
 
         pub step_many : IsTrue (would_pass u (usage_to_open held)) → Steps h (troubles.Refused refusals.TooMany) x
         step_many many = record {
-          outcome = (inl refl, tt, fits, subst (λ (k : Usage). IsTrue (would_pass u k)) (sym makes_none) (would_pass_more u (usage_to_open held) u (usage_for 3 (option_map_or length held 0 + data_pages + stack)) more many));
+          outcome = (inl refl, tt, fits, subst (λ (k : Usage). IsTrue (would_pass u k)) (sym makes_none) (passes_still u (usage_for 3 (option_map_or length held 0 + data_pages + stack)) u (usage_to_open held) more many));
           raised = raised_none;
         }
 

@@ -37,7 +37,8 @@ use Rattle.mix_process.specs.ProcessMachine.{image_in}
 use Rattle.mix_process.specs.Seen.{cache_pages, image_seen}
 use Rattle.mix_process.specs.Starting.{Checks, HoldsIn, LacksImage, as_bad_image, image_for, usage_to_open}
 use Rattle.mix_process.specs.declared.mix.Image.{Image}
-use Rattle.mix_process.proofs.Passing.{caches_past, each_some, each_unless, pages_past, passed_next, usage_blank}
+use Rattle.mix_process.proofs.Passing.{caches_past, each_some, each_unless, pages_past, passed_next}
+use Rattle.mix_process.proofs.Untold.{usage_blank}
 
 -- Images in lists
 
