@@ -34,6 +34,7 @@ use Rattle.mix_process.proofs.Pushes.{segments_stay, still_synchronised}
 use Rattle.mix_process.proofs.Putting.{all_at, number_other}
 use Rattle.mix_process.proofs.Single.{fits_still, unlimited_still}
 use Rattle.mix_process.proofs.Storing.{own_cache}
+use Rattle.mix_process.proofs.Untold.{blank_after}
 
 module _ {Manager X Chooser : Type 0} (M : GhostsOfMapper X) (G : GhostsOfGmi Manager X Chooser) (old gmi : Manager) (before after : X) (c : Command) (a : Answer) (images : List Image) (made : ℕ)
     (processes : ℕ → Option Process) (spare : ℕ → Type 0) (can : AreAble G old images (M.held before) (M.page_bytes before) made processes spare) (call : MapperCall M (meanings_of G) before old c a after gmi) where
@@ -70,6 +71,7 @@ module _ {Manager X Chooser : Type 0} (M : GhostsOfMapper X) (G : GhostsOfGmi Ma
     most = most;
     tied = tied;
     synchronised = sync;
+    blank = blank_after (M.held after) (G.machine old (M.held before)) (G.machine gmi (M.held after)) (G.forest old (M.held before)) c a is_call.rises is_call.is.outcome;
   }
 
 -- The same processes under other numbers
@@ -170,7 +172,7 @@ module _ (m : Machine) (processes others : ℕ → Option Process) (images : Lis
 
 -- The same caches are spare, in other words
 
-tied_respared : (m : Machine) (processes : ℕ → Option Process) (spare others : ℕ → Type 0) (images : List Image) → AreTied m processes spare images → ((k : ℕ) → spare k → others k) → ((k : ℕ) → others k → spare k) → AreTied m processes others images
+pub tied_respared : (m : Machine) (processes : ℕ → Option Process) (spare others : ℕ → Type 0) (images : List Image) → AreTied m processes spare images → ((k : ℕ) → spare k → others k) → ((k : ℕ) → others k → spare k) → AreTied m processes others images
 tied_respared m processes spare others images t to from = record {
   page = t.page;
   run = t.run;
@@ -197,4 +199,5 @@ respared {Manager} {X} {Chooser} {G} {gmi} {images} {told} {page} {made} process
   most = can.most;
   tied = tied_respared (G.machine gmi told) processes spare others images can.tied to from;
   synchronised = can.synchronised;
+  blank = can.blank;
 }

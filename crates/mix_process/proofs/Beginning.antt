@@ -8,6 +8,7 @@ use Rattle.gmi_calls.specs.declared.gmi.Gmi.{Ghosts as GhostsOfGmi}
 use Rattle.mix_process.specs.Tying.{AreAble, AreSynchronised, AreTied, IsBare, none_spare}
 use Rattle.mix_process.specs.declared.mix.Image.{Image}
 use Rattle.mix_process.specs.declared.process.Process.{Process}
+use Rattle.mix_process.proofs.Untold.{blank_bare}
 
 nothing : {A : Type 0} (b : Bool) → cond b None (option_and_then {T = Option A} (λ x. x) None) ≡ None
 nothing true = refl
@@ -16,7 +17,6 @@ nothing false = refl
 -- nothing has a number in no list
 no_number : {A : Type 0} (xs : List (Option A)) (n : ℕ) (x : A) → xs ≡ [] → numbered xs n ≡ Some x → ⊥
 no_number {A} xs n x none e = let wrong : Some x ≡ None = sym e ∙ ap (λ (ys : List (Option A)). numbered ys n) none ∙ nothing {A = A} (n == 0) in absurd (cc wrong)
-
 
 module _ (m : Machine) (page : m.page_bytes ≡ 4096) (caches : m.caches ≡ []) (actors : m.actors ≡ []) where
   abbrev none : ℕ → Option Process
@@ -67,4 +67,5 @@ bare_able G gmi told page_bytes b =
       most = omega (arith, ap (λ (xs : List (Option Actor)). length xs) b.actors);
       tied = tied_bare m b.page b.caches b.actors;
       synchronised = synchronised_bare m b.page b.caches b.actors told;
+      blank = blank_bare told m b.caches;
     }

@@ -52,14 +52,14 @@ pub none_any : {A : Type 0} (p : A → Bool) (xs : List A) → ((i : ℕ) (x : A
 none_any p [] h = refl
 none_any p (x ∷ xs) h = λ i. h 0 x refl i || none_any p xs (λ j y e. h (suc j) y e) i
 
-not_equal : (a b : ℕ) → a ≢ b → (a == b) ≡ false
+pub not_equal : (a b : ℕ) → a ≢ b → (a == b) ≡ false
 not_equal a b h = go (a == b) refl
   where
     go : (t : Bool) → (a == b) ≡ t → (a == b) ≡ false
     go true e = absurd (h (grind (arith, nat_tests)))
     go false e = e
 
-run_regions : (m : Machine) (p : Process) (run : IsRun m p) (actor : ℕ) (regions : Actor) → p.actor.0 ≡ actor → actor_of m actor ≡ Some regions → Some run.regions ≡ Some regions
+pub run_regions : (m : Machine) (p : Process) (run : IsRun m p) (actor : ℕ) (regions : Actor) → p.actor.0 ≡ actor → actor_of m actor ≡ Some regions → Some run.regions ≡ Some regions
 run_regions m p run actor regions e at = sym run.there ∙ ap (actor_of m) e ∙ at
 
 module _ (m : Machine) (processes : ℕ → Option Process) (spare : ℕ → Type 0) (images : List Image) (t : AreTied m processes spare images) where

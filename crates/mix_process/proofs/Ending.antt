@@ -25,6 +25,7 @@ use Rattle.mix_process.specs.ProcessMachine as model
 use Rattle.mix_process.specs.ProcessMachine.{ProcessMachine, may_write, process_of}
 use Rattle.mix_process.specs.Answering as mix
 use Rattle.mix_process.specs.Calling.{MixCall}
+use Rattle.mix_process.specs.Outcome.{RaisedBy, no_usage, usage_of}
 use Rattle.mix_process.specs.Stepping.{StepAt}
 use Rattle.mix_process.specs.Inner.{AreApart, AreCleared, AreOwn, IsEnded, own_pages, spare_of, with_extra}
 use Rattle.mix_process.specs.Seen.{cache_pages, pages_in, process_seen, processes_seen, same_area, state_of}
@@ -41,6 +42,7 @@ use Rattle.mix_process.proofs.Lists.{number_at}
 use Rattle.mix_process.proofs.Putting.{number_other}
 use Rattle.mix_process.proofs.Single.{none_here, refused_called}
 use Rattle.mix_process.proofs.Temporary.{IsDone, living_exited}
+use Rattle.mix_process.proofs.Untold.{as_untold, filled_put, filled_up, like_filled, seen_filled, step_filled}
 
 -- How many pages of its own a process has at most
 
@@ -143,9 +145,6 @@ pub written_back : {A : Type 0} (items slice new : List A) (len k : ℕ) (v : A)
 written_back items slice new len k v same e many =
     take_front new (drop (length new) items) len (omega (arith, many, ap length e, ap length same, length-set slice k v)) ∙ e ∙ ap (λ xs. set xs k v) same
 
-some_is : {A : Type 0} (x y : A) → Some x ≡ Some y → x ≡ y
-some_is x y e = cc e
-
 module _ (table : List (Option Process)) (k : ℕ) (p : Process) (there : numbered table k ≡ Some p) where
   abbrev pub left : List (Option Process)
   left = set table (k - 1) None
@@ -207,28 +206,30 @@ renamed_able {Manager} {X} {Chooser} {G} {gmi} {images} {told} made made' proces
   most = can.most;
   tied = tied_renamed processes others r (G.machine gmi told) none_spare images can.tied;
   synchronised = can.synchronised;
+  blank = can.blank;
 }
 
 -- The exit
+
+module _ (x : ProcessMachine) (of : ℕ) where
+  exit_row : (o : Option model.Process) → process_of x of ≡ o → mix.exit_of x of ≡ mix.with_some o refusals.NoProcess x (λ p. mix.reply replies.Done (mix.put_process x of None))
+  unfolding mix.exit_of
+  exit_row o e = ap (λ (o : Option model.Process). mix.with_some o refusals.NoProcess x (λ p. mix.reply replies.Done (mix.put_process x of None))) e
+
+  exit_none : process_of x of ≡ None → mix.exit_of x of ≡ mix.refuse x refusals.NoProcess
+  unfolding mix.with_some
+  exit_none e = exit_row None e
+
+  exit_some : (p : model.Process) → process_of x of ≡ Some p → mix.exit_of x of ≡ mix.reply replies.Done (mix.put_process x of None)
+  unfolding mix.with_some
+  exit_some p e = exit_row (Some p) e
 
 module _ {Manager X Chooser : Type 0} (M : GhostsOfMapper X) (G : GhostsOfGmi Manager X Chooser) (old : Mix Manager) (mapper : X) (can : CanCall G old (M.held mapper) (M.page_bytes mapper)) (of : ProcId) where
   abbrev s : ProcessMachine
   s = processes_seen (G.machine old.gmi (M.held mapper)) old.processes.items old.images.items
 
-  exit_row : (o : Option model.Process) → process_of s of.0 ≡ o → mix.exit_of s of.0 ≡ mix.with_some o refusals.NoProcess s (λ p. mix.reply replies.Done (mix.put_process s of.0 None))
-  unfolding mix.exit_of
-  exit_row o e = ap (λ (o : Option model.Process). mix.with_some o refusals.NoProcess s (λ p. mix.reply replies.Done (mix.put_process s of.0 None))) e
-
-  exit_none : process_of s of.0 ≡ None → mix.exit_of s of.0 ≡ mix.refuse s refusals.NoProcess
-  unfolding mix.with_some
-  exit_none e = exit_row None e
-
-  exit_some : (p : model.Process) → process_of s of.0 ≡ Some p → mix.exit_of s of.0 ≡ mix.reply replies.Done (mix.put_process s of.0 None)
-  unfolding mix.with_some
-  exit_some p e = exit_row (Some p) e
-
   pub exit_nobody : numbered old.processes.items of.0 ≡ None → MixCall M G mapper old (commands.Exit of) (Err (troubles.Refused refusals.NoProcess)) mapper old
-  exit_nobody none = refused_called M G old mapper can (commands.Exit of) (Err (troubles.Refused refusals.NoProcess)) (λ h. exit_none (none_here M G old mapper can of.0 none))
+  exit_nobody none = refused_called M G old mapper can (commands.Exit of) (Err (troubles.Refused refusals.NoProcess)) (λ x like h. exit_none x of.0 (like.nobody of.0 (none_here M G old mapper can of.0 none)))
 
   -- what the process's end needs
   pub end_able : (p : Process) → numbered old.processes.items of.0 ≡ Some p → (items : List (Option Process)) → items ≡ set old.processes.items (of.0 - 1) None
@@ -243,7 +244,7 @@ module _ {Manager X Chooser : Type 0} (M : GhostsOfMapper X) (G : GhostsOfGmi Ma
     made = omega (arith, e.made, ap G.made gmi);
     rises = e.rises;
     rose = e.rose;
-    is = record { step = go (segments_of (M.held after)); segments = e.segments };
+    is = record { step = go (segments_of (M.held after)) refl; segments = e.segments };
   }
     where
       n : Machine
@@ -262,13 +263,22 @@ module _ {Manager X Chooser : Type 0} (M : GhostsOfMapper X) (G : GhostsOfGmi Ma
       before_is : G.machine between.gmi (M.held mapper) ≡ G.machine old.gmi (M.held mapper)
       before_is = ap (λ (g : Manager). G.machine g (M.held mapper)) gmi
 
-      go : (told : Option Segments) → StepAt told (state_of G old (M.held mapper)) (commands.Exit of) (Ok replies.Done) e.rises (state_of G new (M.held after))
-      go None = tt
-      go (Some h) = record {
-        outcome = exit_some (process_seen (G.machine old.gmi (M.held mapper)) p) living ∙ ap (λ (x : ProcessMachine). mix.reply replies.Done x) (sym seen);
-        raised = record {
-          actors = omega (arith, e.alike.actors, ap (λ (x : Machine). length x.actors) before_is);
-          caches = omega (arith, e.alike.caches, ap (λ (x : Machine). length x.caches) before_is);
-          regions = omega (arith, e.alike.regions, ap (λ (x : Machine). x.regions_made) before_is);
-        };
+      raised : RaisedBy no_usage (usage_of (G.machine old.gmi (M.held mapper))) (usage_of n)
+      raised = record {
+        actors = omega (arith, e.alike.actors, ap (λ (x : Machine). length x.actors) before_is);
+        caches = omega (arith, e.alike.caches, ap (λ (x : Machine). length x.caches) before_is);
+        regions = omega (arith, e.alike.regions, ap (λ (x : Machine). x.regions_made) before_is);
+      }
+
+      go : (told : Option Segments) → segments_of (M.held after) ≡ told → StepAt told (state_of G old (M.held mapper)) (commands.Exit of) (Ok replies.Done) e.rises (state_of G new (M.held after))
+      go None untold = step_filled (segments_of (M.held mapper)) (segments_of (M.held after)) s (processes_seen n new.processes.items new.images.items) _ _ (commands.Exit of) (Ok replies.Done) e.rises
+          (seen_filled (G.machine old.gmi (M.held mapper)) old.processes.items old.images.items (as_untold (M.held mapper) (sym e.segments ∙ untold) can.blank))
+          (seen_filled n new.processes.items new.images.items (as_untold (M.held after) untold e.able.blank))
+          (λ h. (let there = (like_filled s).somebody of.0 (process_seen (G.machine old.gmi (M.held mapper)) p) living in record {
+            outcome = exit_some (filled_up s) of.0 there.0 there.1 ∙ ap (mix.reply replies.Done) (sym (ap filled_up seen ∙ filled_put s of.0 None));
+            raised = raised;
+          }))
+      go (Some h) told = record {
+        outcome = exit_some s of.0 (process_seen (G.machine old.gmi (M.held mapper)) p) living ∙ ap (λ (x : ProcessMachine). mix.reply replies.Done x) (sym seen);
+        raised = raised;
       }

@@ -7,6 +7,10 @@ use Rattle.std.proofs.lemmas.Option.{slice_get_within}
 use Rattle.vm_model.specs.Answering.{overwrite}
 use Rattle.vm_model.specs.Machine.{numbered}
 
+pub take_none : {A : Type 0} (xs : List A) → take 0 xs ≡ []
+take_none [] = refl
+take_none (x ∷ xs) = refl
+
 pub get_append : {A : Type 0} (xs ys : List A) (i : ℕ) (x : A) → slice_get xs i ≡ Some x → slice_get (xs ++ ys) i ≡ Some x
 get_append [] ys i x e = absurd (cc e)
 get_append (y ∷ xs) ys zero x e = e

@@ -12,6 +12,7 @@ use Rattle.vm_model.specs.Machine.{Actor, Cache, Machine, Region, actor_of, cach
 use Rattle.vm_model.specs.Regions.{mapping_of}
 use Rattle.vm_model.proofs.Parts.Lists.{get_set_same, numbered_place}
 use Rattle.mix_process.specs.ProcessMachine.{area_start, may_write}
+use Rattle.mix_process.specs.Adding.{most_of}
 use Rattle.mix_process.specs.Seen.{mapping_behind, pages_in, same_area}
 use Rattle.mix_process.specs.Tying.{AreMapped, AreTied, IsPart, IsOwnPart, IsRegionOf, IsRun, IsSingle, IsSmall, Owns, none_spare}
 use Rattle.mix_process.specs.Tying.AreMapped.{none, more}
@@ -53,13 +54,7 @@ region_lies (more before rs p r rest is) k x e = elim (inserted_one r rs k x e) 
   | inr f ↦ lies_more before p x (region_lies rest f.0 x f.1)
 ]
 
--- how many pages an area may have
-abbrev pub most_of : Area → ℕ
-most_of Text = 1024
-most_of Data = 65536
-most_of Stack = 1024
-
-small_in : (parts : List Part) → IsSmall parts → (a : Area) → pages_in a parts ≤ most_of a
+pub small_in : (parts : List Part) → IsSmall parts → (a : Area) → pages_in a parts ≤ most_of a
 small_in parts small Text = small.text
 small_in parts small Data = small.data_pages
 small_in parts small Stack = small.stack

@@ -76,42 +76,60 @@ other_by k false xs n v z some apart =
 pub number_other : {A : Type 0} (xs : List (Option A)) (n k : ℕ) (v : Option A) → 1 ≤ n → k ≢ n → numbered (set xs (n - 1) v) k ≡ numbered xs k
 number_other xs n k v some apart = other_by k (k == 0) xs n v refl some apart
 
+-- A cache becomes one like it
+
+module _ (m : Machine) (number : ℕ) (c d : Cache) (there : cache_of m number ≡ Some c) (like : IsLike c d) where
+  abbrev replaced : Machine
+  replaced = put_cache m number d
+
+  place : (1 ≤ number) × (slice_get m.caches (number - 1) ≡ Some (Some c))
+  place = numbered_place m.caches number c there
+
+  pub became : cache_of replaced number ≡ Some d
+  became = number_at (set m.caches (number - 1) (Some d)) number (Some d) place.0 (get_set_same m.caches (number - 1) (Some d) (slice_get_within m.caches (number - 1) (Some c) place.1))
+
+  pub stayed : (k : ℕ) → k ≢ number → cache_of replaced k ≡ cache_of m k
+  stayed k other = number_other m.caches number k (Some d) place.0 other
+
+  pub shape_kept : HasShape m replaced
+  shape_kept = record {
+    page = refl;
+    actors = refl;
+    there = λ k e f. go k e f (cases_eq k number);
+    back = λ k e f. back k e f (cases_eq k number);
+  }
+    where
+      go : (k : ℕ) (e : Cache) → cache_of m k ≡ Some e → (k ≡ number) ⊎ (k ≢ number) → (x : Cache) × (cache_of replaced k ≡ Some x) × IsLike e x
+      go k e f (inr other) = (e, stayed k other ∙ f, record { segment = refl; many = refl })
+      go k e f (inl same) =
+          let is : Some e ≡ Some c = sym f ∙ ap (cache_of m) same ∙ there in
+          let it : e ≡ c = cc in
+          (d, ap (cache_of replaced) same ∙ became, subst (λ (x : Cache). IsLike x d) (sym it) like)
+
+      back : (k : ℕ) (e : Cache) → cache_of replaced k ≡ Some e → (k ≡ number) ⊎ (k ≢ number) → (x : Cache) × (cache_of m k ≡ Some x) × IsLike e x
+      back k e f (inr other) = (e, sym (stayed k other) ∙ f, record { segment = refl; many = refl })
+      back k e f (inl same) =
+          let is : Some d ≡ Some e = sym became ∙ ap (cache_of replaced) (sym same) ∙ f in
+          let it : d ≡ e = cc in
+          (c, ap (cache_of m) same ∙ there, subst (λ (x : Cache). IsLike x c) it (record { segment = sym like.segment; many = sym like.many }))
+
 -- A page of a cache
 
 module _ (m : Machine) (number : ℕ) (c : Cache) (there : cache_of m number ≡ Some c) (page : ℕ) (bytes : Page) where
   abbrev pub after : Machine
   after = put_cache m number (put_page page bytes c)
 
-  place : (1 ≤ number) × (slice_get m.caches (number - 1) ≡ Some (Some c))
-  place = numbered_place m.caches number c there
+  like_put : IsLike c (put_page page bytes c)
+  like_put = record { segment = refl; many = length-set c.pages page bytes }
 
   pub put_there : cache_of after number ≡ Some (put_page page bytes c)
-  put_there = number_at (set m.caches (number - 1) (Some (put_page page bytes c))) number (Some (put_page page bytes c)) place.0 (get_set_same m.caches (number - 1) (Some (put_page page bytes c)) (slice_get_within m.caches (number - 1) (Some c) place.1))
+  put_there = became m number c (put_page page bytes c) there like_put
 
   pub put_other : (k : ℕ) → k ≢ number → cache_of after k ≡ cache_of m k
-  put_other k other = number_other m.caches number k (Some (put_page page bytes c)) place.0 other
+  put_other k other = stayed m number c (put_page page bytes c) there like_put k other
 
   pub put_shape : HasShape m after
-  put_shape = record {
-    page = refl;
-    actors = refl;
-    there = λ k d e. go k d e (cases_eq k number);
-    back = λ k d e. back k d e (cases_eq k number);
-  }
-    where
-      go : (k : ℕ) (d : Cache) → cache_of m k ≡ Some d → (k ≡ number) ⊎ (k ≢ number) → (x : Cache) × (cache_of after k ≡ Some x) × IsLike d x
-      go k d e (inr other) = (d, put_other k other ∙ e, record { segment = refl; many = refl })
-      go k d e (inl same) =
-          let is : Some d ≡ Some c = sym e ∙ ap (cache_of m) same ∙ there in
-          let like : d ≡ c = cc in
-          (put_page page bytes c, ap (cache_of after) same ∙ put_there, record { segment = ap (λ (c : Cache). c.segment) (sym like); many = length-set c.pages page bytes ∙ ap (λ (c : Cache). length c.pages) (sym like) })
-
-      back : (k : ℕ) (d : Cache) → cache_of after k ≡ Some d → (k ≡ number) ⊎ (k ≢ number) → (x : Cache) × (cache_of m k ≡ Some x) × IsLike d x
-      back k d e (inr other) = (d, sym (put_other k other) ∙ e, record { segment = refl; many = refl })
-      back k d e (inl same) =
-          let is : Some (put_page page bytes c) ≡ Some d = sym put_there ∙ ap (cache_of after) (sym same) ∙ e in
-          let like : put_page page bytes c ≡ d = cc in
-          (c, ap (cache_of m) same ∙ there, record { segment = ap (λ (c : Cache). c.segment) like; many = sym (length-set c.pages page bytes) ∙ ap (λ (c : Cache). length c.pages) like })
+  put_shape = shape_kept m number c (put_page page bytes c) there like_put
 
   pub pages_put : cache_pages after number ≡ set (cache_pages m number) page bytes
   pages_put = pages_there after number (put_page page bytes c) put_there ∙ ap (λ (pages : List Page). set pages page bytes) (sym (pages_there m number c there))

@@ -13,8 +13,8 @@ use Rattle.vm_ids.specs.declared.reply.Reply.TheVariants as replies
 use Rattle.vm_ids.specs.declared.reply.Trouble.TheVariants as troubles
 use Rattle.vm_model.specs.Answering as vm
 use Rattle.vm_model.specs.Answering.{Answer, add_region, overlaps, passes_end}
-use Rattle.vm_model.specs.Machine.{Actor, Cache, Machine, actor_of, cache_of}
-use Rattle.vm_model.specs.Outcome.{Outcome, OutcomeAt, blank}
+use Rattle.vm_model.specs.Machine.{Actor, Cache, Machine, actor_of, cache_of, numbered}
+use Rattle.vm_model.specs.Outcome.{IsAlike, Outcome, OutcomeAt, blank}
 use Rattle.vm_model.specs.PageForest.{PageForest}
 use Rattle.vm_model.specs.declared.limits.TheConstants.{MOST_MADE}
 use Rattle.mix_process.specs.ProcessMachine.{area_start}
@@ -24,7 +24,10 @@ use Rattle.mix_process.specs.declared.area.Area.{Area}
 use Rattle.mix_process.specs.declared.area.Area.TheVariants.{Data, Stack, Text}
 use Rattle.mix_process.specs.declared.process.Part.{Part}
 use Rattle.mix_process.specs.declared.process.Process.{Process}
-use Rattle.mix_process.proofs.Mapping.{most_of, none_overlaps}
+use Rattle.mix_process.specs.Adding.{most_of}
+use Rattle.mix_process.proofs.Mapping.{none_overlaps}
+use Rattle.mix_process.proofs.Shapes.{HasShape, part_like, run_like, whole_shape}
+use Rattle.mix_process.proofs.Temporary.{alike_many, alike_memory}
 
 -- It is mapped.
 pub record IsRegionMade (m : Machine) (actor : ℕ) (regions : Actor) (mapping : Mapping) (answer : Answer) (next : Machine) : Type 0 where
@@ -116,3 +119,37 @@ module _ (m : Machine) (page : m.page_bytes ≡ 4096) (p : Process) (run : IsRun
   mapped f h (Err (troubles.Refused r)) next rises o = by_room (Err (troubles.Refused r)) next (nat_le MOST_MADE m.regions_made) refl (sym map_row ∙ o)
   mapped f h (Err (troubles.Mapper at)) next rises o = absurd o.2
   mapped f h (Err troubles.Memory) next rises o = inr (record { next_is = o.0; why = inl refl })
+
+-- Where the segments are told and where they aren't
+
+made_alike : (number : ℕ) (b : Answer) → IsAlike (Ok (replies.Region (record { 0 = number }))) b → b ≡ Ok (replies.Region (record { 0 = number }))
+made_alike number b h = sym h
+
+regions_whole : (m w : Machine) → m ≡ blank w → w.regions_made ≡ m.regions_made
+regions_whole m w is = sym (ap (λ (x : Machine). x.regions_made) is)
+
+mapped_blank : (m w next wn : Machine) (actor : ℕ) (regions : Actor) (at : Mapping) (a b : Answer) → m ≡ blank w → next ≡ blank wn → IsAlike a b → Maps w actor regions at a wn → Maps m actor regions at b next
+mapped_blank m w next wn actor regions at a b is is_next alike (inl r) = inl (record {
+  answer_is = made_alike (w.regions_made + 1) b (subst (λ (x : Answer). IsAlike x b) r.answer_is alike) ∙ ap (λ (n : ℕ). let x : Answer = Ok (replies.Region (record { 0 = n + 1 })) in x) (regions_whole m w is);
+  next_is = is_next ∙ ap blank r.next_is ∙ ap (λ (x : Machine). add_region x actor regions at) (sym is);
+})
+mapped_blank m w next wn actor regions at a b is is_next alike (inr u) = inr (record {
+  next_is = is_next ∙ ap blank u.next_is ∙ sym is;
+  why = elim u.why [
+    | inl e ↦ inl (alike_memory a b e alike)
+    | inr e ↦ inr (alike_many a b e.0 alike, ap (nat_le MOST_MADE) (sym (regions_whole m w is)) ∙ e.1)
+  ];
+})
+
+-- what a map of a part comes to
+pub mapped_at : (told : Option Segments) (m : Machine) (page : m.page_bytes ≡ 4096) (p : Process) (run : IsRun m p) (part : Part) (is_part : IsPart m part.area part) (few : pages_in part.area p.parts.items + part.pages ≤ most_of part.area)
+    (f : Option PageForest) (a : Answer) (next : Machine) (rises : MapperCounts) → OutcomeAt told m f (vm_commands.Map p.actor (mapping_behind p.parts.items part)) a next rises → Maps m p.actor.0 run.regions (mapping_behind p.parts.items part) a next
+mapped_at (Some h) m page p run part is_part few f a next rises o = mapped m page p run part is_part few f h a next rises o
+mapped_at None m page p run part is_part few f a next rises o =
+    let w : Machine = o.whole in
+    let shape : HasShape m w = whole_shape m w o.is in
+    let run_w : IsRun w p = run_like m w shape p run in
+    let regions : run_w.regions ≡ run.regions = (let both : Some run_w.regions ≡ Some run.regions = sym run_w.there ∙ ap (λ (actors : List (Option Actor)). numbered actors p.actor.0) shape.actors ∙ run.there in cc both) in
+    mapped_blank m w next o.whole_next p.actor.0 run.regions (mapping_behind p.parts.items part) o.whole_answer a o.is o.is_next o.alike
+    (subst (λ (rs : Actor). Maps w p.actor.0 rs (mapping_behind p.parts.items part) o.whole_answer o.whole_next) regions
+    (mapped w (shape.page ∙ page) p run_w part (part_like m w shape part.area part is_part) few f o.segments o.whole_answer o.whole_next rises o.outcome))

@@ -1,11 +1,12 @@
 -- The ties hold of each machine of the same shape: with the same actors, and as many pages in each
 -- cache.
 use Rattle.std.proofs.Common.{◌≡◌, ◌≢◌, ◌⊎◌, inl, inr, ℕ, ◌+◌, ◌-◌, ◌≤◌, List, [], ◌∷◌, length, map, Option, Some, None, refl, sym, ap, subst, ◌∙◌, arith}
-use Rattle.std.specs.Prelude.{option_map, slice_get}
+use Rattle.std.specs.Prelude.{option_map, slice_get, sum_by}
 use Rattle.std.specs.Option.{option_map_or}
 use Rattle.std.proofs.lemmas.List.{length-map}
+use Rattle.std.proofs.lemmas.List.Sums.{sum_by-cons}
 use Rattle.std.specs.List.{AllByRecursion}
-use Rattle.vm_model.specs.Machine.{Actor, Cache, Machine, Page, actor_of, cache_of, numbered}
+use Rattle.vm_model.specs.Machine.{Actor, Cache, Machine, Page, actor_of, cache_of, live_pages, numbered, pages_in}
 use Rattle.vm_model.specs.Outcome.{blank, blank_cache}
 use Rattle.vm_model.proofs.Parts.Lists.{numbered-map}
 use Rattle.mix_process.specs.Seen.{cache_pages}
@@ -50,14 +51,14 @@ shape_then m n o s t = record { page = t.page ∙ s.page; actors = t.actors ∙ 
 
 -- Machines without bytes
 
-blank_at : (w : Machine) (k : ℕ) → cache_of (blank w) k ≡ option_map blank_cache (cache_of w k)
+pub blank_at : (w : Machine) (k : ℕ) → cache_of (blank w) k ≡ option_map blank_cache (cache_of w k)
 blank_at w k = numbered-map blank_cache w.caches k
 
-mapped_some : {A B : Type 0} (f : A → B) (o : Option A) (y : B) → option_map f o ≡ Some y → (x : A) × (o ≡ Some x) × (f x ≡ y)
+pub mapped_some : {A B : Type 0} (f : A → B) (o : Option A) (y : B) → option_map f o ≡ Some y → (x : A) × (o ≡ Some x) × (f x ≡ y)
 mapped_some f None y e = absurd (cc e)
 mapped_some f (Some x) y e = (x, refl, cc e)
 
-abbrev emptied : Page → Page
+abbrev pub emptied : Page → Page
 emptied page = []
 
 pub blank_shape : (w : Machine) → HasShape w (blank w)
@@ -69,12 +70,27 @@ blank_shape w = record {
       (x.0, x.1, record { segment = ap (λ (c : Cache). c.segment) x.2; many = sym (length-map x.0.pages emptied) ∙ ap (λ (c : Cache). length c.pages) x.2 }));
 }
 
+-- a machine that is this one but for its bytes
+pub whole_shape : (m w : Machine) → m ≡ blank w → HasShape m w
+whole_shape m w is = subst (λ (x : Machine). HasShape x w) (sym is) (shape_back w (blank w) (blank_shape w))
+
 blank_of : (o : Option Cache) → option_map_or (λ (c : Cache). c.pages) (option_map blank_cache o) [] ≡ map (λ _. []) (option_map_or (λ (c : Cache). c.pages) o [])
 blank_of None = refl
 blank_of (Some c) = refl
 
 pub blank_pages : (w : Machine) (k : ℕ) → cache_pages (blank w) k ≡ map (λ _. []) (cache_pages w k)
 blank_pages w k = ap (λ (o : Option Cache). option_map_or (λ (c : Cache). c.pages) o []) (blank_at w k) ∙ blank_of (cache_of w k)
+
+same_pages : (o : Option Cache) → pages_in (option_map blank_cache o) ≡ pages_in o
+same_pages None = refl
+same_pages (Some c) = length-map c.pages emptied
+
+blank_sum : (cs : List (Option Cache)) → sum_by pages_in (map (option_map blank_cache) cs) ≡ sum_by pages_in cs
+blank_sum [] = refl
+blank_sum (c ∷ cs) = omega (arith, sum_by-cons pages_in (option_map blank_cache c) (map (option_map blank_cache) cs), sum_by-cons pages_in c cs, same_pages c, blank_sum cs)
+
+pub blank_live : (w : Machine) → live_pages (blank w) ≡ live_pages w
+blank_live w = blank_sum w.caches
 
 module _ (m n : Machine) (s : HasShape m n) where
   own_like : (p : Part) → IsOwnCache m p → IsOwnCache n p
@@ -87,7 +103,7 @@ module _ (m n : Machine) (s : HasShape m n) where
       let d = s.there p.cache.0 h.cache h.there in
       record { cache = d.0; seg = h.seg; there = d.1; named = d.2.segment ∙ h.named; some = h.some; many = omega (arith, h.many, d.2.many) }
 
-  part_like : (a : Area) (p : Part) → IsPart m a p → IsPart n a p
+  pub part_like : (a : Area) (p : Part) → IsPart m a p → IsPart n a p
   part_like Text p h = image_like p h
   part_like Data p h = own_like p h
   part_like Stack p h = own_like p h

@@ -47,8 +47,9 @@ use Rattle.mix_process.specs.declared.mix.Mix.{Mix}
 use Rattle.mix_process.specs.declared.process.Process.{Process}
 use Rattle.mix_process.proofs.Loading.{IsLiving, load_outcome}
 use Rattle.mix_process.proofs.Pushes.{segments_stay, still_synchronised}
-use Rattle.mix_process.proofs.Shapes.{HasShape, shape_self, tied_like}
+use Rattle.mix_process.proofs.Shapes.{HasShape, run_like, shape_self, tied_like, whole_shape}
 use Rattle.mix_process.proofs.Storing.{IsPut, store_outcome, store_put}
+use Rattle.mix_process.proofs.Untold.{AreLike, as_untold, blank_after, filled_up, like_filled, like_self, seen_filled, step_blank, step_filled}
 
 -- Commands that leave the machine
 
@@ -131,14 +132,24 @@ module _ {Manager X Chooser : Type 0} (M : GhostsOfMapper X) (G : GhostsOfGmi Ma
     most = omega (arith, can.most, ap length shape.actors);
     tied = tied_like m n shape (numbered old.processes.items) none_spare old.images.items can.tied;
     synchronised = images_like (M.held after) old.images.items alike (still_synchronised m (numbered old.processes.items) none_spare old.images.items can.tied (M.held before) (M.held after) call_is.pushes call_is.is.pushed can.synchronised);
+    blank = blank_after (M.held after) m n (G.forest old.gmi (M.held before)) c a call_is.rises call_is.is.outcome;
   }
 
-  -- The call, where it touches one page at most and an outcome of the one is an outcome of the other.
-  pub called : (command : MixCommand) (answer : Answer) → pages_touched m c ≤ 1 → HasShape m n
+  abbrev pub table : List (Option Process)
+  table = old.processes.items
+
+  abbrev pub images : List Image
+  images = old.images.items
+
+  -- The call, where it touches one page at most and an outcome of the one is an outcome of the
+  -- other, whatever bytes the machine has.
+  pub called : (command : MixCommand) → pages_touched m c ≤ 1 → HasShape m n
       → ((i : ℕ) (image : Image) → slice_get old.images.items i ≡ Some image → cache_pages n image.cache.0 ≡ cache_pages m image.cache.0)
-      → ((h : Segments) → Outcome m (G.forest old.gmi (M.held before)) c h a n call_is.rises → StepOver h (state_of G old (M.held before)) command answer call_is.rises (state_of G with_manager (M.held after)))
-      → MixCall M G before old command answer after with_manager
-  called command answer one shape alike step = record {
+      → ((x y : Machine) → HasShape m x → (h : Segments) (b : Answer) → Outcome x (G.forest old.gmi (M.held before)) c h b y call_is.rises
+      → mix_outcome.Outcome (processes_seen x table images) (usage_of x) command h b (processes_seen y table images) call_is.rises
+      × RaisedBy (makes (processes_seen x table images) command h) (usage_of x) (usage_of y))
+      → MixCall M G before old command a after with_manager
+  called command one shape alike step = record {
     can = can_after shape alike;
     made = raises_little m n c a (G.made old.gmi) (G.made gmi) one (keeps.live can.live) call.made;
     rises = call_is.rises;
@@ -149,22 +160,23 @@ module _ {Manager X Chooser : Type 0} (M : GhostsOfMapper X) (G : GhostsOfGmi Ma
     };
   }
     where
-      go : (told : Option Segments) → OutcomeAt told m (G.forest old.gmi (M.held before)) c a n call_is.rises → StepAt told (state_of G old (M.held before)) command answer call_is.rises (state_of G with_manager (M.held after))
-      go None o = tt
-      go (Some h) o = step h o
+      go : (told : Option Segments) → OutcomeAt told m (G.forest old.gmi (M.held before)) c a n call_is.rises → StepAt told (state_of G old (M.held before)) command a call_is.rises (state_of G with_manager (M.held after))
+      go None o = step_blank (segments_of (M.held before)) (segments_of (M.held after)) m n (G.forest old.gmi (M.held before)) c a call_is.rises command table images o
+          (let x = step o.whole o.whole_next (whole_shape m o.whole o.is) o.segments o.whole_answer o.outcome in record { outcome = x.0; raised = x.1 })
+      go (Some h) o = let x = step m n (shape_self m) h a o in record { outcome = x.0; raised = x.1 }
 
   -- a call that leaves the machine
-  pub called_steady : (command : MixCommand) (answer : Answer) → pages_touched m c ≤ 1 → IsSteady c
-      → ((h : Segments) → Outcome m (G.forest old.gmi (M.held before)) c h a n call_is.rises
-      → mix_outcome.Outcome (processes_seen m old.processes.items old.images.items) (usage_of m) command h answer (processes_seen m old.processes.items old.images.items) call_is.rises)
-      → MixCall M G before old command answer after with_manager
-  called_steady command answer one steady outcome =
+  pub called_steady : (command : MixCommand) → pages_touched m c ≤ 1 → IsSteady c
+      → ((x y : Machine) → HasShape m x → (h : Segments) (b : Answer) → Outcome x (G.forest old.gmi (M.held before)) c h b y call_is.rises
+      → mix_outcome.Outcome (processes_seen x table images) (usage_of x) command h b (processes_seen x table images) call_is.rises)
+      → MixCall M G before old command a after with_manager
+  called_steady command one steady outcome =
       let same : n ≡ m = steady_at (segments_of (M.held after)) c steady m (G.forest old.gmi (M.held before)) a n call_is.rises call_is.is.outcome in
-      called command answer one (subst (HasShape m) (sym same) (shape_self m)) (λ i image e. ap (λ (x : Machine). cache_pages x image.cache.0) same)
-      (λ h o. record {
-        outcome = subst (λ (x : Machine). mix_outcome.Outcome (processes_seen m old.processes.items old.images.items) (usage_of m) command h answer (processes_seen x old.processes.items old.images.items) call_is.rises) (sym same) (outcome h o);
-        raised = subst (λ (x : Machine). RaisedBy (makes (processes_seen m old.processes.items old.images.items) command h) (usage_of m) (usage_of x)) (sym same) (raised_none _ (usage_of m));
-      })
+      called command one (subst (HasShape m) (sym same) (shape_self m)) (λ i image e. ap (λ (x : Machine). cache_pages x image.cache.0) same)
+      (λ x y shape h b o. (let still : y ≡ x = outcome_steady c steady x (G.forest old.gmi (M.held before)) h b y call_is.rises o in (
+        subst (λ (z : Machine). mix_outcome.Outcome (processes_seen x table images) (usage_of x) command h b (processes_seen z table images) call_is.rises) (sym still) (outcome x y shape h b o),
+        subst (λ (z : Machine). RaisedBy (makes (processes_seen x table images) command h) (usage_of x) (usage_of z)) (sym still) (raised_none _ (usage_of x)),
+      )))
 
 -- The calls
 
@@ -187,44 +199,48 @@ module _ {Manager X Chooser : Type 0} (M : GhostsOfMapper X) (G : GhostsOfGmi Ma
   u = usage_of (G.machine old.gmi (M.held before))
 
   -- a call that is refused before the manager is called
-  pub refused_called : (command : MixCommand) (answer : Answer) → ((h : Segments) → mix_outcome.Outcome s u command h answer s no_counts) → MixCall M G before old command answer before old
+  pub refused_called : (command : MixCommand) (answer : Answer) → ((x : ProcessMachine) → AreLike s x → (h : Segments) → mix_outcome.Outcome x u command h answer x no_counts) → MixCall M G before old command answer before old
   refused_called command answer outcome = record {
     can = can;
     made = omega arith;
     rises = no_counts;
     rose = rise_none (M.counts before);
-    is = record { step = go (segments_of (M.held before)); segments = refl };
+    is = record { step = go (segments_of (M.held before)) refl; segments = refl };
   }
     where
-      go : (told : Option Segments) → StepAt told (state_of G old (M.held before)) command answer no_counts (state_of G old (M.held before))
-      go None = tt
-      go (Some h) = record { outcome = outcome h; raised = raised_none (makes s command h) u }
+      go : (told : Option Segments) → segments_of (M.held before) ≡ told → StepAt told (state_of G old (M.held before)) command answer no_counts (state_of G old (M.held before))
+      go None e =
+          let blank_is = seen_filled (G.machine old.gmi (M.held before)) old.processes.items old.images.items (as_untold (M.held before) e can.blank) in
+          step_filled (segments_of (M.held before)) (segments_of (M.held before)) s s u u command answer no_counts blank_is blank_is
+          (λ h. record { outcome = outcome (filled_up s) (like_filled s) h; raised = raised_none (makes (filled_up s) command h) u })
+      go (Some h) e = record { outcome = outcome s (like_self s) h; raised = raised_none (makes s command h) u }
 
   module _ (gmi : Manager) (after : X) where
     pub page_out_called : (count : ℕ) (a : Answer) → MapperCall M (meanings_of G) before old.gmi (vm_commands.PageOut count) a after gmi → MixCall M G before old (commands.PageOut count) a after (record old { gmi = gmi })
     page_out_called count a call =
-        called_steady M G old gmi before after (vm_commands.PageOut count) a can call (commands.PageOut count) a (omega arith) (λ m f h. refl)
-        (λ h o. page_out_outcome (G.machine old.gmi (M.held before)) (G.machine gmi (M.held after)) (G.forest old.gmi (M.held before)) s u h count a _ o)
+        called_steady M G old gmi before after (vm_commands.PageOut count) a can call (commands.PageOut count) (omega arith) (λ m f h. refl)
+        (λ x y shape h b o. page_out_outcome x y (G.forest old.gmi (M.held before)) (processes_seen x old.processes.items old.images.items) (usage_of x) h count b _ o)
 
     pub load_called : (of : ProcId) (p : Process) → numbered old.processes.items of.0 ≡ Some p → (address length : ℕ) (a : Answer)
         → MapperCall M (meanings_of G) before old.gmi (vm_commands.Load p.actor address length) a after gmi → MixCall M G before old (commands.Load of address length) a after (record old { gmi = gmi })
     load_called of p there address length a call =
-        let live : IsLiving (G.machine old.gmi (M.held before)) old.processes.items of.0 p = record { page = can.tied.page; there = there; run = can.tied.run of.0 p there } in
-        called_steady M G old gmi before after (vm_commands.Load p.actor address length) a can call (commands.Load of address length) a (omega arith) (λ m f h. load_steady p.actor.0 address m length)
-        (λ h o. (load_outcome (G.machine old.gmi (M.held before)) old.processes.items old.images.items of p live (G.forest old.gmi (M.held before)) u h address length a (G.machine gmi (M.held after)) _ o).0)
+        called_steady M G old gmi before after (vm_commands.Load p.actor address length) a can call (commands.Load of address length) (omega arith) (λ m f h. load_steady p.actor.0 address m length)
+        (λ x y shape h b o.
+        let live : IsLiving x old.processes.items of.0 p = record { page = shape.page ∙ can.tied.page; there = there; run = run_like (G.machine old.gmi (M.held before)) x shape p (can.tied.run of.0 p there) } in
+        (load_outcome x old.processes.items old.images.items of p live (G.forest old.gmi (M.held before)) (usage_of x) h address length b y _ o).0)
 
     pub store_called : (of : ProcId) (p : Process) → numbered old.processes.items of.0 ≡ Some p → (address : ℕ) (piece : List ℕ) (a : Answer)
         → MapperCall M (meanings_of G) before old.gmi (vm_commands.Store p.actor address piece) a after gmi → MixCall M G before old (commands.Store of address piece) a after (record old { gmi = gmi })
     store_called of p there address piece a call =
         let m : Machine = G.machine old.gmi (M.held before) in
-        let live : IsLiving m old.processes.items of.0 p = record { page = can.tied.page; there = there; run = can.tied.run of.0 p there } in
         let it = call_is M G old gmi before after (vm_commands.Store p.actor address piece) a can call in
         let put : IsPut m (G.machine gmi (M.held after)) old.images.items = store_put (segments_of (M.held after)) m old.processes.items none_spare old.images.items can.tied of p there (G.forest old.gmi (M.held before)) address piece a (G.machine gmi (M.held after)) it.rises it.is.outcome in
-        called M G old gmi before after (vm_commands.Store p.actor address piece) a can call (commands.Store of address piece) a (omega arith) put.shape put.alike
-        (λ h o. record {
-          outcome = (store_outcome m old.processes.items none_spare old.images.items can.tied of p live (G.forest old.gmi (M.held before)) u h address piece a (G.machine gmi (M.held after)) it.rises o).0;
-          raised = record { actors = omega (arith, ap length put.shape.actors); caches = omega (arith, put.caches); regions = omega (arith, put.regions) };
-        })
+        called M G old gmi before after (vm_commands.Store p.actor address piece) a can call (commands.Store of address piece) (omega arith) put.shape put.alike
+        (λ x y shape h b o.
+        let tied : AreTied x (numbered old.processes.items) none_spare old.images.items = tied_like m x shape (numbered old.processes.items) none_spare old.images.items can.tied in
+        let live : IsLiving x old.processes.items of.0 p = record { page = tied.page; there = there; run = tied.run of.0 p there } in
+        let stored = store_outcome x old.processes.items none_spare old.images.items tied of p live (G.forest old.gmi (M.held before)) (usage_of x) h address piece b y it.rises o in
+        (stored.0, record { actors = omega (arith, ap length stored.1.shape.actors); caches = omega (arith, stored.1.caches); regions = omega (arith, stored.1.regions) }))
 
   -- no living process has the number
   pub none_here : (n : ℕ) → numbered old.processes.items n ≡ None → process_of s n ≡ None
@@ -233,16 +249,20 @@ module _ {Manager X Chooser : Type 0} (M : GhostsOfMapper X) (G : GhostsOfGmi Ma
   nobody : (length : ℕ) (b : ℕ) (address : ℕ) (o : Option model.Process) → o ≡ None → place_of b o address length ≡ Err refusals.NoProcess
   nobody length b address o e = ap (λ (o : Option model.Process). place_of b o address length) e
 
-  load_row_nobody : (of : ProcId) (address length : ℕ) → numbered old.processes.items of.0 ≡ None → mix.load_of s of.0 address length ≡ record { answer = Err (troubles.Refused refusals.NoProcess); next = s }
-  unfolding mix.load_of mix.with_ok
-  load_row_nobody of address length none = ap (λ (o : Result model.Place Refusal). mix.with_ok o s (λ at. mix.reply (replies.Bytes (take length (drop at.byte (mix.page_at at)))) s)) (nobody length s.page_bytes address (process_of s of.0) (none_here of.0 none))
+  module _ (x : ProcessMachine) (like : AreLike s x) (of : ProcId) (none : numbered old.processes.items of.0 ≡ None) where
+    none_there : process_of x of.0 ≡ None
+    none_there = like.nobody of.0 (none_here of.0 none)
+
+    load_row_nobody : (address length : ℕ) → mix.load_of x of.0 address length ≡ record { answer = Err (troubles.Refused refusals.NoProcess); next = x }
+    unfolding mix.load_of mix.with_ok
+    load_row_nobody address length = ap (λ (o : Result model.Place Refusal). mix.with_ok o x (λ at. mix.reply (replies.Bytes (take length (drop at.byte (mix.page_at at)))) x)) (nobody length x.page_bytes address (process_of x of.0) none_there)
+
+    store_row_nobody : (address : ℕ) (piece : List ℕ) → mix.store_of x of.0 address piece ≡ record { answer = Err (troubles.Refused refusals.NoProcess); next = x }
+    unfolding mix.store_of mix.with_ok
+    store_row_nobody address piece = ap (λ (o : Result model.Place Refusal). mix.with_ok o x (λ at. mix.unless (not (model.may_write at.area)) refusals.Protection x (mix.reply replies.Done (mix.put_process x of.0 (Some (mix.written_at at piece)))))) (nobody (length piece) x.page_bytes address (process_of x of.0) none_there)
 
   pub load_nobody : (of : ProcId) (address length : ℕ) → numbered old.processes.items of.0 ≡ None → MixCall M G before old (commands.Load of address length) (Err (troubles.Refused refusals.NoProcess)) before old
-  load_nobody of address length none = refused_called (commands.Load of address length) (Err (troubles.Refused refusals.NoProcess)) (λ h. load_row_nobody of address length none)
-
-  store_row_nobody : (of : ProcId) (address : ℕ) (piece : List ℕ) → numbered old.processes.items of.0 ≡ None → mix.store_of s of.0 address piece ≡ record { answer = Err (troubles.Refused refusals.NoProcess); next = s }
-  unfolding mix.store_of mix.with_ok
-  store_row_nobody of address piece none = ap (λ (o : Result model.Place Refusal). mix.with_ok o s (λ at. mix.unless (not (model.may_write at.area)) refusals.Protection s (mix.reply replies.Done (mix.put_process s of.0 (Some (mix.written_at at piece)))))) (nobody (length piece) s.page_bytes address (process_of s of.0) (none_here of.0 none))
+  load_nobody of address length none = refused_called (commands.Load of address length) (Err (troubles.Refused refusals.NoProcess)) (λ x like h. load_row_nobody x like of none address length)
 
   pub store_nobody : (of : ProcId) (address : ℕ) (piece : List ℕ) → numbered old.processes.items of.0 ≡ None → MixCall M G before old (commands.Store of address piece) (Err (troubles.Refused refusals.NoProcess)) before old
-  store_nobody of address piece none = refused_called (commands.Store of address piece) (Err (troubles.Refused refusals.NoProcess)) (λ h. store_row_nobody of address piece none)
+  store_nobody of address piece none = refused_called (commands.Store of address piece) (Err (troubles.Refused refusals.NoProcess)) (λ x like h. store_row_nobody x like of none address piece)

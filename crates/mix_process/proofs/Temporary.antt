@@ -41,8 +41,14 @@ done_by_row m f c h after row sure enough (Err (troubles.Refused r)) next rises 
 done_by_row m f c h after row sure enough (Err (troubles.Mapper at)) next rises o = absurd (sure at rises o.2)
 done_by_row m f c h after row sure enough (Err troubles.Memory) next rises o = absurd (enough o.1)
 
-alike_done : (a b : Answer) → a ≡ Ok replies.Done → IsAlike a b → b ≡ Ok replies.Done
+pub alike_done : (a b : Answer) → a ≡ Ok replies.Done → IsAlike a b → b ≡ Ok replies.Done
 alike_done a b e h = sym (subst (λ (a : Answer). IsAlike a b) e h)
+
+pub alike_memory : (a b : Answer) → a ≡ Err troubles.Memory → IsAlike a b → b ≡ Err troubles.Memory
+alike_memory a b e h = sym (subst (λ (a : Answer). IsAlike a b) e h)
+
+pub alike_many : (a b : Answer) → a ≡ Err (troubles.Refused refusals.TooMany) → IsAlike a b → b ≡ Err (troubles.Refused refusals.TooMany)
+alike_many a b e h = sym (subst (λ (a : Answer). IsAlike a b) e h)
 
 -- The cache
 
@@ -55,7 +61,7 @@ destroyed m cache c there free =
     ap (λ (o : Option Cache). with_some o refusals.NoCache m (λ c. unless (is_mapped m cache) refusals.InUse m (reply replies.Done (without m cache)))) there
     ∙ ap (λ (b : Bool). unless b refusals.InUse m (reply replies.Done (without m cache))) free
 
-no_name : (m : Machine) (cache : ℕ) (c : Cache) → cache_of m cache ≡ Some c → c.segment ≡ None → IsNamed m cache → ⊥
+pub no_name : (m : Machine) (cache : ℕ) (c : Cache) → cache_of m cache ≡ Some c → c.segment ≡ None → IsNamed m cache → ⊥
 no_name m cache c there none named =
     let not_so : is_named m cache ≡ false = ap (λ (o : Option Cache). option_map_or (λ (c : Cache). is_some c.segment) o false) there ∙ ap is_some none in
     let wrong : false ≡ true = subst IsTrue not_so named in

@@ -1,19 +1,27 @@
 -- What the inner calls say that give a process one more part.
-use Rattle.std.specs.Prelude.{◌≡◌, ◌≢◌, ◌≤◌, ℕ, ◌+◌, ◌*◌, List, [], ◌∷◌, ◌++◌, length, take, drop, replicate, Option, Some, None, slice_get, slice_set, Result, Ok, Err, IfSome}
+use Rattle.std.specs.Prelude.{◌≡◌, ◌≢◌, ◌⊎◌, ◌≤◌, ℕ, ◌+◌, ◌*◌, List, [], ◌∷◌, ◌++◌, length, take, drop, replicate, Option, Some, None, slice_get, slice_set, Result, Ok, Err, IfErr, IfSome, OnOk, true}
 use Rattle.vm_ids.specs.Counting.{MapperCounts, Rise}
 use Rattle.vm_ids.specs.Held.{Held, Segments, segments_of}
+use Rattle.vm_ids.specs.declared.command.Command.TheVariants.{Map}
+use Rattle.vm_ids.specs.declared.command.Mapping.{Mapping}
+use Rattle.vm_ids.specs.declared.numbers.ActorId.{ActorId}
 use Rattle.vm_ids.specs.declared.numbers.CacheId.{CacheId}
 use Rattle.vm_ids.specs.declared.numbers.PageNo.{PageNo}
+use Rattle.vm_ids.specs.declared.numbers.RegionId.{RegionId}
+use Rattle.vm_ids.specs.declared.reply.Reply.TheVariants.{Region}
 use Rattle.vm_ids.specs.declared.reply.Trouble.{Trouble}
+use Rattle.vm_ids.specs.declared.reply.Trouble.TheVariants.{Memory}
 use Rattle.vm_model.specs.Machine.{Cache, Machine, Page, cache_of, numbered, zero_page}
 use Rattle.vm_port.specs.declared.traits.mapper.Mapper.{Ghosts as GhostsOfMapper}
+use Rattle.gmi_calls.specs.Calling.{CallDone}
+use Rattle.gmi_calls.specs.Managing.{meanings_of}
 use Rattle.gmi_calls.specs.declared.gmi.Gmi.{Ghosts as GhostsOfGmi}
 use Rattle.mix_process.specs.Inner.{spare_of}
 use Rattle.mix_process.specs.Outcome.{Usage, usage_of, usage_to_grow}
 use Rattle.mix_process.specs.ProcessMachine as model
-use Rattle.mix_process.specs.ProcessMachine.{ProcessMachine}
-use Rattle.mix_process.specs.Seen.{cache_pages, pages_in, part_seen, process_seen, processes_seen}
-use Rattle.mix_process.specs.Tying.{AreAble, CanCall, IsOwnPart, IsPart}
+use Rattle.mix_process.specs.ProcessMachine.{ProcessMachine, may_write}
+use Rattle.mix_process.specs.Seen.{cache_pages, mapping_behind, pages_in, part_seen, process_seen, processes_seen}
+use Rattle.mix_process.specs.Tying.{AreAble, CanCall, IsOwnCache, IsOwnPart, IsPart}
 use Rattle.mix_process.specs.Use.{IsLack, IsWithin, usage_sum}
 use Rattle.mix_process.specs.declared.area.Area.{Area}
 use Rattle.mix_process.specs.declared.area.Area.TheVariants.{Data, Stack, Text}
@@ -70,6 +78,27 @@ usage_to_map = record { living = 0; actors = 0; caches = 0; regions = 1; pages =
 -- how far it may raise the number that bounds the manager's counters
 abbrev pub map_budget : Machine → Part → ℕ
 map_budget m part = 8 * (part.pages + length (cache_pages m part.cache.0)) + 8
+
+-- the parts that a process has then: one more where it was mapped
+abbrev pub parts_then : List Part → Part → Result (Unit {0}) Trouble → List Part
+parts_then parts part (Ok u) = parts ++ part ∷ []
+parts_then parts part (Err trouble) = parts
+
+-- The manager answered the map, or wasn't called for want of memory.
+abbrev pub MapCalled : {Manager Mapper Chooser : Type 0} → GhostsOfGmi Manager Mapper Chooser
+    → Manager → ActorId → Mapping → Result (Unit {0}) Trouble → Manager → Type 0
+MapCalled G old actor mapping (Ok u) new = (region : RegionId)
+    × CallDone (meanings_of G) old (Map actor mapping) (Ok (Region region)) new
+MapCalled G old actor mapping (Err trouble) new = ((trouble ≡ Memory) × (new ≡ old))
+    ⊎ CallDone (meanings_of G) old (Map actor mapping) (Err trouble) new
+
+-- A part was mapped into a process, or there was a lack.
+pub record MapsInto {Manager Mapper Chooser : Type 0} (G : GhostsOfGmi Manager Mapper Chooser)
+    (old : Manager) (process : Process) (part : Part) (result : Result (Unit {0}) Trouble)
+    (new : Manager) (now : Process) : Type 0 where
+  pub actor : now.actor ≡ process.actor
+  pub parts : now.parts.items ≡ parts_then process.parts.items part result
+  pub call : MapCalled G old process.actor (mapping_behind process.parts.items part) result new
 
 -- The part can be mapped into the process at this place. Its cache is spare, where it is to be the
 -- process's own.
@@ -150,8 +179,122 @@ own_budget m source pages = 80 * pages + 8 * source_pages m source
 pub record MayAdd (m : Machine) (processes : List (Option Process)) (place : ℕ) (process : Process)
     (area : Area) (pages : ℕ) (source : Option Source) : Type 0 where
   pub room : HasRoom processes place process area pages
-  pub own : area ≢ Text
+  pub own : may_write area ≡ true
   pub source_there : HasSource m source pages
+
+-- The fill of a spare cache
+
+-- each cache that was there is as it was, but for this one
+abbrev pub AreKeptBut : ℕ → Machine → Machine → Type 0
+AreKeptBut one m next = (cache : ℕ) (c : Cache) → cache ≢ one → cache_of m cache ≡ Some c
+    → cache_of next cache ≡ Some c
+
+-- The cache of the part is spare, and has just the part's pages. It is to be a process's own.
+pub record HasSpare {Manager Mapper Chooser : Type 0} (M : GhostsOfMapper Mapper)
+    (G : GhostsOfGmi Manager Mapper Chooser) (mapper : Mapper) (mix : Mix Manager) (part : Part)
+    : Type 0 where
+  pub able : AreAble G mix.gmi mix.images.items (M.held mapper) (M.page_bytes mapper)
+      (length mix.processes.items) (numbered mix.processes.items) (spare_of (part ∷ []))
+  pub own : IsOwnPart part
+  pub cache : IsOwnCache (G.machine mix.gmi (M.held mapper)) part
+
+-- the source has the pages for the part, and is another cache
+abbrev pub IsSourceOf : Machine → Part → Option Source → Type 0
+IsSourceOf m part source =
+    HasSource m source part.pages × IfSome source (λ s. s.0.0 ≢ part.cache.0)
+
+-- the pages that a part's cache gets: those from the source on, or what it has
+abbrev pub filled : Machine → Part → Option Source → List Page
+filled m part (Some source) = take part.pages (drop source.1.0 (cache_pages m source.0.0))
+filled m part None = cache_pages m part.cache.0
+
+abbrev pub fill_budget : Machine → Part → Option Source → ℕ
+fill_budget m part source = 16 * part.pages + 8 * source_pages m source + 8
+
+-- A spare cache was filled, or there is no memory for it.
+pub record IsFilled {Manager Mapper Chooser : Type 0} (M : GhostsOfMapper Mapper)
+    (G : GhostsOfGmi Manager Mapper Chooser) (before : Mapper) (old : Mix Manager) (part : Part)
+    (source : Option Source) (result : Result (Unit {0}) Trouble) (after : Mapper)
+    (new : Mix Manager) : Type 0 where
+  pub has : HasSpare M G after new part
+  pub same : new ≡ record old { gmi = new.gmi }
+  pub pages : OnOk result (cache_pages (G.machine new.gmi (M.held after)) part.cache.0
+      ≡ filled (G.machine old.gmi (M.held before)) part source)
+  pub kept : AreKeptBut part.cache.0 (G.machine old.gmi (M.held before))
+      (G.machine new.gmi (M.held after))
+  pub seen : processes_seen (G.machine new.gmi (M.held after)) old.processes.items old.images.items
+      ≡ processes_seen (G.machine old.gmi (M.held before)) old.processes.items old.images.items
+  pub used : IsWithin (usage_of (G.machine new.gmi (M.held after)))
+      (usage_of (G.machine old.gmi (M.held before)))
+  pub lack : IfErr result (λ trouble. trouble ≡ Memory)
+  pub made : G.made new.gmi
+      ≤ G.made old.gmi + fill_budget (G.machine old.gmi (M.held before)) part source
+  pub rises : MapperCounts
+  pub rose : Rise (M.counts before) (M.counts after) rises
+  pub segments : segments_of (M.held after) ≡ segments_of (M.held before)
+
+-- The part has a spare cache and a source, and can be mapped into the process.
+pub record MayFill {Manager Mapper Chooser : Type 0} (M : GhostsOfMapper Mapper)
+    (G : GhostsOfGmi Manager Mapper Chooser) (mapper : Mapper) (mix : Mix Manager) (place : ℕ)
+    (process : Process) (part : Part) (source : Option Source) : Type 0 where
+  pub spare : HasSpare M G mapper mix part
+  pub room : HasRoom mix.processes.items place process part.area part.pages
+  pub source_there : IsSourceOf (G.machine mix.gmi (M.held mapper)) part source
+
+-- The part is filled and mapped.
+pub record HasMapped {Manager Mapper Chooser : Type 0} (M : GhostsOfMapper Mapper)
+    (G : GhostsOfGmi Manager Mapper Chooser) (before : Mapper) (old : Mix Manager) (place : ℕ)
+    (process : Process) (part : Part) (source : Option Source) (after : Mapper) (new : Mix Manager)
+    : Type 0 where
+  pub can : CanCall G new (M.held after) (M.page_bytes after)
+  pub put : IsPutAt old place process (part ∷ []) new
+  pub has : cache_pages (G.machine new.gmi (M.held after)) part.cache.0
+      ≡ filled (G.machine old.gmi (M.held before)) part source
+  pub seen : processes_seen (G.machine new.gmi (M.held after)) new.processes.items new.images.items
+      ≡ put_at
+      (processes_seen (G.machine old.gmi (M.held before)) old.processes.items old.images.items)
+      place (with_more part.area (filled (G.machine old.gmi (M.held before)) part source)
+      (process_seen (G.machine old.gmi (M.held before)) process))
+  pub used : IsWithin (usage_of (G.machine new.gmi (M.held after)))
+      (usage_sum (usage_of (G.machine old.gmi (M.held before))) usage_to_map)
+
+-- It isn't, and its cache is spare still.
+pub record HasNotMapped {Manager Mapper Chooser : Type 0} (M : GhostsOfMapper Mapper)
+    (G : GhostsOfGmi Manager Mapper Chooser) (before : Mapper) (old : Mix Manager) (place : ℕ)
+    (process : Process) (part : Part) (trouble : Trouble) (after : Mapper) (new : Mix Manager)
+    : Type 0 where
+  pub spare : HasSpare M G after new part
+  pub put : IsPutAt old place process [] new
+  pub seen : processes_seen (G.machine new.gmi (M.held after)) new.processes.items new.images.items
+      ≡ processes_seen (G.machine old.gmi (M.held before)) old.processes.items old.images.items
+  pub used : IsWithin (usage_of (G.machine new.gmi (M.held after)))
+      (usage_of (G.machine old.gmi (M.held before)))
+  pub lack : IsLack (usage_of (G.machine old.gmi (M.held before))) usage_to_map trouble
+
+abbrev pub MapsFilled : {Manager Mapper Chooser : Type 0} → GhostsOfMapper Mapper
+    → GhostsOfGmi Manager Mapper Chooser → Mapper → Mix Manager → ℕ → Process → Part
+    → Option Source → Result (Unit {0}) Trouble → Mapper → Mix Manager → Type 0
+MapsFilled M G before old place process part source (Ok u) after new =
+    HasMapped M G before old place process part source after new
+MapsFilled M G before old place process part source (Err trouble) after new =
+    HasNotMapped M G before old place process part trouble after new
+
+-- A part was filled and mapped, or there was a lack.
+pub record FillsAndMaps {Manager Mapper Chooser : Type 0} (M : GhostsOfMapper Mapper)
+    (G : GhostsOfGmi Manager Mapper Chooser) (before : Mapper) (old : Mix Manager) (place : ℕ)
+    (process : Process) (part : Part) (source : Option Source)
+    (result : Result (Unit {0}) Trouble) (after : Mapper) (new : Mix Manager) : Type 0 where
+  pub maps : MapsFilled M G before old place process part source result after new
+  pub kept : AreKeptBut part.cache.0 (G.machine old.gmi (M.held before))
+      (G.machine new.gmi (M.held after))
+  pub made : G.made new.gmi
+      ≤ G.made old.gmi + fill_budget (G.machine old.gmi (M.held before)) part source
+      + 16 * part.pages + 8
+  pub rises : MapperCounts
+  pub rose : Rise (M.counts before) (M.counts after) rises
+  pub segments : segments_of (M.held after) ≡ segments_of (M.held before)
+
+-- The growth of a process
 
 -- Of the process: it has the pages, as a part with a cache of its own; or it is as it was.
 pub record HasAdded {Manager : Type 0} (m next : Machine) (told : Option Segments)

@@ -97,7 +97,10 @@ exit_of m process =
 -- the process with so many more pages of zeros behind its data
 abbrev pub grown_by : ℕ → ℕ → Process → Process
 grown_by page_bytes pages p =
-    record p { data_pages = p.data_pages ++ replicate pages (zero_page page_bytes); pieces = p.pieces + 1 }
+    record p {
+      data_pages = p.data_pages ++ replicate pages (zero_page page_bytes);
+      pieces = p.pieces + 1;
+    }
 
 -- grow: zeros are appended to the data of the process
 unfoldable pub grow_of : ProcessMachine → ℕ → ℕ → Answered

@@ -21,8 +21,8 @@ use Rattle.mix_process.specs.ProcessMachine.{Place, Process, ProcessMachine, ima
 use Rattle.mix_process.specs.declared.area.Area.{Area}
 use Rattle.mix_process.specs.declared.area.Area.TheVariants.{Data, Stack, Text}
 
--- What a manager has: the actors alive, the actors, caches and regions made so far, and the pages of
--- all live caches.
+-- What a manager has: the actors alive, the actors, caches and regions made so far, and the pages
+-- of all live caches.
 pub record Usage : Type 0 where
   pub living : ℕ
   pub actors : ℕ
@@ -49,7 +49,9 @@ usage_for caches pages =
 
 -- a fork makes as much as the process has
 abbrev pub usage_to_fork : Process → Usage
-usage_to_fork p = usage_for (2 + p.pieces) (length p.text_pages + length p.data_pages + length p.stack_pages)
+usage_to_fork p =
+    usage_for (2 + p.pieces)
+    (length p.text_pages + length p.data_pages + length p.stack_pages)
 
 -- a growth makes one cache of so many pages, and its region
 abbrev pub usage_to_grow : ℕ → Usage

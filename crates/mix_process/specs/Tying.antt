@@ -1,10 +1,11 @@
 -- How the processes are tied to the machine that their manager stands for.
-use Rattle.std.specs.Prelude.{◌≡◌, ◌≢◌, ◌≤◌, ◌⊎◌, ℕ, false, true, List, [], ◌∷◌, ◌++◌, length, Option, Some, None, slice_get, IfSome}
+use Rattle.std.specs.Prelude.{◌≡◌, ◌≢◌, ◌≤◌, ◌⊎◌, ℕ, false, true, List, [], ◌∷◌, ◌++◌, length, Option, Some, None, slice_get, IfNone, IfSome}
 use Rattle.std.specs.List.{AllByRecursion, list_any}
 use Rattle.std.specs.FinMap.{get}
 use Rattle.vm_ids.specs.Held.{Held}
 use Rattle.vm_model.specs.Answering.{insert_region, overlaps}
 use Rattle.vm_model.specs.Machine.{Actor, Cache, Machine, Region, actor_of, cache_of, live_pages, living_actors, numbered}
+use Rattle.vm_model.specs.Outcome.{blank}
 use Rattle.vm_model.specs.Regions.{mapping_of}
 use Rattle.vm_model.specs.declared.limits.TheConstants.{LIVE_PAGES, LIVING_ACTORS, MOST_MADE}
 use Rattle.gmi_calls.specs.Calling.{Fits}
@@ -117,6 +118,10 @@ AreSynchronised m images told = IfSome told (λ h. (i : ℕ) (image : Image)
     → slice_get images i ≡ Some image
     → get h.segments image.seg.0 ≡ Some (cache_pages m image.cache.0))
 
+-- where nothing is told, the machine has no bytes
+abbrev pub IsUntoldBlank : Option Held → Machine → Type 0
+IsUntoldBlank told m = IfNone told (m ≡ blank m)
+
 -- no cache is spare
 abbrev pub none_spare : ℕ → Type 0
 none_spare cache = ⊥
@@ -136,6 +141,7 @@ pub record AreAble {Manager Mapper Chooser : Type 0} (G : GhostsOfGmi Manager Ma
   pub most : length (G.machine gmi told).actors ≤ MOST_MADE
   pub tied : AreTied (G.machine gmi told) processes spare images
   pub synchronised : AreSynchronised (G.machine gmi told) images told
+  pub blank : IsUntoldBlank told (G.machine gmi told)
 
 -- what it takes to call the processes
 abbrev pub CanCall : {Manager Mapper Chooser : Type 0} → GhostsOfGmi Manager Mapper Chooser

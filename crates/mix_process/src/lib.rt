@@ -12,10 +12,11 @@
 //! tied to that machine (`Tying`): each process is a living actor whose regions are its parts, each
 //! part has a cache of its own or shares the one of an image, and the machine has no other actors
 //! and caches. Each call leads from one such tie to the next (`Calling`); inner calls say besides
-//! which caches are spare, that is of no process (`Inner`). A part is mapped behind what its area
-//! has, so no two regions ever overlap; text and stack are one part, and each growth of the data is
-//! a part more. An image's cache is never written, so that what is pushed to its segment is what the
-//! segment holds.
+//! which caches are spare, that is of no process (`Inner`, `Adding`). Where the mapper doesn't tell
+//! what it holds, the same is said of processes without bytes (`Stepping`). A part is mapped behind
+//! what its area has, so no two regions ever overlap; text and stack are one part, and each growth
+//! of the data is a part more. An image's cache is never written, so that what is pushed to its
+//! segment is what the segment holds.
 #![tactic(auto)]
 
 mod answering;

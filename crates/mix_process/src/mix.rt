@@ -1,14 +1,20 @@
 // The processes, and the calls of them.
-ghost use Rattle.std.specs.Prelude.{◌≡◌, ℕ, Option, ◌≤◌, ◌+◌, ◌-◌, ◌*◌, ◌^◌, [], length, slice_set, None, Some, IfNone, IfSome};
+ghost use Rattle.std.specs.Prelude.{◌≡◌, ℕ, Option, ◌≤◌, ◌<◌, ◌+◌, ◌-◌, ◌*◌, ◌^◌, [], length, option_map, slice_get, slice_set, None, Some, IfErr, IfNone, IfOk, IfSome, OnErr};
 ghost use Rattle.vm_ids.specs.Held.{Held, segments_of};
+ghost use Rattle.vm_ids.specs.declared.refusal.Refusal.TheVariants.{NoProcess};
 ghost use Rattle.vm_model.specs.Answering.{answer_by};
-ghost use Rattle.vm_model.specs.Machine.{numbered};
+ghost use Rattle.vm_model.specs.Machine.{Cache, cache_of, numbered};
 ghost use Rattle.gmi_calls.specs.Calling.{done_by};
-ghost use Rattle.mix_process.specs.Adding.{IsAdded, MapsPart, MayAdd, MayMap};
+ghost use Rattle.mix_process.specs.Adding.{FillsAndMaps, HasSpare, IsAdded, IsFilled, IsSourceOf, MapsInto, MapsPart, MayAdd, MayFill, MayMap};
+ghost use Rattle.mix_process.specs.Answering.{is_too_large};
 ghost use Rattle.mix_process.specs.Calling.{MixCall, beginning, made_by};
+ghost use Rattle.mix_process.specs.Copying.{IsCopied, IsInherited, MayCopy, MayInherit};
 ghost use Rattle.mix_process.specs.Inner.{AreApart, AreCleared, AreOwn, IsEnded, own_pages, spare_of, with_extra};
-ghost use Rattle.mix_process.specs.Seen.{state_of};
+ghost use Rattle.mix_process.specs.Loaded.{IsLoaded, MayLoad};
+ghost use Rattle.mix_process.specs.Starting.{Checks, IsLastAlive, IsMadeOrTakenBack, IsOpened, IsStarted, as_bad_image, image_for};
 ghost use Rattle.mix_process.specs.declared.process.Process.{Process};
+ghost use Rattle.mix_process.specs.Seen.{pages_in, state_of};
+ghost use Rattle.mix_process.specs.declared.area.Area.TheVariants.{Data};
 ghost use Rattle.mix_process.specs.Tying.{AreAble, CanCall, IsBare, none_spare};
 
 use crate::Area;
@@ -81,7 +87,7 @@ impl<G> Mix<G> {
             (MixCommand.Exec seg text_pages data_pages stack_pages) (answer_by Reply.Process result)
             mapper.new self.new }
     {
-        if text_pages > MOST_TEXT || data_pages > MOST_DATA || stack_pages > MOST_STACK {
+        if is_too_large(text_pages, data_pages, stack_pages) {
             return Err(Trouble::Refused(Refusal::TooLarge));
         }
         let image = self.open_image(seg, mapper)?;
@@ -187,8 +193,8 @@ impl<G> Mix<G> {
         requires few { length ≤ 64 }
         requires can { CanCall G.Gmi self.old (M.held mapper.old) (M.page_bytes mapper.old) }
         requires made { G.made self.old.gmi ≤ 2 ^ 61 }
-        ensures { MixCall M.Mapper G.Gmi mapper.old self.old (MixCommand.Load of address length) (answer_by Reply.Bytes result)
-            mapper.new self.new }
+        ensures { MixCall M.Mapper G.Gmi mapper.old self.old (MixCommand.Load of address length)
+            (answer_by Reply.Bytes result) mapper.new self.new }
     {
         let actor = match numbered(&self.processes, of.0) {
             Some(process) => process.actor,
@@ -211,8 +217,8 @@ impl<G> Mix<G> {
         G: Gmi<M, C>,
         requires can { CanCall G.Gmi self.old (M.held mapper.old) (M.page_bytes mapper.old) }
         requires made { G.made self.old.gmi ≤ 2 ^ 61 }
-        ensures { MixCall M.Mapper G.Gmi mapper.old self.old (MixCommand.Store of address piece.now) (done_by result)
-            mapper.new self.new }
+        ensures { MixCall M.Mapper G.Gmi mapper.old self.old
+            (MixCommand.Store of address piece.now) (done_by result) mapper.new self.new }
     {
         let actor = match numbered(&self.processes, of.0) {
             Some(process) => process.actor,
@@ -233,25 +239,32 @@ impl<G> Mix<G> {
         requires some { 1 ≤ count }
         requires can { CanCall G.Gmi self.old (M.held mapper.old) (M.page_bytes mapper.old) }
         requires made { G.made self.old.gmi ≤ 2 ^ 61 }
-        ensures { MixCall M.Mapper G.Gmi mapper.old self.old (MixCommand.PageOut count) (done_by result)
-            mapper.new self.new }
+        ensures { MixCall M.Mapper G.Gmi mapper.old self.old (MixCommand.PageOut count)
+            (done_by result) mapper.new self.new }
     {
         self.gmi.page_out(count, mapper, chooser)
     }
 
     // Where a living process stands.
-    fn place_of(&self, of: ProcId) -> Result<usize, Refusal> {
-        if of.0 == 0 {
-            return Err(Refusal::NoProcess);
-        }
-        match self.processes.get(of.0 as usize - 1) {
-            Some(Some(_)) => Ok(of.0 as usize - 1),
-            _ => Err(Refusal::NoProcess),
+    fn place_of(&self, of: ProcId) -> Result<usize, Refusal>
+        ensures found { IfOk result (λ place. (of.0 ≡ place + 1)
+            × ((p : Process) × (slice_get self.now.processes.items place ≡ Some (Some p)))) }
+        ensures nobody { OnErr result (numbered self.now.processes.items of.0 ≡ None) }
+        ensures refusal { IfErr result (λ r. r ≡ NoProcess) }
+    {
+        match numbered(&self.processes, of.0) {
+            Some(_) => Ok(of.0 as usize - 1),
+            None => Err(Refusal::NoProcess),
         }
     }
 
     // How many pages of data a process has.
-    fn data_pages(&self, place: usize) -> u64 {
+    fn data_pages(&self, place: usize) -> u64
+        requires there { (p : Process) × (slice_get self.now.processes.items place ≡ Some (Some p))
+            × (pages_in Data p.parts.items ≤ MOST_DATA) }
+        ensures { (p : Process) → slice_get self.now.processes.items place ≡ Some (Some p)
+            → result ≡ pages_in Data p.parts.items }
+    {
         match &self.processes[place] {
             Some(process) => pages_in(Area::Data, &process.parts),
             None => 0,
@@ -266,9 +279,13 @@ impl<G> Mix<G> {
     ) -> Result<CacheId, Trouble>
     where
         G: Gmi<M, C>,
+        requires can { CanCall G.Gmi self.old (M.held mapper.old) (M.page_bytes mapper.old) }
+        requires made { G.made self.old.gmi ≤ 2 ^ 62 }
+        ensures { IsOpened M.Mapper G.Gmi mapper.old self.old seg result mapper.new self.new }
     {
-        if let Some(cache) = cache_for(&self.images, seg) {
-            return Ok(cache);
+        match cache_for(&self.images, seg) {
+            Some(cache) => return Ok(cache),
+            None => {}
         }
         self.images.reserve(1)?;
         let cache = self.gmi.open_segment(seg, mapper)?;
@@ -280,11 +297,14 @@ impl<G> Mix<G> {
     fn check_image<M: Mapper, C: Chooser>(&self, image: CacheId, pages: u32) -> Result<(), Trouble>
     where
         G: Gmi<M, C>,
+        requires { 1 ≤ pages }
+        ensures { (told : Option Held) → G.valid self.now.gmi told → G.room self.now.gmi ≡ None
+            → (cache : Cache) → cache_of (G.machine self.now.gmi told) image.0 ≡ Some cache
+            → Checks cache.pages pages result }
     {
         match self.gmi.chain(image, PageNo(pages - 1)) {
             Ok(_) => Ok(()),
-            Err(Trouble::Refused(_)) => Err(Trouble::Refused(Refusal::BadImage)),
-            Err(trouble) => Err(trouble),
+            Err(trouble) => Err(bad_image(trouble)),
         }
     }
 
@@ -292,6 +312,11 @@ impl<G> Mix<G> {
     fn make_process<M: Mapper, C: Chooser>(&mut self) -> Result<(), Trouble>
     where
         G: Gmi<M, C>,
+        requires valid { (told : Option Held) × G.valid self.old.gmi told }
+        requires made { G.made self.old.gmi ≤ 2 ^ 62 }
+        ensures { (told : Option Held) (page_bytes : Option ℕ)
+            → CanCall G.Gmi self.old told page_bytes
+            → IsStarted G.Gmi told page_bytes self.old result self.new }
     {
         self.processes.reserve(1)?;
         let actor = self.gmi.make_actor()?;
@@ -311,6 +336,14 @@ impl<G> Mix<G> {
     ) -> Result<(), Trouble>
     where
         G: Gmi<M, C>,
+        requires can { CanCall G.Gmi self.old (M.held mapper.old) (M.page_bytes mapper.old) }
+        requires may { MayLoad (G.machine self.old.gmi (M.held mapper.old))
+            self.old.processes.items text data_pages stack_pages }
+        requires made { G.made self.old.gmi ≤ 2 ^ 61 + 2 ^ 29 }
+        ensures { (may : MayLoad (G.machine self.old.gmi (M.held mapper.old))
+            self.old.processes.items text data_pages stack_pages)
+            → IsLoaded M.Mapper G.Gmi mapper.old self.old may.front text data_pages stack_pages
+            result mapper.new self.new }
     {
         let place = self.processes.len() - 1;
         let behind = Some((text.cache, PageNo(text.pages)));
@@ -328,24 +361,55 @@ impl<G> Mix<G> {
     ) -> Result<(), Trouble>
     where
         G: Gmi<M, C>,
+        requires can { CanCall G.Gmi self.old (M.held mapper.old) (M.page_bytes mapper.old) }
+        requires may { (process : Process) × MayInherit self.old.processes.items parent process }
+        requires made { G.made self.old.gmi ≤ 2 ^ 61 + 2 ^ 29 }
+        ensures { (process : Process) (may : MayInherit self.old.processes.items parent process)
+            → IsInherited M.Mapper G.Gmi mapper.old self.old may.front process result mapper.new
+            self.new }
     {
         let place = self.processes.len() - 1;
         let mut next = 0;
         while let Some(part) = self.part_of(parent, next) {
-            match part.area {
-                Area::Text => self.map_part(place, part)?,
-                _ => {
-                    let source = Some((part.cache, PageNo(0)));
-                    self.add_own(place, part.area, part.pages, source, mapper, chooser)?;
-                }
-            }
+            self.copy_part(place, part, mapper, chooser)?;
             next += 1;
         }
         Ok(())
     }
 
+    // A process gets what this part of another has.
+    fn copy_part<M: Mapper, C: Chooser>(
+        &mut self,
+        place: usize,
+        part: Part,
+        mapper: &mut M,
+        chooser: &mut C,
+    ) -> Result<(), Trouble>
+    where
+        G: Gmi<M, C>,
+        requires can { CanCall G.Gmi self.old (M.held mapper.old) (M.page_bytes mapper.old) }
+        requires may { (process : Process) × MayCopy (G.machine self.old.gmi (M.held mapper.old))
+            self.old.processes.items place process part }
+        requires made { G.made self.old.gmi ≤ 2 ^ 61 + 2 ^ 30 }
+        ensures { (process : Process) → MayCopy (G.machine self.old.gmi (M.held mapper.old))
+            self.old.processes.items place process part
+            → IsCopied M.Mapper G.Gmi mapper.old self.old place process part result mapper.new
+            self.new }
+    {
+        if may_write(part.area) {
+            let source = Some((part.cache, PageNo(0)));
+            self.add_own(place, part.area, part.pages, source, mapper, chooser)
+        } else {
+            self.map_part(place, part)
+        }
+    }
+
     // A part of a process.
-    fn part_of(&self, place: usize, part: usize) -> Option<Part> {
+    fn part_of(&self, place: usize, part: usize) -> Option<Part>
+        requires { place < length self.now.processes.items }
+        ensures { IfSome (numbered self.now.processes.items (place + 1))
+            (λ p. result ≡ slice_get p.parts.items part) }
+    {
         match &self.processes[place] {
             Some(process) => process.parts.get(part).copied(),
             None => None,
@@ -384,7 +448,7 @@ impl<G> Mix<G> {
         }
     }
 
-    // Copies pages into a cache, where a source is told, and maps it.
+    // Copies pages into a spare cache, where a source is told, and maps it.
     fn fill_and_map<M: Mapper, C: Chooser>(
         &mut self,
         place: usize,
@@ -395,18 +459,45 @@ impl<G> Mix<G> {
     ) -> Result<(), Trouble>
     where
         G: Gmi<M, C>,
+        requires may { (process : Process) × MayFill M.Mapper G.Gmi mapper.old self.old place
+            process part source }
+        requires made { G.made self.old.gmi ≤ 2 ^ 61 + 2 ^ 31 }
+        ensures { (process : Process) → MayFill M.Mapper G.Gmi mapper.old self.old place process
+            part source
+            → FillsAndMaps M.Mapper G.Gmi mapper.old self.old place process part source result
+            mapper.new self.new }
     {
-        if let Some((from, from_page)) = source {
-            let span = Span {
-                from,
-                from_page,
-                to: part.cache,
-                to_page: PageNo(0),
-                pages: part.pages,
-            };
-            self.gmi.copy_pages(span, mapper, chooser)?;
-        }
+        self.fill(part, source, mapper, chooser)?;
         self.map_part(place, part)
+    }
+
+    // Copies pages into a spare cache, where a source is told.
+    fn fill<M: Mapper, C: Chooser>(
+        &mut self,
+        part: Part,
+        source: Option<(CacheId, PageNo)>,
+        mapper: &mut M,
+        chooser: &mut C,
+    ) -> Result<(), Trouble>
+    where
+        G: Gmi<M, C>,
+        requires has { HasSpare M.Mapper G.Gmi mapper.old self.old part }
+        requires source { IsSourceOf (G.machine self.old.gmi (M.held mapper.old)) part source }
+        requires made { G.made self.old.gmi ≤ 2 ^ 61 + 2 ^ 31 }
+        ensures { IsFilled M.Mapper G.Gmi mapper.old self.old part source result mapper.new
+            self.new }
+    {
+        let Some((from, from_page)) = source else {
+            return Ok(());
+        };
+        let span = Span {
+            from,
+            from_page,
+            to: part.cache,
+            to_page: PageNo(0),
+            pages: part.pages,
+        };
+        self.gmi.copy_pages(span, mapper, chooser)
     }
 
     // Maps a part into a process, behind what its area has.
@@ -420,14 +511,10 @@ impl<G> Mix<G> {
             → MayMap G.Gmi told page_bytes self.old place process part
             → MapsPart G.Gmi told page_bytes self.old place process part result self.new }
     {
-        let Some(process) = &mut self.processes[place] else {
-            unreachable!()
-        };
-        process.parts.reserve(1)?;
-        let mapping = mapping_behind(&process.parts, part);
-        self.gmi.map(process.actor, mapping)?;
-        process.parts.push_reserved(part);
-        Ok(())
+        match &mut self.processes[place] {
+            Some(process) => map_into(&mut self.gmi, process, part),
+            None => unreachable!(),
+        }
     }
 
     // The number of the last process; or it is taken back, since it couldn't be made whole.
@@ -439,12 +526,18 @@ impl<G> Mix<G> {
     ) -> Result<ProcId, Trouble>
     where
         G: Gmi<M, C>,
+        requires can { CanCall G.Gmi self.old (M.held mapper.old) (M.page_bytes mapper.old) }
+        requires made { G.made self.old.gmi ≤ 2 ^ 61 + 2 ^ 30 }
+        requires last { IsLastAlive self.old.processes.items }
+        ensures { IsMadeOrTakenBack M.Mapper G.Gmi mapper.old self.old made result mapper.new
+            self.new }
     {
         match made {
             Ok(()) => Ok(ProcId(self.processes.len() as u32)),
             Err(trouble) => {
-                if let Some(Some(process)) = self.processes.pop() {
-                    self.end(process, mapper, chooser);
+                match self.processes.pop() {
+                    Some(Some(process)) => self.end(process, mapper, chooser),
+                    _ => unreachable!(),
                 }
                 Err(trouble)
             }
@@ -493,6 +586,27 @@ impl<G> Mix<G> {
     }
 }
 
+// Maps a part into a process, behind what its area has.
+fn map_into<G, M: Mapper, C: Chooser>(
+    gmi: &mut G,
+    process: &mut Process,
+    part: Part,
+) -> Result<(), Trouble>
+where
+    G: Gmi<M, C>,
+    requires some { 1 ≤ part.pages }
+    requires few { pages_in part.area process.old.parts.items ≤ 2 ^ 32 }
+    requires valid { (told : Option Held) × G.valid gmi.old told }
+    requires made { G.made gmi.old ≤ 2 ^ 62 }
+    ensures { MapsInto G.Gmi gmi.old process.old part result gmi.new process.new }
+{
+    process.parts.reserve(1)?;
+    let mapping = mapping_behind(&process.parts, part);
+    gmi.map(process.actor, mapping)?;
+    process.parts.push_reserved(part);
+    Ok(())
+}
+
 // Takes a process out of the table, where it is alive.
 fn take(processes: &mut [Option<Process>], of: ProcId) -> Option<Process>
     ensures taken { IfSome result (λ p. numbered processes.old of.0 ≡ Some p) }
@@ -506,8 +620,27 @@ fn take(processes: &mut [Option<Process>], of: ProcId) -> Option<Process>
     processes[of.0 as usize - 1].take()
 }
 
+// Whether an area of a process would be longer than one may be.
+fn is_too_large(text_pages: u32, data_pages: u32, stack_pages: u32) -> bool
+    ensures { result ≡ is_too_large text_pages data_pages stack_pages }
+{
+    text_pages > MOST_TEXT || data_pages > MOST_DATA || stack_pages > MOST_STACK
+}
+
+// What a segment's cache refuses is a bad image.
+fn bad_image(trouble: Trouble) -> Trouble
+    ensures { result ≡ as_bad_image trouble }
+{
+    match trouble {
+        Trouble::Refused(_) => Trouble::Refused(Refusal::BadImage),
+        trouble => trouble,
+    }
+}
+
 // The cache of a segment among these.
-fn cache_for(images: &[Image], seg: SegId) -> Option<CacheId> {
+fn cache_for(images: &[Image], seg: SegId) -> Option<CacheId>
+    ensures { result ≡ option_map (λ i. i.cache) (image_for images.now seg.0) }
+{
     for image in images {
         if image.seg == seg {
             return Some(image.cache);

@@ -1,6 +1,7 @@
 // One process: its actor, and which caches are mapped into it.
-ghost use Rattle.std.specs.Prelude.{◌≡◌};
+ghost use Rattle.std.specs.Prelude.{◌≡◌, ◌≤◌, ◌<◌, ◌^◌};
 ghost use Rattle.mix_process.specs.ProcessMachine.{area_start, may_write};
+ghost use Rattle.mix_process.specs.Seen.{mapping_behind, pages_in, same_area};
 
 use crate::Area;
 use crate::area::{DATA_START, STACK_START, TEXT_START};
@@ -43,11 +44,21 @@ pub(crate) fn may_write(area: Area) -> bool
     }
 }
 
+// Whether two areas are the same.
+fn is_same(a: Area, b: Area) -> bool
+    ensures { result ≡ same_area a b }
+{
+    a == b
+}
+
 // How many pages an area has.
-pub(crate) fn pages_in(area: Area, parts: &[Part]) -> u64 {
+pub(crate) fn pages_in(area: Area, parts: &[Part]) -> u64
+    requires few { pages_in area parts.now < 2 ^ 64 }
+    ensures { result ≡ pages_in area parts.now }
+{
     let mut pages = 0;
     for part in parts {
-        if part.area == area {
+        if is_same(part.area, area) {
             pages += part.pages as u64;
         }
     }
@@ -55,7 +66,10 @@ pub(crate) fn pages_in(area: Area, parts: &[Part]) -> u64 {
 }
 
 // The mapping of a part behind what its area has in these.
-pub(crate) fn mapping_behind(parts: &[Part], part: Part) -> Mapping {
+pub(crate) fn mapping_behind(parts: &[Part], part: Part) -> Mapping
+    requires few { pages_in part.area parts.now ≤ 2 ^ 32 }
+    ensures { result ≡ mapping_behind parts.now part }
+{
     Mapping {
         extent: Extent {
             cache: part.cache,

@@ -1,0 +1,183 @@
+-- Steps of processes where the mapper doesn't tell what it holds.
+use Rattle.std.proofs.Common.{◌≡◌, ℕ, zero, suc, ◌+◌, ◌-◌, Bool, true, false, cond, List, [], ◌∷◌, ◌++◌, length, map, set, take, replicate, Option, Some, None, refl, sym, ap, subst, ◌∙◌, arith}
+use Rattle.std.specs.Prelude.{Ok, Err, IfNone, option_map}
+use Rattle.std.specs.FinMap.{empty}
+use Rattle.std.proofs.lemmas.List.{length-map, map-append, map-set, take-map}
+use Rattle.vm_ids.specs.Counting.{MapperCounts}
+use Rattle.vm_ids.specs.Held.{Held, Segments, segments_of}
+use Rattle.vm_ids.specs.declared.command.Command.{Command}
+use Rattle.vm_ids.specs.declared.command.MixCommand.{MixCommand}
+use Rattle.vm_ids.specs.declared.reply.Reply.TheVariants as replies
+use Rattle.vm_model.specs.Answering.{Answer}
+use Rattle.vm_model.specs.Machine.{Cache, Machine, Page, numbered, zero_page}
+use Rattle.vm_model.specs.Outcome.{BlankOutcome, IsAlike, Outcome, OutcomeAt, blank, blank_cache}
+use Rattle.vm_model.specs.PageForest.{PageForest}
+use Rattle.vm_model.proofs.Parts.Lists.{numbered-map}
+use Rattle.gmi_calls.specs.Untold.{UntoldStep}
+use Rattle.mix_process.specs.Answering.{put_process}
+use Rattle.mix_process.specs.Outcome.{Usage, usage_of}
+use Rattle.mix_process.specs.ProcessMachine as model
+use Rattle.mix_process.specs.ProcessMachine.{ProcessMachine, process_of}
+use Rattle.mix_process.specs.Seen.{area_seen, cache_pages, image_seen, part_seen, parts_in, process_seen, processes_seen, same_area}
+use Rattle.mix_process.specs.Stepping.{State, StepOver, each_in, each_of, each_page, forget, no_bytes}
+use Rattle.mix_process.specs.Tying.{IsUntoldBlank}
+use Rattle.mix_process.specs.declared.area.Area.{Area}
+use Rattle.mix_process.specs.declared.area.Area.TheVariants.{Data, Stack, Text}
+use Rattle.mix_process.specs.declared.mix.Image.{Image}
+use Rattle.mix_process.specs.declared.process.Part.{Part}
+use Rattle.mix_process.specs.declared.process.Process.{Process}
+use Rattle.mix_process.proofs.Shapes.{blank_live, blank_pages, emptied}
+
+-- Lists
+
+then_same : {A B C : Type 0} (f : B → C) (g : A → B) (h : A → C) → ((x : A) → f (g x) ≡ h x) → (xs : List A) → map f (map g xs) ≡ map h xs
+then_same f g h e [] = refl
+then_same f g h e (x ∷ xs) = λ i. e x i ∷ then_same f g h e xs i
+
+some_then : {A B C : Type 0} (f : B → C) (g : A → B) (h : A → C) → ((x : A) → f (g x) ≡ h x) → (o : Option A) → option_map f (option_map g o) ≡ option_map h o
+some_then f g h e None = refl
+some_then f g h e (Some x) = ap Some (e x)
+
+pub map-replicate : {A B : Type 0} (f : A → B) (n : ℕ) (x : A) → map f (replicate n x) ≡ replicate n (f x)
+map-replicate f zero x = refl
+map-replicate f (suc n) x = ap (λ xs. f x ∷ xs) (map-replicate f n x)
+
+-- Machines without bytes
+
+blank_twice : (m : Machine) → blank (blank m) ≡ blank m
+blank_twice m = λ i. record m { caches = then_same (option_map blank_cache) (option_map blank_cache) (option_map blank_cache) (some_then blank_cache blank_cache blank_cache (λ c j. record c { pages = then_same emptied emptied emptied (λ p. refl) c.pages j })) m.caches i }
+
+-- a machine to which an answer leads has no bytes where nothing is told
+pub blank_after : (told : Option Held) (m n : Machine) (f : Option PageForest) (c : Command) (a : Answer) (rises : MapperCounts) → OutcomeAt (segments_of told) m f c a n rises → IsUntoldBlank told n
+blank_after None m n f c a rises o = o.is_next ∙ sym (blank_twice o.whole_next) ∙ ap blank (sym o.is_next)
+blank_after (Some h) m n f c a rises o = tt
+
+pub blank_bare : (told : Option Held) (m : Machine) → m.caches ≡ [] → IsUntoldBlank told m
+blank_bare (Some h) m bare = tt
+blank_bare None m bare = λ i. record m { caches = (bare ∙ sym (ap (map (option_map blank_cache)) bare)) i }
+
+-- nothing is told
+pub as_untold : {P : Type 0} (told : Option Held) → segments_of told ≡ None → IfNone told P → P
+as_untold None e p = p
+as_untold (Some h) e p = absurd (cc e)
+
+-- What is seen of them
+
+map_chosen : (f : Page → Page) (b : Bool) (xs : List Page) → map f (cond b xs []) ≡ cond b (map f xs) []
+map_chosen f true xs = refl
+map_chosen f false xs = refl
+
+area_blank : (m : Machine) (a : Area) (parts : List Part) → area_seen (blank m) a parts ≡ map no_bytes (area_seen m a parts)
+area_blank m a [] = refl
+area_blank m a (p ∷ ps) =
+    (λ i. cond (same_area p.area a) (take p.pages (blank_pages m p.cache.0 i)) [] ++ area_blank m a ps i)
+    ∙ sym (map-append no_bytes (cond (same_area p.area a) (part_seen m p) []) (area_seen m a ps)
+    ∙ ap (λ (xs : List Page). xs ++ map no_bytes (area_seen m a ps))
+    (map_chosen no_bytes (same_area p.area a) (part_seen m p) ∙ ap (λ (xs : List Page). cond (same_area p.area a) xs []) (sym (take-map no_bytes p.pages (cache_pages m p.cache.0)))))
+
+process_blank : (m : Machine) (p : Process) → each_of no_bytes (process_seen m p) ≡ process_seen (blank m) p
+process_blank m p = λ i. record {
+  text_pages = sym (area_blank m Text p.parts.items) i;
+  data_pages = sym (area_blank m Data p.parts.items) i;
+  stack_pages = sym (area_blank m Stack p.parts.items) i;
+  pieces = parts_in Data p.parts.items;
+}
+
+pub seen_blank : (m : Machine) (table : List (Option Process)) (images : List Image) → processes_seen (blank m) table images ≡ each_page no_bytes (processes_seen m table images)
+seen_blank m table images = λ i. record {
+  page_bytes = m.page_bytes;
+  processes = sym (then_same (option_map (each_of no_bytes)) (option_map (process_seen m)) (option_map (process_seen (blank m))) (some_then (each_of no_bytes) (process_seen m) (process_seen (blank m)) (process_blank m)) table) i;
+  images = sym (then_same (each_in no_bytes) (image_seen m) (image_seen (blank m)) (λ image j. (image.seg.0, sym (blank_pages m image.cache.0) j)) images) i;
+}
+
+pub usage_blank : (m : Machine) → usage_of (blank m) ≡ usage_of m
+usage_blank m = λ i. record (usage_of m) { caches = length-map m.caches (option_map blank_cache) i; pages = blank_live m i }
+
+-- the state over a machine
+abbrev pub over : Option Segments → Machine → List (Option Process) → List Image → State
+over told m table images = record { processes = processes_seen m table images; usage = usage_of m; segments = told }
+
+over_blank : (told : Option Segments) (m w : Machine) (table : List (Option Process)) (images : List Image) → m ≡ blank w → over told m table images ≡ forget (over told w table images)
+over_blank told m w table images is =
+    ap (λ (x : Machine). over told x table images) is
+    ∙ (λ i. record { processes = seen_blank w table images i; usage = usage_blank w i; segments = told })
+
+-- a call of the manager that is the whole step
+pub step_blank : (told now : Option Segments) (m n : Machine) (f : Option PageForest) (c : Command) (a : Answer) (rises : MapperCounts) (command : MixCommand) (table : List (Option Process)) (images : List Image) (o : BlankOutcome m f c a n rises)
+    → StepOver o.segments (over told o.whole table images) command o.whole_answer rises (over now o.whole_next table images)
+    → UntoldStep forget (λ h whole x next. StepOver h whole command x rises next) (over told m table images) a (over now n table images)
+step_blank told now m n f c a rises command table images o leads = record {
+  whole = over told o.whole table images;
+  whole_next = over now o.whole_next table images;
+  segments = o.segments;
+  whole_answer = o.whole_answer;
+  is = over_blank told m o.whole table images o.is;
+  is_next = over_blank now n o.whole_next table images o.is_next;
+  alike = o.alike;
+  leads = leads;
+}
+
+-- Zeros in place of the missing bytes
+
+abbrev pub zeros : Page → Page
+zeros page = zero_page 4096
+
+abbrev pub filled_up : ProcessMachine → ProcessMachine
+filled_up s = each_page zeros s
+
+twice_of : (p : model.Process) → each_of no_bytes (each_of zeros p) ≡ each_of no_bytes p
+twice_of p = λ i. record p {
+  text_pages = then_same no_bytes zeros no_bytes (λ x. refl) p.text_pages i;
+  data_pages = then_same no_bytes zeros no_bytes (λ x. refl) p.data_pages i;
+  stack_pages = then_same no_bytes zeros no_bytes (λ x. refl) p.stack_pages i;
+}
+
+forget_filled : (s : ProcessMachine) → each_page no_bytes (filled_up s) ≡ each_page no_bytes s
+forget_filled s = λ i. record s {
+  processes = then_same (option_map (each_of no_bytes)) (option_map (each_of zeros)) (option_map (each_of no_bytes)) (some_then (each_of no_bytes) (each_of zeros) (each_of no_bytes) twice_of) s.processes i;
+  images = then_same (each_in no_bytes) (each_in zeros) (each_in no_bytes) (λ image j. (image.0, then_same no_bytes zeros no_bytes (λ x. refl) image.1 j)) s.images i;
+}
+
+-- where a machine has no bytes, what is seen is what is left of that with zeros
+pub seen_filled : (m : Machine) (table : List (Option Process)) (images : List Image) → m ≡ blank m → processes_seen m table images ≡ each_page no_bytes (filled_up (processes_seen m table images))
+seen_filled m table images is = ap (λ (x : Machine). processes_seen x table images) is ∙ seen_blank m table images ∙ sym (forget_filled (processes_seen m table images))
+
+pub alike_self : (a : Answer) → IsAlike a a
+alike_self (Ok (replies.Bytes bytes)) = refl
+alike_self a = refl
+
+abbrev pub no_segments : Segments
+no_segments = record { pages = empty; denied = [] }
+
+-- a step of states filled with zeros
+pub step_filled : (told now : Option Segments) (s next : ProcessMachine) (u v : Usage) (command : MixCommand) (a : Answer) (rises : MapperCounts) → s ≡ each_page no_bytes (filled_up s) → next ≡ each_page no_bytes (filled_up next)
+    → ((h : Segments) → StepOver h (record { processes = filled_up s; usage = u; segments = told }) command a rises (record { processes = filled_up next; usage = v; segments = now }))
+    → UntoldStep forget (λ h whole x after. StepOver h whole command x rises after) (record { processes = s; usage = u; segments = told }) a (record { processes = next; usage = v; segments = now })
+step_filled told now s next u v command a rises is is_next leads = record {
+  whole = record { processes = filled_up s; usage = u; segments = told };
+  whole_next = record { processes = filled_up next; usage = v; segments = now };
+  segments = no_segments;
+  whole_answer = a;
+  is = λ i. record { processes = is i; usage = u; segments = told };
+  is_next = λ i. record { processes = is_next i; usage = v; segments = now };
+  alike = alike_self a;
+  leads = leads no_segments;
+}
+
+-- a process is put, filled with zeros
+pub filled_put : (s : ProcessMachine) (n : ℕ) (o : Option model.Process) → filled_up (put_process s n o) ≡ put_process (filled_up s) n (option_map (each_of zeros) o)
+filled_put s n o = λ i. record (filled_up s) { processes = map-set (option_map (each_of zeros)) s.processes (n - 1) o i }
+
+-- As far as the refusals go that are found at first, one machine of processes is like another.
+pub record AreLike (s x : ProcessMachine) : Type 0 where
+  pub nobody : (n : ℕ) → process_of s n ≡ None → process_of x n ≡ None
+  pub somebody : (n : ℕ) (p : model.Process) → process_of s n ≡ Some p → (q : model.Process) × (process_of x n ≡ Some q) × (length q.data_pages ≡ length p.data_pages)
+
+pub like_self : (s : ProcessMachine) → AreLike s s
+like_self s = record { nobody = λ n e. e; somebody = λ n p e. (p, e, refl) }
+
+pub like_filled : (s : ProcessMachine) → AreLike s (filled_up s)
+like_filled s = record {
+  nobody = λ n e. numbered-map (each_of zeros) s.processes n ∙ ap (option_map (each_of zeros)) e;
+  somebody = λ n p e. (each_of zeros p, numbered-map (each_of zeros) s.processes n ∙ ap (option_map (each_of zeros)) e, length-map p.data_pages zeros);
+}
