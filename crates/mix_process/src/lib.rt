@@ -24,8 +24,6 @@ mod area;
 pub mod laws;
 mod mix;
 mod process;
-#[cfg(test)]
-mod tests;
 
 pub use area::{Area, DATA_START, MOST_DATA, MOST_STACK, MOST_TEXT, STACK_START, TEXT_START};
 pub use mix::Mix;
