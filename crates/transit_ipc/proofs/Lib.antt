@@ -1,3 +1,4 @@
 pub mod Played
 pub mod Waiting
 pub mod Rows
+pub mod Making
