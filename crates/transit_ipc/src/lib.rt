@@ -10,5 +10,8 @@
 
 pub mod laws;
 mod limits;
+mod port;
+mod ports;
 
 pub use limits::MOST_PORTS;
+pub use ports::Ports;
