@@ -127,7 +127,7 @@ got_message : (k : ℕ) (m : PortMachine) (port : PortId) (cache : CacheId) (fir
     → pages_held (put_cache m.memory cache.0 (put_pages first.0 message c)) cache.0 first.0 (first_length m k) ≡ message
 got_message k m port cache first p message c there waits found inside at =
     let many : first_length m k ≡ length message =
-        ap (first_length m) (sym at) ∙ ap (λ (o : Option Port). option_map_or length (slice_get (messages o) 0) 0) there ∙ ap (λ (o : Option Message). option_map_or length o 0) waits in
+    ap (first_length m) (sym at) ∙ ap (λ (o : Option Port). option_map_or length (slice_get (messages o) 0) 0) there ∙ ap (λ (o : Option Message). option_map_or length o 0) waits in
     ap (pages_held (put_cache m.memory cache.0 (put_pages first.0 message c)) cache.0 first.0) many
     ∙ ap (λ (o : Option Cache). option_map_or (λ (c : Cache). take (length message) (drop first.0 c.pages)) o []) (numbered_set m.memory.caches cache.0 c (Some (put_pages first.0 message c)) found)
     ∙ put_there first.0 message c.pages (grind (arith, nat_tests))
