@@ -7,10 +7,11 @@ use Rattle.std.proofs.lemmas.Bool.Decides.{nat_tests}
 use Rattle.vm_ids.specs.Held.{Segments}
 use Rattle.vm_ids.specs.Denying.{denies}
 use Rattle.vm_ids.specs.declared.refusal.Refusal.{Refusal}
+use Rattle.vm_ids.specs.declared.refusal.Refusal.TheVariants as refusals
 use Rattle.vm_ids.specs.declared.refusal.Refusal.TheVariants.{Crosses}
 use Rattle.vm_ids.specs.declared.reply.Reply.TheVariants as replies
 use Rattle.vm_model.specs.Answering as plain
-use Rattle.vm_model.specs.Answering.{is_denied_page, is_mapped, maps_in, overwrite, page_at, put_page, write_at}
+use Rattle.vm_model.specs.Answering.{is_denied_page, is_mapped, maps_in, overwrite, page_at, put_cache, put_page, write_at}
 use Rattle.vm_model.specs.Machine.{Actor, Cache, Machine, Page, Region, actor_of, cache_of}
 use Rattle.vm_model.specs.Place.{Place, holds, place, place_among, place_in, place_of_actor, placed, region_at}
 use Rattle.vm_model.proofs.Parts.Lists.{numbered_place}
@@ -21,29 +22,28 @@ use Rattle.transit_ipc.proofs.Hiding.{hidden_cache, seen_cache, set_seen}
 
 -- What is accessed is mapped
 
+or_true : (a b : Bool) → b ≡ true → (a || b) ≡ true
+or_true true b e = refl
+or_true false b e = e
+
 any_at : {A : Type 0} (test : A → Bool) (xs : List A) (i : ℕ) (x : A) → slice_get xs i ≡ Some x → test x ≡ true → list_any test xs ≡ true
 any_at test [] i x there e = absurd (cc there)
 any_at test (y ∷ xs) zero x there e = let same : y ≡ x = cc there in ap (λ (b : Bool). b || list_any test xs) (ap test same ∙ e)
 any_at test (y ∷ xs) (suc i) x there e = or_true (test y) (list_any test xs) (any_at test xs i x there e)
-  where
-    or_true : (a b : Bool) → b ≡ true → (a || b) ≡ true
-    or_true true b e = refl
-    or_true false b e = e
+
+self : (n : ℕ) → (n == n) ≡ true
+self n = grind (arith, nat_tests)
+
+-- the first region is the one, or another is
+first_maps : (here : Bool) (x r : Region) (rs : Actor) (o : Option Region) → cond here (Some x) o ≡ Some r → (o ≡ Some r → list_any (λ (y : Region). y.cache == r.cache) rs ≡ true) → list_any (λ (y : Region). y.cache == r.cache) (x ∷ rs) ≡ true
+first_maps true x r rs o e others =
+    let same : x ≡ r = cc e in
+    ap (λ (b : Bool). b || list_any (λ (y : Region). y.cache == r.cache) rs) (ap (λ (y : Region). y.cache == r.cache) same ∙ self r.cache)
+first_maps false x r rs o e others = or_true (x.cache == r.cache) (list_any (λ (y : Region). y.cache == r.cache) rs) (others e)
 
 region_maps : (page_bytes address : ℕ) (rs : Actor) (r : Region) → region_at page_bytes address rs ≡ Some r → list_any (λ (x : Region). x.cache == r.cache) rs ≡ true
 region_maps page_bytes address [] r e = absurd (cc e)
-region_maps page_bytes address (x ∷ rs) r e = at (holds page_bytes address x) e
-  where
-    self : (n : ℕ) → (n == n) ≡ true
-    self n = grind (arith, nat_tests)
-
-    or_true : (a b : Bool) → b ≡ true → (a || b) ≡ true
-    or_true true b e = refl
-    or_true false b e = e
-
-    at : (b : Bool) → cond b (Some x) (region_at page_bytes address rs) ≡ Some r → list_any (λ (y : Region). y.cache == r.cache) (x ∷ rs) ≡ true
-    at true e = let same : x ≡ r = cc e in ap (λ (b : Bool). b || list_any (λ (y : Region). y.cache == r.cache) rs) (ap (λ (y : Region). y.cache == r.cache) same ∙ self r.cache)
-    at false e = or_true (x.cache == r.cache) _ (region_maps page_bytes address rs r e)
+region_maps page_bytes address (x ∷ rs) r e = first_maps (holds page_bytes address x) x r rs (region_at page_bytes address rs) e (region_maps page_bytes address rs r)
 
 placed_at : (page_bytes address : ℕ) (rs : Actor) (o : Option Region) (p : Place) → region_at page_bytes address rs ≡ o → placed page_bytes address o ≡ Ok p → list_any (λ (x : Region). x.cache == p.region.cache) rs ≡ true
 placed_at page_bytes address rs None p is e = absurd (cc e)
@@ -95,7 +95,7 @@ module _ (ports : List Port) where
   -- what is mapped is seen
   is_seen : (m : Machine) → AreTied m ports → (cache : ℕ) (b : Bool) → is_transit ports cache ≡ b → is_mapped m cache ≡ true → b ≡ false
   is_seen m tied cache false is mapped = refl
-  is_seen m tied cache true is mapped = absurd (subst IsSome (hidden_cache m ports cache is) (tied.mapped cache mapped))
+  is_seen m tied cache true is mapped = absurd (let wrong : IsSome (let none : Option Cache = None in none) = subst IsSome (hidden_cache m ports cache is) (tied.mapped cache mapped) in cc wrong)
 
   visible : (m : Machine) → AreTied m ports → (actor address length : ℕ) (p : Place) → place m actor address length ≡ Ok p → is_transit ports p.region.cache ≡ false
   visible m tied actor address length p e = is_seen m tied p.region.cache _ refl (place_maps m actor address length p e)
@@ -107,3 +107,32 @@ module _ (ports : List Port) where
   unfolding plain.load_of
   load_lifts m tied actor address length = lift_ok (place m actor address length) m _ _
       (λ p e. ap (λ (page : Page). plain.reply (replies.Bytes (take length (drop p.byte page))) (seen m)) (same_page m p (visible m tied actor address length p e)))
+
+  pub denied_same : (m : Machine) (h : Segments) (cache page : ℕ) → is_transit ports cache ≡ false → is_denied_page m h cache page ≡ is_denied_page (seen m) h cache page
+  denied_same m h cache page e = ap (λ (o : Option Cache). option_map_or (λ seg. denies h.denied seg page) (option_and_then (λ (c : Cache). c.segment) o) false) (sym (seen_cache m ports cache e))
+
+  -- a cache that is seen is put
+  pub put_seen : (m : Machine) (n : ℕ) (c d : Cache) → cache_of m n ≡ Some c → is_transit ports n ≡ false → seen (put_cache m n d) ≡ put_cache (seen m) n d
+  put_seen m n c d there e =
+      let some = (numbered_place m.caches n c there).0 in
+      ap (λ (caches : List (Option Cache)). record m { caches = caches })
+      (set_seen (is_transit ports) 1 m.caches (n - 1) (Some d) (ap (is_transit ports) (let s : 1 + (n - 1) ≡ n = omega (arith, some) in s) ∙ e))
+
+  written : (m : Machine) (p : Place) (bytes : Page) (o : Option Cache) → cache_of m p.region.cache ≡ o → is_transit ports p.region.cache ≡ false
+      → seen (option_map_or (λ (c : Cache). put_cache m p.region.cache (put_page p.page bytes c)) o m) ≡ option_map_or (λ (c : Cache). put_cache (seen m) p.region.cache (put_page p.page bytes c)) o (seen m)
+  written m p bytes None is e = refl
+  written m p bytes (Some c) is e = put_seen m p.region.cache c (put_page p.page bytes c) is e
+
+  write_lifts : (m : Machine) (p : Place) (bytes : List ℕ) → is_transit ports p.region.cache ≡ false → seen (write_at m p bytes) ≡ write_at (seen m) p bytes
+  write_lifts m p bytes e =
+      written m p (overwrite p.byte bytes (page_at m p)) (cache_of m p.region.cache) refl e
+      ∙ (λ i. option_map_or (λ (c : Cache). put_cache (seen m) p.region.cache (put_page p.page (overwrite p.byte bytes (same_page m p e i)) c)) (sym (seen_cache m ports p.region.cache e) i) (seen m))
+
+  pub store_lifts : (m : Machine) → AreTied m ports → (actor address : ℕ) (bytes : List ℕ) (h : Segments) → lift (plain.store_of m actor address bytes h) ≡ plain.store_of (seen m) actor address bytes h
+  unfolding plain.store_of
+  store_lifts m tied actor address bytes h = lift_ok (place m actor address (length bytes)) m _ _ (λ p e.
+      let there : is_transit ports p.region.cache ≡ false = visible m tied actor address (length bytes) p e in
+      lift_unless (not p.region.may_write) refusals.Protection m _
+      ∙ ap (plain.unless (not p.region.may_write) refusals.Protection (seen m))
+      (lift_unless (is_denied_page m h p.region.cache p.page) refusals.WriteDenied m _
+      ∙ (λ i. plain.unless (denied_same m h p.region.cache p.page there i) refusals.WriteDenied (seen m) (plain.reply replies.Done (write_lifts m p bytes there i)))))

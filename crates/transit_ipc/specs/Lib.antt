@@ -4,6 +4,7 @@ pub mod Outcome
 pub mod Stepping
 pub mod Seen
 pub mod Tying
+pub mod Inner
 pub mod Calling
 pub mod Rows
 pub mod Laws
