@@ -21,7 +21,7 @@ returns-clause-alone g c = IfSome_then c.place.result c.place.ensures.place (λ 
 
 pub returns-clause-none : goal.returns-clause-none
 returns-clause-none g c = if_none c.place.result c.place.ensures.none (λ none. (
-    sym (ap (λ (v : Mixed _ _). map.get v.slots c.args.number) c.self.view_is) ∙ none.0,
-    (λ some. subst IsSome (said_seen g.V.Says g.S.Alone.told c.self.inside.lone c.self.inside.stretches c.args.self.now c.self.view_is c.args.number)
-    (is_told g.V.Says g.S.Alone.told (said g.V.Says c.self.inside.stretches.list c.args.number) (map.get c.self.inside.lone.entries c.args.number) (subst IsSome (get_seen g.V.Says g.S.Alone.told c.self.inside.lone c.self.inside.stretches c.args.self.now c.self.view_is c.args.number) some) none.1)),
+  sym (ap (λ (v : Mixed _ _). map.get v.slots c.args.number) c.self.view_is) ∙ none.0,
+  (λ some. subst IsSome (said_seen g.V.Says g.S.Alone.told c.self.inside.lone c.self.inside.stretches c.args.self.now c.self.view_is c.args.number)
+      (is_told g.V.Says g.S.Alone.told (said g.V.Says c.self.inside.stretches.list c.args.number) (map.get c.self.inside.lone.entries c.args.number) (subst IsSome (get_seen g.V.Says g.S.Alone.told c.self.inside.lone c.self.inside.stretches c.args.self.now c.self.view_is c.args.number) some) none.1)),
 ))
