@@ -1,0 +1,3 @@
+pub mod Played
+pub mod Waiting
+pub mod Rows

@@ -1,0 +1,5 @@
+use Rattle.transit_ipc.proofs.Waiting.{messages_are_in_order}
+use Rattle.transit_ipc.proofs.laws.sending.Goals as goal
+
+pub returns : goal.returns
+returns c = messages_are_in_order

@@ -1,0 +1,5 @@
+pub mod PortMachine
+pub mod Answering
+pub mod Outcome
+pub mod Rows
+pub mod Laws
