@@ -1,5 +1,10 @@
 pub mod PortMachine
 pub mod Answering
 pub mod Outcome
+pub mod Stepping
+pub mod Seen
+pub mod Tying
+pub mod Inner
+pub mod Calling
 pub mod Rows
 pub mod Laws

@@ -1,0 +1,138 @@
+-- A command of the manager is answered as over the caches that are seen.
+use Rattle.std.proofs.Common.{◌≡◌, ◌⊎◌, inl, inr, ◌==◌, ℕ, zero, suc, ◌+◌, ◌-◌, ◌≤◌, Bool, true, false, cond, List, [], ◌∷◌, length, set, take, drop, Option, Some, None, refl, sym, ap, subst, ◌∙◌, arith}
+use Rattle.std.specs.Prelude.{◌||◌, Result, Ok, Err, not, slice_get, unwrap_or, IsSome, option_and_then}
+use Rattle.std.specs.List.{list_any}
+use Rattle.std.specs.Option.{option_map_or}
+use Rattle.std.proofs.lemmas.Bool.Decides.{nat_tests}
+use Rattle.vm_ids.specs.Held.{Segments}
+use Rattle.vm_ids.specs.Denying.{denies}
+use Rattle.vm_ids.specs.declared.refusal.Refusal.{Refusal}
+use Rattle.vm_ids.specs.declared.refusal.Refusal.TheVariants as refusals
+use Rattle.vm_ids.specs.declared.refusal.Refusal.TheVariants.{Crosses}
+use Rattle.vm_ids.specs.declared.reply.Reply.TheVariants as replies
+use Rattle.vm_model.specs.Answering as plain
+use Rattle.vm_model.specs.Answering.{is_denied_page, is_mapped, maps_in, overwrite, page_at, put_cache, put_page, write_at}
+use Rattle.vm_model.specs.Machine.{Actor, Cache, Machine, Page, Region, actor_of, cache_of}
+use Rattle.vm_model.specs.Place.{Place, holds, place, place_among, place_in, place_of_actor, placed, region_at}
+use Rattle.vm_model.proofs.Parts.Lists.{numbered_place}
+use Rattle.transit_ipc.specs.Seen.{is_transit, memory_seen}
+use Rattle.transit_ipc.specs.Tying.{AreTied}
+use Rattle.transit_ipc.specs.declared.port.Port.{Port}
+use Rattle.transit_ipc.proofs.Hiding.{hidden_cache, seen_cache, set_seen}
+
+-- What is accessed is mapped
+
+or_true : (a b : Bool) → b ≡ true → (a || b) ≡ true
+or_true true b e = refl
+or_true false b e = e
+
+any_at : {A : Type 0} (test : A → Bool) (xs : List A) (i : ℕ) (x : A) → slice_get xs i ≡ Some x → test x ≡ true → list_any test xs ≡ true
+any_at test [] i x there e = absurd (cc there)
+any_at test (y ∷ xs) zero x there e = let same : y ≡ x = cc there in ap (λ (b : Bool). b || list_any test xs) (ap test same ∙ e)
+any_at test (y ∷ xs) (suc i) x there e = or_true (test y) (list_any test xs) (any_at test xs i x there e)
+
+self : (n : ℕ) → (n == n) ≡ true
+self n = grind (arith, nat_tests)
+
+-- the first region is the one, or another is
+first_maps : (here : Bool) (x r : Region) (rs : Actor) (o : Option Region) → cond here (Some x) o ≡ Some r → (o ≡ Some r → list_any (λ (y : Region). y.cache == r.cache) rs ≡ true) → list_any (λ (y : Region). y.cache == r.cache) (x ∷ rs) ≡ true
+first_maps true x r rs o e others =
+    let same : x ≡ r = cc e in
+    ap (λ (b : Bool). b || list_any (λ (y : Region). y.cache == r.cache) rs) (ap (λ (y : Region). y.cache == r.cache) same ∙ self r.cache)
+first_maps false x r rs o e others = or_true (x.cache == r.cache) (list_any (λ (y : Region). y.cache == r.cache) rs) (others e)
+
+region_maps : (page_bytes address : ℕ) (rs : Actor) (r : Region) → region_at page_bytes address rs ≡ Some r → list_any (λ (x : Region). x.cache == r.cache) rs ≡ true
+region_maps page_bytes address [] r e = absurd (cc e)
+region_maps page_bytes address (x ∷ rs) r e = first_maps (holds page_bytes address x) x r rs (region_at page_bytes address rs) e (region_maps page_bytes address rs r)
+
+placed_at : (page_bytes address : ℕ) (rs : Actor) (o : Option Region) (p : Place) → region_at page_bytes address rs ≡ o → placed page_bytes address o ≡ Ok p → list_any (λ (x : Region). x.cache == p.region.cache) rs ≡ true
+placed_at page_bytes address rs None p is e = absurd (cc e)
+placed_at page_bytes address rs (Some r) p is e =
+    let region : r ≡ p.region = ap (λ (q : Place). q.region) (let s : place_in page_bytes address r ≡ p = cc e in s) in
+    subst (λ (x : Region). list_any (λ (y : Region). y.cache == x.cache) rs ≡ true) region (region_maps page_bytes address rs r is)
+
+among_at : (page_bytes : ℕ) (rs : Actor) (address : ℕ) (crosses : Bool) (p : Place) → cond crosses (Err Crosses) (placed page_bytes address (region_at page_bytes address rs)) ≡ Ok p
+    → list_any (λ (x : Region). x.cache == p.region.cache) rs ≡ true
+among_at page_bytes rs address true p e = absurd (cc e)
+among_at page_bytes rs address false p e = placed_at page_bytes address rs _ p refl e
+
+actor_maps : (m : Machine) (actor address length : ℕ) (o : Option Actor) (p : Place) → actor_of m actor ≡ o → place_of_actor m.page_bytes o address length ≡ Ok p → is_mapped m p.region.cache ≡ true
+actor_maps m actor address length None p is e = absurd (cc e)
+actor_maps m actor address length (Some rs) p is e =
+    any_at (maps_in p.region.cache) m.actors (actor - 1) (Some rs) (numbered_place m.actors actor rs is).1 (among_at m.page_bytes rs address _ p e)
+
+pub place_maps : (m : Machine) (actor address length : ℕ) (p : Place) → place m actor address length ≡ Ok p → is_mapped m p.region.cache ≡ true
+place_maps m actor address length p e = actor_maps m actor address length (actor_of m actor) p refl e
+
+-- The rows
+
+module _ (ports : List Port) where
+  abbrev seen : Machine → Machine
+  seen m = memory_seen m ports
+
+  abbrev pub lift : plain.Answered → plain.Answered
+  lift a = record { answer = a.answer; next = seen a.next }
+
+  lift_unless : (bad : Bool) (r : Refusal) (m : Machine) (go : plain.Answered) → lift (plain.unless bad r m go) ≡ plain.unless bad r (seen m) (lift go)
+  unfolding plain.unless
+  lift_unless true r m go = refl
+  lift_unless false r m go = refl
+
+  lift_some : {A : Type 0} (o : Option A) (r : Refusal) (m : Machine) (go go' : A → plain.Answered) → ((x : A) → o ≡ Some x → lift (go x) ≡ go' x) → lift (plain.with_some o r m go) ≡ plain.with_some o r (seen m) go'
+  unfolding plain.with_some
+  lift_some None r m go go' same = refl
+  lift_some (Some x) r m go go' same = same x refl
+
+  lift_ok : {A : Type 0} (o : Result A Refusal) (m : Machine) (go go' : A → plain.Answered) → ((x : A) → o ≡ Ok x → lift (go x) ≡ go' x) → lift (plain.with_ok o m go) ≡ plain.with_ok o (seen m) go'
+  unfolding plain.with_ok
+  lift_ok (Err r) m go go' same = refl
+  lift_ok (Ok x) m go go' same = same x refl
+
+  pub actor_lifts : (m : Machine) → lift (plain.make_actor_of m) ≡ plain.make_actor_of (seen m)
+  unfolding plain.make_actor_of
+  actor_lifts m = lift_unless _ _ m _
+
+  -- what is mapped is seen
+  is_seen : (m : Machine) → AreTied m ports → (cache : ℕ) (b : Bool) → is_transit ports cache ≡ b → is_mapped m cache ≡ true → b ≡ false
+  is_seen m tied cache false is mapped = refl
+  is_seen m tied cache true is mapped = absurd (let wrong : IsSome (let none : Option Cache = None in none) = subst IsSome (hidden_cache m ports cache is) (tied.mapped cache mapped) in cc wrong)
+
+  visible : (m : Machine) → AreTied m ports → (actor address length : ℕ) (p : Place) → place m actor address length ≡ Ok p → is_transit ports p.region.cache ≡ false
+  visible m tied actor address length p e = is_seen m tied p.region.cache _ refl (place_maps m actor address length p e)
+
+  same_page : (m : Machine) (p : Place) → is_transit ports p.region.cache ≡ false → page_at m p ≡ page_at (seen m) p
+  same_page m p e = ap (λ (o : Option Cache). option_map_or (λ (c : Cache). unwrap_or (slice_get c.pages p.page) []) o []) (sym (seen_cache m ports p.region.cache e))
+
+  pub load_lifts : (m : Machine) → AreTied m ports → (actor address length : ℕ) → lift (plain.load_of m actor address length) ≡ plain.load_of (seen m) actor address length
+  unfolding plain.load_of
+  load_lifts m tied actor address length = lift_ok (place m actor address length) m _ _
+      (λ p e. ap (λ (page : Page). plain.reply (replies.Bytes (take length (drop p.byte page))) (seen m)) (same_page m p (visible m tied actor address length p e)))
+
+  pub denied_same : (m : Machine) (h : Segments) (cache page : ℕ) → is_transit ports cache ≡ false → is_denied_page m h cache page ≡ is_denied_page (seen m) h cache page
+  denied_same m h cache page e = ap (λ (o : Option Cache). option_map_or (λ seg. denies h.denied seg page) (option_and_then (λ (c : Cache). c.segment) o) false) (sym (seen_cache m ports cache e))
+
+  -- a cache that is seen is put
+  pub put_seen : (m : Machine) (n : ℕ) (c d : Cache) → cache_of m n ≡ Some c → is_transit ports n ≡ false → seen (put_cache m n d) ≡ put_cache (seen m) n d
+  put_seen m n c d there e =
+      let some = (numbered_place m.caches n c there).0 in
+      ap (λ (caches : List (Option Cache)). record m { caches = caches })
+      (set_seen (is_transit ports) 1 m.caches (n - 1) (Some d) (ap (is_transit ports) (let s : 1 + (n - 1) ≡ n = omega (arith, some) in s) ∙ e))
+
+  written : (m : Machine) (p : Place) (bytes : Page) (o : Option Cache) → cache_of m p.region.cache ≡ o → is_transit ports p.region.cache ≡ false
+      → seen (option_map_or (λ (c : Cache). put_cache m p.region.cache (put_page p.page bytes c)) o m) ≡ option_map_or (λ (c : Cache). put_cache (seen m) p.region.cache (put_page p.page bytes c)) o (seen m)
+  written m p bytes None is e = refl
+  written m p bytes (Some c) is e = put_seen m p.region.cache c (put_page p.page bytes c) is e
+
+  write_lifts : (m : Machine) (p : Place) (bytes : List ℕ) → is_transit ports p.region.cache ≡ false → seen (write_at m p bytes) ≡ write_at (seen m) p bytes
+  write_lifts m p bytes e =
+      written m p (overwrite p.byte bytes (page_at m p)) (cache_of m p.region.cache) refl e
+      ∙ (λ i. option_map_or (λ (c : Cache). put_cache (seen m) p.region.cache (put_page p.page (overwrite p.byte bytes (same_page m p e i)) c)) (sym (seen_cache m ports p.region.cache e) i) (seen m))
+
+  pub store_lifts : (m : Machine) → AreTied m ports → (actor address : ℕ) (bytes : List ℕ) (h : Segments) → lift (plain.store_of m actor address bytes h) ≡ plain.store_of (seen m) actor address bytes h
+  unfolding plain.store_of
+  store_lifts m tied actor address bytes h = lift_ok (place m actor address (length bytes)) m _ _ (λ p e.
+      let there : is_transit ports p.region.cache ≡ false = visible m tied actor address (length bytes) p e in
+      lift_unless (not p.region.may_write) refusals.Protection m _
+      ∙ ap (plain.unless (not p.region.may_write) refusals.Protection (seen m))
+      (lift_unless (is_denied_page m h p.region.cache p.page) refusals.WriteDenied m _
+      ∙ (λ i. plain.unless (denied_same m h p.region.cache p.page there i) refusals.WriteDenied (seen m) (plain.reply replies.Done (write_lifts m p bytes there i)))))
