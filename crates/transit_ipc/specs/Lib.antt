@@ -6,5 +6,6 @@ pub mod Seen
 pub mod Tying
 pub mod Inner
 pub mod Calling
+pub mod Asking
 pub mod Rows
 pub mod Laws

@@ -8,6 +8,7 @@
 //! interface and the plain types alone, and names no manager.
 #![tactic(auto)]
 
+mod answering;
 pub mod laws;
 mod limits;
 mod port;

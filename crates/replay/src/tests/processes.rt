@@ -1,8 +1,9 @@
 // Scripts of processes: worked ones, drawn ones beside processes that keep a byte of each page, and
 // calls of the mapper that fail.
-ghost use Rattle.std.specs.Prelude.{◌≡◌, ◌<◌, ◌≤◌, ◌*◌, length, IfOk};
+ghost use Rattle.std.specs.Prelude.{◌≡◌, ◌<◌, ◌≤◌, ◌*◌, length, map, IfOk};
+ghost use Rattle.replay.specs.Commanding.{page_size_of};
 
-use super::draws::Draws;
+use super::draws::{Draws, Script, Turn};
 use super::playing::{said, text, written};
 use std::alloc::Global;
 use std::process::Abort;
@@ -152,13 +153,6 @@ impl Plain {
         plain.stack.extend_from_slice(&self.stack)?;
         Ok(plain)
     }
-}
-
-// A drawn line, and what it is to be answered.
-#[derive(Drop)]
-struct Turn {
-    line: String,
-    reply: String,
 }
 
 // An area of a process: where it begins, and what the first bytes of its pages are.
@@ -320,28 +314,15 @@ fn play(
     }
 }
 
-// A drawn script, and what it is to be answered.
-#[derive(Drop)]
-struct Script {
-    script: String,
-    replies: String,
-}
-
 fn drawn_script(alloc: Global, seed: u64, lines: u32) -> Result<Script, NoMemory>
     requires { lines ≤ 1000 }
 {
     let mut draws = Draws { state: seed };
     let mut processes = Vec::new(alloc);
-    let mut drawn = Script {
-        script: String::new(alloc),
-        replies: String::new(alloc),
-    };
+    let mut drawn = Script::new(alloc);
     for number in 1..lines + 1 {
         let turn = play(alloc, &mut draws, &mut processes)?;
-        drawn
-            .script
-            .push_str(format!(in alloc; "{}\n", turn.line.as_str())?.as_str())?;
-        drawn.replies.push_str(format!(in alloc; "{number} {}\n", turn.reply.as_str())?.as_str())?;
+        drawn.add(alloc, number, &turn)?;
     }
     Ok(drawn)
 }
@@ -379,31 +360,43 @@ fn without(alloc: Global, script: &str, gone: usize) -> Result<String, NoMemory>
 
 // One call of the mapper fails, the first of its kind, then the second, till none does. Each other
 // line is answered as if there were no line in the place of the one that tells it.
+pub(super) fn fails_in_turn(
+    rt: &impl Abort,
+    alloc: Global,
+    words: &[&str],
+    script: &str,
+    kind: CallKind,
+) -> Result<(), NoMemory>
+    requires { PAGE ≡ page_size_of (map (λ w. w.now) words.now) }
+{
+    for nth in 1..60 {
+        let mut mapper = images(alloc, &[CallNo { kind, nth }])?;
+        let sink = written(rt, alloc, words, script, &mut mapper)?;
+        let replies = text(rt, &sink);
+        let Some(gone) = faulted(replies) else {
+            break;
+        };
+        let left = without(alloc, script, gone)?;
+        let mut mapper = images(alloc, &[])?;
+        let sink = written(rt, alloc, words, left.as_str(), &mut mapper)?;
+        for (reply, other) in replies.lines().zip(text(rt, &sink).lines()) {
+            assert!(rt; reply == other || said(other) == "no BadLine", "{nth}");
+        }
+    }
+    Ok(())
+}
+
 #[test]
 fn calls_of_the_mapper_fail_in_turn(rt: HostRuntime) -> Result<(), NoMemory> {
     let drawn = drawn_script(rt.alloc(), 5, 60)?;
-    let script = drawn.script.as_str();
-    let words = ["mix", "--frames", "3"];
     for kind in [
         CallKind::Size,
         CallKind::PullIn,
         CallKind::SwapIn,
         CallKind::SwapOut,
     ] {
-        for nth in 1..60 {
-            let mut mapper = images(rt.alloc(), &[CallNo { kind, nth }])?;
-            let sink = written(&rt, rt.alloc(), &words, script, &mut mapper)?;
-            let replies = text(&rt, &sink);
-            let Some(gone) = faulted(replies) else {
-                break;
-            };
-            let left = without(rt.alloc(), script, gone)?;
-            let mut mapper = images(rt.alloc(), &[])?;
-            let sink = written(&rt, rt.alloc(), &words, left.as_str(), &mut mapper)?;
-            for (reply, other) in replies.lines().zip(text(&rt, &sink).lines()) {
-                assert!(&rt; reply == other || said(other) == "no BadLine", "{nth}");
-            }
-        }
+        let words = ["mix", "--frames", "3"];
+        fails_in_turn(&rt, rt.alloc(), &words, drawn.script.as_str(), kind)?;
     }
     Ok(())
 }
