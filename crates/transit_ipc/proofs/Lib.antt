@@ -3,4 +3,9 @@ pub mod Waiting
 pub mod Rows
 pub mod Making
 pub mod Hiding
+pub mod Messages
+pub mod Counting
+pub mod Fresh
+pub mod Followed
 pub mod Lifting
+pub mod Passed
