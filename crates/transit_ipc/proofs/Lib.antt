@@ -9,3 +9,5 @@ pub mod Fresh
 pub mod Followed
 pub mod Lifting
 pub mod Passed
+pub mod Untold
+pub mod Calls
