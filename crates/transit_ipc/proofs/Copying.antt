@@ -95,7 +95,7 @@ no_fault_move m f h s all at rises may = may
 -- Copies
 
 -- what a copy from there into this cache comes to
-abbrev copied : Machine → Span → Cache → Option Cache → Answered
+abbrev pub copied : Machine → Span → Cache → Option Cache → Answered
 copied m s d o = with_some o refusals.NoCache m (λ c. unless (passes_end c s.from_page.0 s.pages) refusals.OutOfCache m (reply replies.Done (put_span m s c d)))
 
 abbrev pub copy_row : Machine → Span → Cache → Answered

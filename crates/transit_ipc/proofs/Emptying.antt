@@ -2,6 +2,7 @@
 use Rattle.std.proofs.Common.{◌≡◌, ℕ, zero, suc, ◌+◌, ◌-◌, Bool, true, false, List, [], ◌∷◌, ◌++◌, length, map, set, take, drop, Option, Some, None, refl, sym, ap, ◌∙◌}
 use Rattle.std.specs.FinMap.{empty}
 use Rattle.std.specs.Prelude.{IfNone, Ok, Err, Result, option_map}
+use Rattle.std.specs.Option.{option_map_or}
 use Rattle.std.proofs.lemmas.List.{drop-map, length-map, map-append, map-set, take-map}
 use Rattle.vm_ids.specs.Counting.{MapperCounts}
 use Rattle.vm_ids.specs.Held.{Held, Segments, segments_of}
@@ -87,17 +88,15 @@ alike_self a = refl
 
 -- What is seen
 
-message_blank : (w : Machine) (x : Message) → message_seen (blank w) x ≡ blank_message (message_seen w x)
-message_blank w x = ap pages_in (blank_at w x.cache.0) ∙ by (cache_of w x.cache.0)
-  where
-    pages_in : Option Cache → List Page
-    pages_in None = []
-    pages_in (Some c) = c.pages
+abbrev pages_in : Option Cache → List Page
+pages_in o = option_map_or (λ (c : Cache). c.pages) o []
 
-    unfolding pages_in
-    by : (o : Option Cache) → pages_in (option_map blank_cache o) ≡ blank_message (pages_in o)
-    by None = refl
-    by (Some c) = refl
+pages_blank : (o : Option Cache) → pages_in (option_map blank_cache o) ≡ blank_message (pages_in o)
+pages_blank None = refl
+pages_blank (Some c) = refl
+
+message_blank : (w : Machine) (x : Message) → message_seen (blank w) x ≡ blank_message (message_seen w x)
+message_blank w x = ap pages_in (blank_at w x.cache.0) ∙ pages_blank (cache_of w x.cache.0)
 
 pub seen_blank : (w : Machine) (ports : List Port) → ports_seen (blank w) ports ≡ blank_ports (ports_seen w ports)
 seen_blank w ports = λ i. record {

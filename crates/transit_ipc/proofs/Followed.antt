@@ -51,6 +51,7 @@ module _ (ports : List Port) (x y : Machine) (tied : AreTied x ports) (f : IsFol
     ];
     temporary = f.temporary;
     deep = tied.deep;
+    roomy = tied.roomy;
     few = tied.few;
   }
 

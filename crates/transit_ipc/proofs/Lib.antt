@@ -11,3 +11,10 @@ pub mod Lifting
 pub mod Passed
 pub mod Untold
 pub mod Calls
+pub mod Shapes
+pub mod Replacing
+pub mod Appending
+pub mod Emptying
+pub mod Copying
+pub mod Moving
+pub mod Sending

@@ -82,11 +82,10 @@ like_cache m n l k c there =
     mapped_some shape_of (cache_of n k) (shape_of c)
     (sym (numbered-map shape_of n.caches k) ∙ ap (λ (xs : List (Option Shape)). numbered xs k) l.shape ∙ numbered-map shape_of m.caches k ∙ ap (option_map shape_of) there)
 
-size : Option Shape → ℕ
+abbrev size : Option Shape → ℕ
 size None = 0
 size (Some s) = s.1
 
-unfolding size
 size_of : (o : Option Cache) → size (option_map shape_of o) ≡ pages_in o
 size_of None = refl
 size_of (Some c) = refl
