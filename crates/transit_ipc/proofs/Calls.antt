@@ -1,9 +1,12 @@
 -- After a call of the manager the ports can call it again.
-use Rattle.std.proofs.Common.{◌≡◌, ℕ, ◌+◌, ◌*◌, ◌≤◌, true, List, Option, Some, None, sym, ap, subst, ◌∙◌, arith}
+use Rattle.std.proofs.Common.{◌≡◌, ℕ, ◌+◌, ◌*◌, ◌≤◌, true, List, Option, Some, None, refl, sym, ap, subst, ◌∙◌, arith}
 use Rattle.std.specs.Prelude.{is_some, Ok, Err}
 use Rattle.vm_ids.specs.Held.{Held, Segments, segments_of}
 use Rattle.vm_ids.specs.declared.command.Command.{Command}
+use Rattle.vm_ids.specs.declared.command.Command.TheVariants.{Map}
+use Rattle.vm_ids.specs.declared.command.Mapping.{Mapping}
 use Rattle.vm_ids.specs.declared.command.PortCommand.TheVariants.{Plain}
+use Rattle.vm_ids.specs.declared.numbers.ActorId.{ActorId}
 use Rattle.vm_ids.specs.declared.reply.Trouble.TheVariants as troubles
 use Rattle.vm_model.specs.Answering.{Answer}
 use Rattle.vm_model.specs.Machine.{Machine, live_pages}
@@ -15,16 +18,18 @@ use Rattle.vm_model.specs.Run as vm_run
 use Rattle.vm_model.specs.declared.limits.TheConstants.{LIVE_PAGES}
 use Rattle.vm_model.proofs.Outcomes.Kept.{IsKept, kept}
 use Rattle.vm_port.specs.declared.traits.mapper.Mapper.{Ghosts as GhostsOfMapper}
-use Rattle.gmi_calls.specs.Calling.{Fits, MapperCall, RaisesMade}
+use Rattle.gmi_calls.specs.Calling.{CallDone, Fits, MapperCall, RaisesMade}
 use Rattle.gmi_calls.specs.Managing.{meanings_of}
 use Rattle.gmi_calls.specs.Room.{CallWithin}
 use Rattle.gmi_calls.specs.declared.gmi.Gmi.{Ghosts as GhostsOfGmi}
-use Rattle.transit_ipc.specs.Calling.{PortCall}
+use Rattle.gmi_calls.proofs.Still.{without_mapper}
+use Rattle.transit_ipc.specs.Calling.{IsServed, PortCall}
+use Rattle.transit_ipc.specs.Inner.{mapping_shown}
 use Rattle.transit_ipc.specs.Tying.{AreAble, AreTied, CanCall}
 use Rattle.transit_ipc.specs.declared.port.Port.{Port}
 use Rattle.transit_ipc.specs.declared.ports.Ports.{Ports}
 use Rattle.transit_ipc.proofs.Followed.{IsFollowed, tied_blank, tied_followed, tied_whole}
-use Rattle.transit_ipc.proofs.Passed.{IsPassed, outcome_follows, outcome_passed}
+use Rattle.transit_ipc.proofs.Passed.{IsNoMap, IsPassed, map_passed, outcome_follows, outcome_passed, passed}
 use Rattle.transit_ipc.proofs.Untold.{blank_after, segments_stay, step_called}
 
 unlimited_still : (before now : Option ℕ) → before ≡ None → is_some now ≡ is_some before → now ≡ None
@@ -116,3 +121,25 @@ module _ {Manager X Chooser : Type 0} (M : GhostsOfMapper X) (G : GhostsOfGmi Ma
           segments = segments_after M G old.gmi gmi before after c a ports can call;
         };
       }
+
+-- The commands of a script
+
+no_map : (command : Command) → ((actor : ActorId) (p : Mapping) → command ≡ Map actor p → ⊥) → IsNoMap command
+no_map (Map actor p) other = other actor p refl
+no_map command other = tt
+
+module _ {Manager X Chooser : Type 0} (M : GhostsOfMapper X) (G : GhostsOfGmi Manager X Chooser) (old : Ports Manager) (before : X) (can : CanCall G old (M.held before) (M.page_bytes before)) where
+  -- a map takes no mapper
+  pub map_called : (new : Ports Manager) (command : Command) (actor : ActorId) (p : Mapping) (a : Answer) → command ≡ Map actor p
+      → CallDone (meanings_of G) old.gmi (Map actor (mapping_shown old.ports.items p)) a new.gmi → new ≡ record old { gmi = new.gmi } → PortCall M G before old (Plain command) a before new
+  map_called new command actor p a is done same =
+      subst (λ (c : Command). PortCall M G before old (Plain c) a before new) (sym is)
+      (subst (λ (next : Ports Manager). PortCall M G before old (Plain (Map actor p)) a before next) (sym same)
+      (call_passed M G old new.gmi before before (Map actor (mapping_shown old.ports.items p)) a can
+      (without_mapper M (meanings_of G) before old.gmi can.valid (Map actor (mapping_shown old.ports.items p)) a new.gmi done)
+      (Map actor p) (λ x tied. map_passed old.ports.items x tied actor p)))
+
+  pub other_called : (gmi : Manager) (after : X) (command : Command) (a : Answer) → IsServed command → ((actor : ActorId) (p : Mapping) → command ≡ Map actor p → ⊥)
+      → MapperCall M (meanings_of G) before old.gmi command a after gmi → PortCall M G before old (Plain command) a after (record old { gmi = gmi })
+  other_called gmi after command a served other call =
+      call_passed M G old gmi before after command a can call command (λ x tied. passed old.ports.items x tied command served (no_map command other))

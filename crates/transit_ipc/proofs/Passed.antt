@@ -80,6 +80,10 @@ outcome_follows ports m n tied passed command f h (Err troubles.Memory) rises p 
 
 -- The rows
 
+abbrev pub IsNoMap : Command → Type 0
+IsNoMap (Map actor p) = ⊥
+IsNoMap command = Unit {0}
+
 module _ (ports : List Port) (m : Machine) (tied : AreTied m ports) where
   quiet_self : IsQuiet ports m m
   quiet_self = record { follows = followed_self ports m tied; same = refl }
@@ -141,7 +145,7 @@ module _ (ports : List Port) (m : Machine) (tied : AreTied m ports) where
     lacks = λ may. may;
   }
 
-  map_passed : (actor : ActorId) (p : Mapping) → IsPassed ports m (Map actor (mapping_shown ports p)) (Map actor p)
+  pub map_passed : (actor : ActorId) (p : Mapping) → IsPassed ports m (Map actor (mapping_shown ports p)) (Map actor p)
   unfolding plain_of unless
   map_passed actor p =
       let quiet = map_quiet actor.0 (mapping_shown ports p) (shown_visible m ports tied p.extent.cache) in
@@ -206,10 +210,6 @@ module _ (ports : List Port) (m : Machine) (tied : AreTied m ports) where
   }
 
   -- Each command that is served is passed on; but of a map the cache is the one that is found.
-  abbrev pub IsNoMap : Command → Type 0
-  IsNoMap (Map actor p) = ⊥
-  IsNoMap command = Unit {0}
-
   pub passed : (command : Command) → IsServed command → IsNoMap command → IsPassed ports m command command
   passed MakeActor served other = actor_passed
   passed (MakeTemp pages) served other = temp_passed pages
