@@ -7,7 +7,8 @@ use Rattle.vm_model.proofs.Parts.ListParts.{at_some, at_zero, zero_or}
 use Rattle.transit_ipc.specs.Seen.{but_for, is_transit, memory_seen}
 use Rattle.transit_ipc.specs.declared.port.Port.{Port}
 
-abbrev shown : Bool → Option Cache → Option Cache
+-- a cache, unless it is hidden
+abbrev pub shown : Bool → Option Cache → Option Cache
 shown hidden c = cond hidden None c
 
 next : (k i : ℕ) → k + 1 + i ≡ k + suc i

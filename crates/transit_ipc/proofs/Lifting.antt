@@ -1,6 +1,6 @@
 -- A command of the manager is answered as over the caches that are seen.
 use Rattle.std.proofs.Common.{◌≡◌, ◌⊎◌, inl, inr, ◌==◌, ℕ, zero, suc, ◌+◌, ◌-◌, ◌≤◌, Bool, true, false, cond, List, [], ◌∷◌, length, set, take, drop, Option, Some, None, refl, sym, ap, subst, ◌∙◌, arith}
-use Rattle.std.specs.Prelude.{◌||◌, Result, Ok, Err, not, slice_get, unwrap_or, IsSome, option_and_then}
+use Rattle.std.specs.Prelude.{◌*◌, ◌%◌, ◌^◌, ◌||◌, nat_le, nat_lt, Result, Ok, Err, not, slice_get, unwrap_or, IsSome, option_and_then}
 use Rattle.std.specs.List.{list_any}
 use Rattle.std.specs.Option.{option_map_or}
 use Rattle.std.proofs.lemmas.Bool.Decides.{nat_tests}
@@ -10,29 +10,21 @@ use Rattle.vm_ids.specs.declared.refusal.Refusal.{Refusal}
 use Rattle.vm_ids.specs.declared.refusal.Refusal.TheVariants as refusals
 use Rattle.vm_ids.specs.declared.refusal.Refusal.TheVariants.{Crosses}
 use Rattle.vm_ids.specs.declared.reply.Reply.TheVariants as replies
+use Rattle.vm_ids.specs.declared.command.Mapping.{Mapping}
 use Rattle.vm_model.specs.Answering as plain
 use Rattle.vm_model.specs.Answering.{is_denied_page, is_mapped, maps_in, overwrite, page_at, put_cache, put_page, write_at}
 use Rattle.vm_model.specs.Machine.{Actor, Cache, Machine, Page, Region, actor_of, cache_of}
 use Rattle.vm_model.specs.Place.{Place, holds, place, place_among, place_in, place_of_actor, placed, region_at}
+use Rattle.vm_model.specs.declared.limits.TheConstants.{MOST_MADE}
 use Rattle.vm_model.proofs.Parts.Lists.{numbered_place}
+use Rattle.transit_ipc.specs.Inner.{mapping_shown}
 use Rattle.transit_ipc.specs.Seen.{is_transit, memory_seen}
 use Rattle.transit_ipc.specs.Tying.{AreTied}
 use Rattle.transit_ipc.specs.declared.port.Port.{Port}
 use Rattle.transit_ipc.proofs.Hiding.{hidden_cache, seen_cache, set_seen}
+use Rattle.transit_ipc.proofs.Messages.{any_at, or_true, self, shown_visible}
 
 -- What is accessed is mapped
-
-or_true : (a b : Bool) → b ≡ true → (a || b) ≡ true
-or_true true b e = refl
-or_true false b e = e
-
-any_at : {A : Type 0} (test : A → Bool) (xs : List A) (i : ℕ) (x : A) → slice_get xs i ≡ Some x → test x ≡ true → list_any test xs ≡ true
-any_at test [] i x there e = absurd (cc there)
-any_at test (y ∷ xs) zero x there e = let same : y ≡ x = cc there in ap (λ (b : Bool). b || list_any test xs) (ap test same ∙ e)
-any_at test (y ∷ xs) (suc i) x there e = or_true (test y) (list_any test xs) (any_at test xs i x there e)
-
-self : (n : ℕ) → (n == n) ≡ true
-self n = grind (arith, nat_tests)
 
 -- the first region is the one, or another is
 first_maps : (here : Bool) (x r : Region) (rs : Actor) (o : Option Region) → cond here (Some x) o ≡ Some r → (o ≡ Some r → list_any (λ (y : Region). y.cache == r.cache) rs ≡ true) → list_any (λ (y : Region). y.cache == r.cache) (x ∷ rs) ≡ true
@@ -97,7 +89,7 @@ module _ (ports : List Port) where
   is_seen m tied cache false is mapped = refl
   is_seen m tied cache true is mapped = absurd (let wrong : IsSome (let none : Option Cache = None in none) = subst IsSome (hidden_cache m ports cache is) (tied.mapped cache mapped) in cc wrong)
 
-  visible : (m : Machine) → AreTied m ports → (actor address length : ℕ) (p : Place) → place m actor address length ≡ Ok p → is_transit ports p.region.cache ≡ false
+  pub visible : (m : Machine) → AreTied m ports → (actor address length : ℕ) (p : Place) → place m actor address length ≡ Ok p → is_transit ports p.region.cache ≡ false
   visible m tied actor address length p e = is_seen m tied p.region.cache _ refl (place_maps m actor address length p e)
 
   same_page : (m : Machine) (p : Place) → is_transit ports p.region.cache ≡ false → page_at m p ≡ page_at (seen m) p
@@ -136,3 +128,41 @@ module _ (ports : List Port) where
       ∙ ap (plain.unless (not p.region.may_write) refusals.Protection (seen m))
       (lift_unless (is_denied_page m h p.region.cache p.page) refusals.WriteDenied m _
       ∙ (λ i. plain.unless (denied_same m h p.region.cache p.page there i) refusals.WriteDenied (seen m) (plain.reply replies.Done (write_lifts m p bytes there i)))))
+
+  -- where it isn't refused, what comes then lifts
+  lift_then : (bad : Bool) (r : Refusal) (m : Machine) (go go' : plain.Answered) → lift go ≡ go' → lift (plain.unless bad r m go) ≡ plain.unless bad r (seen m) go'
+  lift_then bad r m go go' e = lift_unless bad r m go ∙ ap (plain.unless bad r (seen m)) e
+
+  -- what a mapping comes to where the cache is found
+  abbrev map_rest : Machine → ℕ → Mapping → Actor → Cache → plain.Answered
+  map_rest m actor p regions cache =
+      plain.unless (not (p.address % m.page_bytes == 0)) refusals.Unaligned m
+      (plain.unless (nat_lt (2 ^ 48) (p.address + m.page_bytes * p.extent.pages)) refusals.BadAddress m
+      (plain.unless (plain.passes_end cache p.extent.first.0 p.extent.pages) refusals.OutOfCache m
+      (plain.unless (list_any (plain.overlaps m.page_bytes p.address p.extent.pages) regions) refusals.Overlap m
+      (plain.unless (nat_le MOST_MADE m.regions_made) refusals.TooMany m
+      (plain.reply (replies.Region (record { 0 = m.regions_made + 1 })) (plain.add_region m actor regions p))))))
+
+  rest_lifts : (m : Machine) (actor : ℕ) (p : Mapping) (regions : Actor) (cache : Cache) → lift (map_rest m actor p regions cache) ≡ map_rest (seen m) actor p regions cache
+  rest_lifts m actor p regions cache = lift_then _ _ m _ _ (lift_then _ _ m _ _ (lift_then _ _ m _ _ (lift_then _ _ m _ _ (lift_then _ _ m _ _ refl))))
+
+  -- a cache that is seen is mapped
+  map_visible : (m : Machine) (actor : ℕ) (p : Mapping) → is_transit ports p.extent.cache.0 ≡ false → lift (plain.map_of m actor p) ≡ plain.map_of (seen m) actor p
+  unfolding plain.map_of
+  map_visible m actor p there = lift_some (actor_of m actor) refusals.NoActor m _ _ (λ regions e.
+      lift_some (cache_of m p.extent.cache.0) refusals.NoCache m (map_rest m actor p regions) (map_rest (seen m) actor p regions) (λ c f. rest_lifts m actor p regions c)
+      ∙ ap (λ (o : Option Cache). plain.with_some o refusals.NoCache (seen m) (map_rest (seen m) actor p regions)) (sym (seen_cache m ports p.extent.cache.0 there)))
+
+  -- the mapping of the cache with this number, where it isn't hidden
+  abbrev mapping_at : Bool → Mapping → Mapping
+  mapping_at hidden p = record p { extent = record p.extent { cache = cond hidden (record { 0 = 0 }) p.extent.cache } }
+
+  -- a hidden cache isn't found, nor is the one with the number 0
+  map_hidden : (b : Bool) (m : Machine) (actor : ℕ) (p : Mapping) → is_transit ports p.extent.cache.0 ≡ b → plain.map_of (seen m) actor (mapping_at b p) ≡ plain.map_of (seen m) actor p
+  unfolding plain.map_of plain.with_some
+  map_hidden false m actor p e = refl
+  map_hidden true m actor p e = ap (plain.with_some (actor_of m actor) refusals.NoActor (seen m)) (λ i regions.
+      plain.with_some (sym (hidden_cache m ports p.extent.cache.0 e) i) refusals.NoCache (seen m) (map_rest (seen m) actor p regions))
+
+  pub map_lifts : (m : Machine) → AreTied m ports → (actor : ℕ) (p : Mapping) → lift (plain.map_of m actor (mapping_shown ports p)) ≡ plain.map_of (seen m) actor p
+  map_lifts m tied actor p = map_visible m actor (mapping_shown ports p) (shown_visible m ports tied p.extent.cache) ∙ map_hidden (is_transit ports p.extent.cache.0) m actor p refl

@@ -1,6 +1,7 @@
 -- A port is made: no cache is hidden by it.
 use Rattle.std.proofs.Common.{◌≡◌, ◌≢◌, ◌⊎◌, inl, inr, ℕ, zero, suc, ◌+◌, ◌<◌, ◌≤◌, Bool, true, false, cond, List, [], ◌∷◌, ◌++◌, length, map, Option, Some, None, refl, sym, ap, subst, ◌∙◌, arith}
 use Rattle.std.specs.Bool.{IsTrue}
+use Rattle.std.specs.VecDeque.{deque_capacity}
 use Rattle.std.specs.Prelude.{◌||◌, ◌==◌, slice_get, nat_le, IsSome, Ok, Err}
 use Rattle.std.specs.List.{list_any}
 use Rattle.std.proofs.lemmas.Bool.{cases_eq}
@@ -75,7 +76,7 @@ no_memory old new depth room gmi same = record {
 
 -- One more
 
-module _ (ports : List Port) (fresh : Port) (bare : fresh.messages.items ≡ []) where
+module _ (ports : List Port) (fresh : Port) (bare : fresh.messages.items ≡ []) (roomy : fresh.depth ≤ deque_capacity fresh.messages) where
   abbrev more : List Port
   more = ports ++ fresh ∷ []
 
@@ -115,6 +116,13 @@ module _ (ports : List Port) (fresh : Port) (bare : fresh.messages.items ≡ [])
       omega (arith, ap (λ (q : Port). length q.messages.items) same, ap (λ (xs : List Message). length xs) bare)
   deep_at m tied i p e (inr apart) = tied.deep i p (sym (push_other ports fresh i apart) ∙ e)
 
+  roomy_at : (m : Machine) → AreTied m ports → (i : ℕ) (p : Port) → slice_get more i ≡ Some p → (i ≡ length ports) ⊎ (i ≢ length ports) → p.depth ≤ deque_capacity p.messages
+  roomy_at m tied i p e (inl last) =
+      let both : Some fresh ≡ Some p = sym (pushed ports fresh) ∙ ap (slice_get more) (sym last) ∙ e in
+      let same : fresh ≡ p = cc both in
+      subst (λ (q : Port). q.depth ≤ deque_capacity q.messages) same roomy
+  roomy_at m tied i p e (inr apart) = tied.roomy i p (sym (push_other ports fresh i apart) ∙ e)
+
   tied_more : (m : Machine) → length ports < MOST_PORTS → AreTied m ports → AreTied m more
   tied_more m room tied = record {
     messages = λ i j x w. tied.messages i j x (before i j x w);
@@ -122,6 +130,7 @@ module _ (ports : List Port) (fresh : Port) (bare : fresh.messages.items ≡ [])
     mapped = λ cache is. subst (λ (seen : Machine). IsSome (cache_of seen cache)) (sym (memory_same m)) (tied.mapped cache is);
     temporary = tied.temporary;
     deep = λ i p e. deep_at m tied i p e (cases_eq i (length ports));
+    roomy = λ i p e. roomy_at m tied i p e (cases_eq i (length ports));
     few = omega (arith, room, length-append ports (fresh ∷ []));
   }
 

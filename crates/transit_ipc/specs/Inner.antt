@@ -1,14 +1,13 @@
 -- What the inner calls say, by which messages are sent and received.
-use Rattle.std.specs.Prelude.{◌≡◌, ◌==◌, ◌<◌, ℕ, List, [], drop, length, Some, slice_get, slice_set, Result, Ok, Err, if◌then◌else◌}
-use Rattle.std.specs.VecDeque.{deque_capacity, deque_len}
+use Rattle.std.specs.Prelude.{◌≡◌, ◌==◌, ℕ, List, [], drop, Some, slice_get, slice_set, Result, Ok, Err, if◌then◌else◌}
+use Rattle.std.specs.VecDeque.{deque_capacity}
 use Rattle.vm_ids.specs.declared.command.Extent.{Extent}
 use Rattle.vm_ids.specs.declared.command.Mapping.{Mapping}
 use Rattle.vm_ids.specs.declared.command.Span.{Span}
 use Rattle.vm_ids.specs.declared.numbers.CacheId.{CacheId}
+use Rattle.vm_ids.specs.declared.numbers.PageNo.{PageNo}
 use Rattle.vm_ids.specs.declared.refusal.Refusal.{Refusal}
-use Rattle.vm_ids.specs.declared.refusal.Refusal.TheVariants.{PortEmpty, PortFull}
-use Rattle.vm_ids.specs.declared.reply.Trouble.{Trouble}
-use Rattle.vm_ids.specs.declared.reply.Trouble.TheVariants.{Memory, Refused}
+use Rattle.vm_ids.specs.declared.refusal.Refusal.TheVariants.{PortEmpty}
 use Rattle.transit_ipc.specs.Seen.{is_transit}
 use Rattle.transit_ipc.specs.declared.port.Message.{Message}
 use Rattle.transit_ipc.specs.declared.port.Port.{Port}
@@ -32,21 +31,15 @@ sent_span ports message e = record {
   pages = e.pages;
 }
 
--- This port stands at a place instead, with the same messages and room for one more.
-pub record HasRoom (ports : List Port) (place : ℕ) (p : Port) (now : List Port) : Type 0 where
-  pub port : Port
-  pub is : now ≡ slice_set ports place port
-  pub depth : port.depth ≡ p.depth
-  pub messages : port.messages.items ≡ p.messages.items
-  pub room : deque_len port.messages < deque_capacity port.messages
-
--- There is room for one message more at the port, or it is full, or there is no memory.
-abbrev pub IsReserved : List Port → ℕ → Port → Result (Unit {0}) Trouble → List Port → Type 0
-IsReserved ports place p (Ok u) now = HasRoom ports place p now
-IsReserved ports place p (Err Memory) now = now ≡ ports
-IsReserved ports place p (Err (Refused PortFull)) now =
-    (now ≡ ports) × (length p.messages.items ≡ p.depth)
-IsReserved ports place p (Err trouble) now = ⊥
+-- a message goes out of its cache, into another as a command finds it
+abbrev pub received_span : List Port → Message → CacheId → PageNo → Span
+received_span ports message cache page = record {
+  from = message.cache;
+  from_page = record { 0 = 0 };
+  to = shown ports cache;
+  to_page = page;
+  pages = message.pages;
+}
 
 -- the first message, or there is none
 abbrev pub IsFirst : Port → Result Message Refusal → Type 0
@@ -59,6 +52,7 @@ pub record IsTaken (ports : List Port) (place : ℕ) (p : Port) (now : List Port
   pub port : Port
   pub is : now ≡ slice_set ports place port
   pub depth : port.depth ≡ p.depth
+  pub room : deque_capacity port.messages ≡ deque_capacity p.messages
   pub messages : port.messages.items ≡ drop 1 p.messages.items
 
 -- the mapping of a cache as it is found

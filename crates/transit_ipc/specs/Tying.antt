@@ -1,6 +1,7 @@
 -- How the ports are tied to the machine that their manager stands for.
 use Rattle.std.specs.Prelude.{◌≡◌, ◌≤◌, ◌<◌, ℕ, List, [], length, Option, Some, None, slice_get, IfNone, IsSome}
 use Rattle.std.specs.Bool.{IsTrue}
+use Rattle.std.specs.VecDeque.{deque_capacity}
 use Rattle.vm_ids.specs.Held.{Held}
 use Rattle.vm_model.specs.Answering.{is_mapped}
 use Rattle.vm_model.specs.Machine.{Cache, Machine, cache_of, live_pages}
@@ -28,7 +29,7 @@ pub record IsMessage (m : Machine) (message : Message) : Type 0 where
   pub many : length cache.pages ≡ message.pages
 
 -- Each message that waits has a cache for itself. What regions map are other caches; no segment
--- names a cache, and no port has too many messages.
+-- names a cache, and each port has room for as many messages as may wait, and no more of them.
 pub record AreTied (m : Machine) (ports : List Port) : Type 0 where
   pub messages : (i j : ℕ) (x : Message) → Waits ports i j x → IsMessage m x
   pub apart : (i j k l : ℕ) (x y : Message) → Waits ports i j x → Waits ports k l y
@@ -37,6 +38,7 @@ pub record AreTied (m : Machine) (ports : List Port) : Type 0 where
       → IsSome (cache_of (memory_seen m ports) cache)
   pub temporary : (cache : ℕ) (c : Cache) → cache_of m cache ≡ Some c → c.segment ≡ None
   pub deep : (i : ℕ) (p : Port) → slice_get ports i ≡ Some p → length p.messages.items ≤ p.depth
+  pub roomy : (i : ℕ) (p : Port) → slice_get ports i ≡ Some p → p.depth ≤ deque_capacity p.messages
   pub few : length ports ≤ MOST_PORTS
 
 -- where nothing is told, the machine has no bytes

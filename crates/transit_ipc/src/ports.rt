@@ -1,5 +1,5 @@
 // The ports, and the calls of them.
-ghost use Rattle.std.specs.Prelude.{◌≡◌, ◌⊎◌, ℕ, Option, Some, ◌≤◌, ◌<◌, ◌+◌, ◌^◌, length, slice_get, IfErr, IfOk, OnErr};
+ghost use Rattle.std.specs.Prelude.{◌≡◌, ◌==◌, ◌⊎◌, ℕ, Option, Some, ◌≤◌, ◌<◌, ◌+◌, ◌^◌, length, slice_get, IfErr, IfOk, OnErr};
 ghost use Rattle.vm_ids.specs.declared.refusal.Refusal.TheVariants.{NoPort};
 ghost use Rattle.vm_ids.specs.Held.{Held, segments_of};
 ghost use Rattle.vm_model.specs.Answering.{answer_by};
@@ -7,7 +7,7 @@ ghost use Rattle.vm_model.specs.Asking.{IsWellFormed};
 ghost use Rattle.gmi_calls.specs.Calling.{CallDone, Fits, MapperCall, done_by};
 ghost use Rattle.gmi_calls.specs.Managing.{meanings_of};
 ghost use Rattle.transit_ipc.specs.Calling.{IsMade, IsServed, PortCall, beginning, made_by};
-ghost use Rattle.transit_ipc.specs.Inner.{IsFirst, IsReserved, IsTaken, mapping_shown, sent_span, shown};
+ghost use Rattle.transit_ipc.specs.Inner.{IsFirst, IsTaken, mapping_shown, received_span, sent_span, shown};
 ghost use Rattle.transit_ipc.specs.Seen.{is_transit, state_of};
 ghost use Rattle.transit_ipc.specs.Tying.{CanCall, IsBare};
 
@@ -70,8 +70,8 @@ impl<G> Ports<G> {
         if made >= MOST_PORTS as usize {
             return Err(Trouble::Refused(Refusal::TooMany));
         }
+        let messages = VecDeque::with_capacity(self.alloc, depth as usize)?;
         self.ports.reserve(1)?;
-        let messages = VecDeque::new(self.alloc);
         self.ports.push_reserved(Port { depth, messages });
         Ok(PortId(made as u32 + 1))
     }
@@ -93,9 +93,17 @@ impl<G> Ports<G> {
         ensures { PortCall M.Mapper G.Gmi mapper.old self.old (PortCommand.Send port extent)
             (done_by result) mapper.new self.new }
     {
-        let place = self.place_of(port)?;
-        self.reserve_message(place)?;
-        let cache = self.gmi.make_temp(extent.pages)?;
+        let place = match self.place_of(port) {
+            Ok(place) => place,
+            Err(refusal) => return Err(Trouble::Refused(refusal)),
+        };
+        if self.is_full(place) {
+            return Err(Trouble::Refused(Refusal::PortFull));
+        }
+        let cache = match self.gmi.make_temp(extent.pages) {
+            Ok(cache) => cache,
+            Err(trouble) => return Err(trouble),
+        };
         let message = Message {
             cache,
             pages: extent.pages,
@@ -130,19 +138,22 @@ impl<G> Ports<G> {
         ensures { PortCall M.Mapper G.Gmi mapper.old self.old (PortCommand.Receive port cache page)
             (done_by result) mapper.new self.new }
     {
-        let place = self.place_of(port)?;
-        let message = self.first_of(place)?;
-        let span = Span {
-            from: message.cache,
-            from_page: PageNo(0),
-            to: self.shown(cache),
-            to_page: page,
-            pages: message.pages,
+        let place = match self.place_of(port) {
+            Ok(place) => place,
+            Err(refusal) => return Err(Trouble::Refused(refusal)),
         };
-        self.gmi.move_pages(span, mapper, chooser)?;
-        self.take_first(place);
-        let _ = self.gmi.destroy(message.cache, mapper, chooser);
-        Ok(())
+        let message = match self.first_of(place) {
+            Ok(message) => message,
+            Err(refusal) => return Err(Trouble::Refused(refusal)),
+        };
+        match self.take_out(message, cache, page, mapper, chooser) {
+            Ok(()) => {
+                self.take_first(place);
+                let _ = self.gmi.destroy(message.cache, mapper, chooser);
+                Ok(())
+            }
+            Err(trouble) => Err(trouble),
+        }
     }
 
     /// Passes a command on to the manager. It finds no cache that is hidden.
@@ -162,10 +173,10 @@ impl<G> Ports<G> {
             result mapper.new self.new }
     {
         match command {
-            Command::Map(actor, mapping) => {
-                let region = self.map(*actor, *mapping)?;
-                Ok(Reply::Region(region))
-            }
+            Command::Map(actor, mapping) => match self.map(*actor, *mapping) {
+                Ok(region) => Ok(Reply::Region(region)),
+                Err(trouble) => Err(trouble),
+            },
             command => gmi_calls::answer(&mut self.gmi, command, mapper, chooser),
         }
     }
@@ -241,6 +252,37 @@ impl<G> Ports<G> {
         self.gmi.copy_pages(span, mapper, chooser)
     }
 
+    // Moves the pages of a message out of its cache.
+    fn take_out<M: Mapper, C: Chooser>(
+        &mut self,
+        message: Message,
+        cache: CacheId,
+        page: PageNo,
+        mapper: &mut M,
+        chooser: &mut C,
+    ) -> Result<(), Trouble>
+    where
+        G: Gmi<M, C>,
+        requires some { 1 ≤ message.pages }
+        requires valid { G.valid self.old.gmi (M.held mapper.old) }
+        requires made { G.made self.old.gmi ≤ 2 ^ 62 }
+        requires fits { Fits (M.page_bytes mapper.old)
+            (G.machine self.old.gmi (M.held mapper.old)) }
+        ensures call { MapperCall M.Mapper (meanings_of G.Gmi) mapper.old self.old.gmi
+            (Command.Move (received_span self.old.ports.items message cache page))
+            (done_by result) mapper.new self.new.gmi }
+        ensures same { self.new ≡ record self.old { gmi = self.new.gmi } }
+    {
+        let span = Span {
+            from: message.cache,
+            from_page: PageNo(0),
+            to: self.shown(cache),
+            to_page: page,
+            pages: message.pages,
+        };
+        self.gmi.move_pages(span, mapper, chooser)
+    }
+
     // A cache as a command finds it.
     fn shown(&self, cache: CacheId) -> CacheId
         ensures { result ≡ shown self.now.ports.items cache }
@@ -284,19 +326,14 @@ impl<G> Ports<G> {
         let _ = self.ports[place].messages.pop_front();
     }
 
-    // Makes room for one message more at a port, where it isn't full.
-    fn reserve_message(&mut self, place: usize) -> Result<(), Trouble>
-        requires { place < length self.old.ports.items }
-        ensures reserved { (p : Port) → slice_get self.old.ports.items place ≡ Some p
-            → IsReserved self.old.ports.items place p result self.new.ports.items }
-        ensures same { self.new ≡ record self.old { ports = self.new.ports } }
+    // Whether as many messages wait at a port as may.
+    fn is_full(&self, place: usize) -> bool
+        requires { place < length self.now.ports.items }
+        ensures { (p : Port) → slice_get self.now.ports.items place ≡ Some p
+            → result ≡ (length p.messages.items == p.depth) }
     {
-        let port = &mut self.ports[place];
-        if port.messages.len() == port.depth as usize {
-            return Err(Trouble::Refused(Refusal::PortFull));
-        }
-        port.messages.reserve(1)?;
-        Ok(())
+        let port = &self.ports[place];
+        port.messages.len() == port.depth as usize
     }
 }
 
