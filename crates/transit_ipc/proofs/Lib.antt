@@ -18,3 +18,4 @@ pub mod Emptying
 pub mod Copying
 pub mod Moving
 pub mod Sending
+pub mod Answered

@@ -26,7 +26,10 @@ impl<G> Ports<G> {
             self.new }
     {
         match command {
-            PortCommand::Port(depth) => Ok(Reply::Port(self.make_port(*depth)?)),
+            PortCommand::Port(depth) => match self.make_port(*depth) {
+                Ok(port) => Ok(Reply::Port(port)),
+                Err(trouble) => Err(trouble),
+            },
             PortCommand::Send(port, extent) => {
                 self.send(*port, *extent, mapper, chooser)?;
                 Ok(Reply::Done)
