@@ -11,6 +11,7 @@ pub mod Lifting
 pub mod Passed
 pub mod Untold
 pub mod Calls
+pub mod Beginning
 pub mod Shapes
 pub mod Replacing
 pub mod Appending

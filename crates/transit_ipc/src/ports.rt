@@ -36,8 +36,8 @@ pub struct Ports<G> {
 }
 
 impl<G> Ports<G> {
-    /// No ports. They can be called where the manager has no caches and actors, and its room isn't
-    /// limited.
+    /// No ports. They can be called where the manager has no caches and no regions, and its room
+    /// isn't limited.
     pub fn new<M: Mapper, C: Chooser>(alloc: Global, gmi: G) -> Ports<G>
     where
         G: Gmi<M, C>,
