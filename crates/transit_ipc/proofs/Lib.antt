@@ -19,3 +19,5 @@ pub mod Emptying
 pub mod Copying
 pub mod Moving
 pub mod Sending
+pub mod Temporary
+pub mod Going
