@@ -21,3 +21,4 @@ pub mod Moving
 pub mod Sending
 pub mod Temporary
 pub mod Going
+pub mod Removing
