@@ -6,7 +6,7 @@ use Rattle.vm_ids.specs.Counting.{MapperCounts, Rise, counts_sum, no_counts}
 use Rattle.vm_ids.specs.Held.{Held, Segments, segments_of}
 use Rattle.vm_ids.specs.declared.command.Command.{Command}
 use Rattle.vm_ids.specs.declared.command.PortCommand.{PortCommand}
-use Rattle.vm_model.specs.Answering.{Answer}
+use Rattle.vm_model.specs.Answering.{Answer, is_mapped}
 use Rattle.vm_model.specs.Machine.{Cache, Machine, cache_of}
 use Rattle.vm_port.specs.declared.traits.mapper.Mapper.{Ghosts as GhostsOfMapper}
 use Rattle.gmi_calls.specs.Calling.{MapperCall}
@@ -23,23 +23,29 @@ use Rattle.transit_ipc.proofs.Calls.{able_after, call_is, made_after, one_call, 
 use Rattle.transit_ipc.proofs.Emptying.{over, step_over}
 use Rattle.transit_ipc.proofs.Hiding.{numbered_seen}
 use Rattle.transit_ipc.proofs.Making.{all_seen}
+use Rattle.transit_ipc.proofs.Shapes.{AllTemporary}
 
 -- no ports are tied to any machine to which some are
 seen_there : (b : Bool) (o : Option Cache) → IsSome (cond b None o) → IsSome o
 seen_there true o h = absurd (cc h)
 seen_there false o h = h
 
-pub tied_none : (m : Machine) (ports : List Port) → AreTied m ports → AreTied m []
-tied_none m ports t = record {
+pub mapped_alive : (m : Machine) (ports : List Port) → AreTied m ports → (k : ℕ) → IsTrue (is_mapped m k) → IsSome (cache_of m k)
+mapped_alive m ports t k is = seen_there (is_transit ports k) (cache_of m k) (subst (λ (o : Option Cache). IsSome o) (numbered_seen (is_transit ports) m.caches k) (t.mapped k is))
+
+pub tied_plain : (m : Machine) → AllTemporary m → ((k : ℕ) → IsTrue (is_mapped m k) → IsSome (cache_of m k)) → AreTied m []
+tied_plain m all alive = record {
   messages = λ i j x w. absurd (cc w.there);
   apart = λ i j k l x y v w e. absurd (cc v.there);
-  mapped = λ k is. subst (λ (cs : List (Option Cache)). IsSome (let n : Machine = record m { caches = cs } in cache_of n k)) (sym (all_seen 1 m.caches))
-      (seen_there (is_transit ports k) (cache_of m k) (subst (λ (o : Option Cache). IsSome o) (numbered_seen (is_transit ports) m.caches k) (t.mapped k is)));
-  temporary = t.temporary;
+  mapped = λ k is. subst (λ (cs : List (Option Cache)). IsSome (let n : Machine = record m { caches = cs } in cache_of n k)) (sym (all_seen 1 m.caches)) (alive k is);
+  temporary = all;
   deep = λ i p e. absurd (cc e);
   roomy = λ i p e. absurd (cc e);
   few = omega arith;
 }
+
+pub tied_none : (m : Machine) (ports : List Port) → AreTied m ports → AreTied m []
+tied_none m ports t = tied_plain m t.temporary (mapped_alive m ports t)
 
 module _ {Manager X Chooser : Type 0} (M : GhostsOfMapper X) (G : GhostsOfGmi Manager X Chooser) (old : Ports Manager) (before : X) (can : CanCall G old (M.held before) (M.page_bytes before)) where
   abbrev m : Machine

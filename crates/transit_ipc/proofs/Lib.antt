@@ -22,3 +22,5 @@ pub mod Sending
 pub mod Temporary
 pub mod Going
 pub mod Removing
+pub mod Sent
+pub mod Receiving

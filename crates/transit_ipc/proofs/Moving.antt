@@ -31,7 +31,7 @@ pub record MayMove (m : Machine) (s : Span) (c : Cache) : Type 0 where
   pub unlocked : (page : ℕ) → is_locked_page m s.from.0 page ≡ false
 
 -- the rows of a move into what there is, up to an end
-abbrev moved : Machine → Span → (Cache → Machine) → Option Cache → Answered
+abbrev pub moved : Machine → Span → (Cache → Machine) → Option Cache → Answered
 moved m s ending o = with_some o refusals.NoCache m (λ d. unless (passes_end d s.to_page.0 s.pages) refusals.OutOfCache m (unless (is_any_locked m s.to s.to_page.0 s.pages) refusals.Locked m (reply replies.Done (ending d))))
 
 abbrev move_row : Machine → Span → Cache → Answered
