@@ -1,5 +1,5 @@
 -- The pages of the manager's machine are those that are seen and those that wait.
-use Rattle.std.proofs.Common.{◌≡◌, ◌≢◌, ◌==◌, ℕ, zero, suc, ◌+◌, ◌-◌, ◌≤◌, Bool, true, false, cond, List, [], ◌∷◌, length, map, Option, Some, None, refl, sym, ap, ◌∙◌, arith}
+use Rattle.std.proofs.Common.{◌≡◌, ◌≢◌, ◌==◌, ℕ, zero, suc, ◌+◌, ◌-◌, ◌≤◌, Bool, true, false, List, [], ◌∷◌, length, map, Option, Some, None, refl, sym, ap, ◌∙◌, arith}
 use Rattle.std.specs.Prelude.{◌||◌, nat_le, nat_lt, option_and_then, slice_get, sum_by}
 use Rattle.std.specs.List.{list_any}
 use Rattle.std.specs.Option.{option_map_or}
@@ -10,7 +10,6 @@ use Rattle.vm_model.specs.declared.limits.TheConstants.{LIVE_PAGES, MOST_MADE}
 use Rattle.vm_model.proofs.Parts.ListParts.{at_some}
 use Rattle.vm_model.proofs.Parts.Lists.{numbered_place}
 use Rattle.transit_ipc.specs.Answering.{lacks_room}
-use Rattle.transit_ipc.specs.PortMachine as model
 use Rattle.transit_ipc.specs.PortMachine.{pages_at, waiting_pages}
 use Rattle.transit_ipc.specs.Seen.{but_for, is_transit, memory_seen, message_seen, port_seen, ports_seen}
 use Rattle.transit_ipc.specs.Tying.{AreTied, Waits}

@@ -1,5 +1,5 @@
 -- How the ports are tied to the machine that their manager stands for.
-use Rattle.std.specs.Prelude.{◌≡◌, ◌≤◌, ◌<◌, ℕ, false, List, [], length, Option, Some, None, slice_get, IfNone, IsSome}
+use Rattle.std.specs.Prelude.{◌≡◌, ◌≤◌, ℕ, false, List, [], length, Option, Some, None, slice_get, IfNone, IsSome}
 use Rattle.std.specs.Bool.{IsTrue}
 use Rattle.std.specs.VecDeque.{deque_capacity}
 use Rattle.vm_ids.specs.Held.{Held}
