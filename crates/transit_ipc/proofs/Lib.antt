@@ -24,3 +24,4 @@ pub mod Going
 pub mod Removing
 pub mod Sent
 pub mod Receiving
+pub mod Received

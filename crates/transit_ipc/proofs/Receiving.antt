@@ -118,7 +118,7 @@ module _ (m : Machine) (ports : List Port) (t : AreTied m ports) (port : PortId)
       hidden : is_transit ports x.cache.0 ≡ true
       hidden = waiting_hides ports place 0 x waits
 
-      unseen : cache_of (memory_seen m ports) x.cache.0 ≡ None
+      pub unseen : cache_of (memory_seen m ports) x.cache.0 ≡ None
       unseen = hidden_cache m ports x.cache.0 hidden
 
       pub may : MayMove m span source
@@ -172,7 +172,7 @@ module _ (m : Machine) (ports : List Port) (t : AreTied m ports) (port : PortId)
       Ends (Ok u) n = HasReceived (without n x.cache.0)
       Ends (Err trouble) n = (n ≡ m) × ((h : Segments) (rises : MapperCounts) → Outcome M command h (Err trouble) M rises)
 
-      abbrev ended : Result (Unit {0}) Trouble → Machine → Machine
+      abbrev pub ended : Result (Unit {0}) Trouble → Machine → Machine
       ended (Ok u) n = without n x.cache.0
       ended (Err trouble) n = n
 
