@@ -1,5 +1,5 @@
 -- Ports over a manager without caches.
-use Rattle.std.proofs.Common.{◌≡◌, ℕ, false, true, List, [], map, Option, Some, None, refl, sym, ap, subst, inl, inr, ◌∙◌, arith}
+use Rattle.std.proofs.Common.{◌≡◌, ℕ, false, true, List, [], map, Option, Some, None, sym, ap, subst, inl, inr, ◌∙◌, arith}
 use Rattle.std.specs.Prelude.{option_map, sum_by}
 use Rattle.vm_ids.specs.Held.{Held}
 use Rattle.vm_model.specs.Answering.{is_mapped}

@@ -1,9 +1,9 @@
 -- How far a call of the ports got in the manager, and that the ports are called then.
-use Rattle.std.proofs.Common.{◌≡◌, ℕ, ◌+◌, ◌*◌, ◌^◌, ◌≤◌, Bool, true, false, cond, List, [], ◌∷◌, Option, Some, None, refl, sym, ap, subst, ◌∙◌, arith}
+use Rattle.std.proofs.Common.{◌≡◌, ℕ, ◌+◌, ◌*◌, ◌≤◌, Bool, true, false, cond, List, [], Option, None, refl, sym, subst, ◌∙◌, arith}
 use Rattle.std.specs.Bool.{IsTrue}
 use Rattle.std.specs.Prelude.{IsSome}
 use Rattle.vm_ids.specs.Counting.{MapperCounts, Rise, counts_sum, no_counts}
-use Rattle.vm_ids.specs.Held.{Held, Segments, segments_of}
+use Rattle.vm_ids.specs.Held.{Segments, segments_of}
 use Rattle.vm_ids.specs.declared.command.Command.{Command}
 use Rattle.vm_ids.specs.declared.command.PortCommand.{PortCommand}
 use Rattle.vm_model.specs.Answering.{Answer, is_mapped}
@@ -13,14 +13,14 @@ use Rattle.gmi_calls.specs.Calling.{MapperCall}
 use Rattle.gmi_calls.specs.Managing.{meanings_of}
 use Rattle.gmi_calls.specs.declared.gmi.Gmi.{Ghosts as GhostsOfGmi}
 use Rattle.gmi_calls.proofs.Rising.{rise_none, rise_then}
-use Rattle.transit_ipc.specs.Calling.{PortCall, call_budget}
+use Rattle.transit_ipc.specs.Calling.{PortCall}
 use Rattle.transit_ipc.specs.Outcome.{Outcome}
-use Rattle.transit_ipc.specs.Seen.{is_transit, memory_seen, ports_seen}
+use Rattle.transit_ipc.specs.Seen.{is_transit, ports_seen}
 use Rattle.transit_ipc.specs.Tying.{AreAble, AreTied, CanCall}
 use Rattle.transit_ipc.specs.declared.port.Port.{Port}
 use Rattle.transit_ipc.specs.declared.ports.Ports.{Ports}
 use Rattle.transit_ipc.proofs.Calls.{able_after, call_is, made_after, one_call, segments_after}
-use Rattle.transit_ipc.proofs.Emptying.{over, step_over}
+use Rattle.transit_ipc.proofs.Emptying.{step_over}
 use Rattle.transit_ipc.proofs.Hiding.{numbered_seen}
 use Rattle.transit_ipc.proofs.Making.{all_seen}
 use Rattle.transit_ipc.proofs.Shapes.{AllTemporary}

@@ -1,5 +1,5 @@
 -- What a move of all pages out of a temporary cache comes to that is destroyed behind it.
-use Rattle.std.proofs.Common.{◌≡◌, ◌≢◌, ◌⊎◌, inl, inr, ◌==◌, ℕ, zero, suc, ◌+◌, ◌-◌, ◌≤◌, Bool, true, false, cond, List, [], ◌∷◌, length, map, set, take, drop, replicate, Option, Some, None, refl, sym, ap, subst, ◌∙◌, arith}
+use Rattle.std.proofs.Common.{◌≡◌, ◌≢◌, inl, inr, ℕ, zero, suc, ◌+◌, ◌-◌, ◌≤◌, Bool, true, false, List, [], ◌∷◌, length, set, take, drop, replicate, Option, Some, None, refl, sym, ap, subst, ◌∙◌, arith}
 use Rattle.std.specs.Prelude.{◌||◌, Ok, Err, Result, is_some, nat_lt, option_map}
 use Rattle.std.specs.Option.{option_map_or}
 use Rattle.std.proofs.lemmas.Bool.Decides.{nat_tests}
@@ -11,14 +11,13 @@ use Rattle.vm_ids.specs.declared.command.Span.{Span}
 use Rattle.vm_ids.specs.declared.refusal.Refusal.TheVariants as refusals
 use Rattle.vm_ids.specs.declared.reply.Reply.TheVariants as replies
 use Rattle.vm_ids.specs.declared.reply.Trouble.{Trouble}
-use Rattle.vm_ids.specs.declared.reply.Trouble.TheVariants as troubles
-use Rattle.vm_model.specs.Answering.{Answer, Answered, answer_of, is_any_denied, is_any_locked, move_of, overlaps_itself, passes_an_end, passes_end, put_cache, put_pages, put_span, reply, unless, with_some, zero_source}
+use Rattle.vm_model.specs.Answering.{Answer, Answered, is_any_denied, is_any_locked, move_of, overlaps_itself, passes_an_end, passes_end, put_cache, put_pages, put_span, reply, unless, with_some, zero_source}
 use Rattle.vm_model.specs.Machine.{Cache, Machine, Page, cache_of, is_locked_page, zero_page}
-use Rattle.vm_model.specs.Outcome.{IsNotRefused, Outcome, OutcomeAt, blank, blank_cache}
+use Rattle.vm_model.specs.Outcome.{IsNotRefused, OutcomeAt, blank, blank_cache}
 use Rattle.vm_model.specs.PageForest.{PageForest}
 use Rattle.vm_model.proofs.Parts.Lists.{length-overwrite}
 use Rattle.gmi_calls.specs.Calling.{done_by}
-use Rattle.transit_ipc.proofs.Copying.{IsLack, RowIs, as_many, blanked, by_row, inside, no_fault_move, no_overlap, row_blank, undenied, unlocked_all, whole_cache, whole_temporary}
+use Rattle.transit_ipc.proofs.Copying.{RowIs, as_many, blanked, by_row, inside, no_fault_move, no_overlap, row_blank, undenied, unlocked_all, whole_cache, whole_temporary}
 use Rattle.transit_ipc.proofs.Emptying.{alike_done, blank_at, blank_span, blank_without, without}
 use Rattle.transit_ipc.proofs.Shapes.{AllTemporary, IsLike, emptied, like_back, like_blank, like_cache, like_put, like_self, like_then, shape_of}
 

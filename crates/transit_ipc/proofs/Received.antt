@@ -1,10 +1,9 @@
 -- A receive is answered: refused at once, or by what its calls of the manager came to.
-use Rattle.std.proofs.Common.{◌≡◌, ◌⊎◌, ℕ, zero, suc, ◌+◌, ◌*◌, ◌^◌, ◌<◌, ◌≤◌, Bool, true, false, List, [], ◌∷◌, length, drop, set, Option, Some, None, refl, sym, ap, subst, ◌∙◌, arith}
+use Rattle.std.proofs.Common.{◌≡◌, ◌⊎◌, ℕ, suc, ◌^◌, ◌<◌, ◌≤◌, false, List, [], length, drop, set, Option, Some, refl, sym, ap, subst, ◌∙◌, arith}
 use Rattle.std.specs.Prelude.{Ok, Err, Result, slice_get}
 use Rattle.std.specs.List.{list_any}
 use Rattle.std.specs.VecDeque.{deque_capacity}
-use Rattle.vm_ids.specs.Counting.{MapperCounts}
-use Rattle.vm_ids.specs.Held.{Segments, segments_of}
+use Rattle.vm_ids.specs.Held.{segments_of}
 use Rattle.vm_ids.specs.declared.command.Command.TheVariants as vm_commands
 use Rattle.vm_ids.specs.declared.command.PortCommand.{PortCommand}
 use Rattle.vm_ids.specs.declared.command.PortCommand.TheVariants as commands
@@ -17,7 +16,7 @@ use Rattle.vm_ids.specs.declared.reply.Reply.TheVariants as replies
 use Rattle.vm_ids.specs.declared.reply.Trouble.{Trouble}
 use Rattle.vm_ids.specs.declared.reply.Trouble.TheVariants as troubles
 use Rattle.vm_model.specs.Answering.{Answer, is_mapped, maps_in, put_cache}
-use Rattle.vm_model.specs.Machine.{Actor, Machine, cache_of}
+use Rattle.vm_model.specs.Machine.{Actor, Machine}
 use Rattle.vm_port.specs.declared.traits.mapper.Mapper.{Ghosts as GhostsOfMapper}
 use Rattle.gmi_calls.specs.Calling.{Fits, MapperCall, done_by}
 use Rattle.gmi_calls.specs.Managing.{meanings_of}
@@ -27,17 +26,17 @@ use Rattle.transit_ipc.specs.Calling.{PortCall}
 use Rattle.transit_ipc.specs.Inner.{IsFirst, received_span}
 use Rattle.transit_ipc.specs.Outcome.{Outcome}
 use Rattle.transit_ipc.specs.PortMachine.{PortMachine, put_port}
-use Rattle.transit_ipc.specs.Seen.{is_transit, memory_seen, port_seen, ports_seen}
+use Rattle.transit_ipc.specs.Seen.{memory_seen, port_seen, ports_seen}
 use Rattle.transit_ipc.specs.Tying.{AreTied, CanCall}
 use Rattle.transit_ipc.specs.declared.port.Message.{Message}
 use Rattle.transit_ipc.specs.declared.port.Port.{Port}
 use Rattle.transit_ipc.specs.declared.ports.Ports.{Ports}
-use Rattle.transit_ipc.proofs.Calls.{call_is, one_call}
+use Rattle.transit_ipc.proofs.Calls.{call_is}
 use Rattle.transit_ipc.proofs.Copying.{RowIs}
 use Rattle.transit_ipc.proofs.Emptying.{without}
 use Rattle.transit_ipc.proofs.Going.{Goes, goes_none, goes_on, port_call, tied_none}
 use Rattle.transit_ipc.proofs.Moving.{Moves, finished, moved_at, received_row}
-use Rattle.transit_ipc.proofs.Receiving.{Ends, HasReceived, empty, ended, ends, is_message, may, nobody, received, source, span, unseen}
+use Rattle.transit_ipc.proofs.Receiving.{Ends, HasReceived, empty, ended, ends, is_message, may, nobody, received, source, unseen}
 use Rattle.transit_ipc.proofs.Removing.{seen_received, tied_received}
 use Rattle.transit_ipc.proofs.Sending.{unmapped}
 use Rattle.transit_ipc.proofs.Shapes.{like_cache, temporary_like, tied_like}

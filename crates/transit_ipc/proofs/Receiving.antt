@@ -1,5 +1,5 @@
 -- What a receive comes to: from the move of the first message's pages on.
-use Rattle.std.proofs.Common.{◌≡◌, ◌≢◌, ◌⊎◌, inl, inr, ◌==◌, ℕ, zero, suc, ◌+◌, ◌-◌, ◌<◌, ◌≤◌, Bool, true, false, cond, List, [], ◌∷◌, ◌++◌, length, map, set, take, drop, Option, Some, None, refl, sym, ap, subst, ◌∙◌, arith}
+use Rattle.std.proofs.Common.{◌≡◌, ◌⊎◌, inl, inr, ℕ, suc, ◌<◌, Bool, true, false, cond, List, [], ◌∷◌, length, map, take, drop, Option, Some, None, refl, sym, ap, subst, ◌∙◌, arith}
 use Rattle.std.specs.Prelude.{Ok, Err, Result, option_map, slice_get}
 use Rattle.std.specs.Option.{option_map_or}
 use Rattle.std.proofs.lemmas.List.{take_all}
@@ -22,7 +22,7 @@ use Rattle.vm_model.specs.Answering.{Answer, is_any_denied, is_any_locked, is_ma
 use Rattle.vm_model.specs.Machine.{Cache, Machine, Page, cache_of}
 use Rattle.vm_model.specs.Outcome.{IsNotRefused}
 use Rattle.gmi_calls.specs.Calling.{done_by}
-use Rattle.transit_ipc.specs.Answering.{Answered, receive_of, refuse, reply, span_to, unless, with_some, without_first}
+use Rattle.transit_ipc.specs.Answering.{Answered, receive_of, reply, span_to, unless, with_some, without_first}
 use Rattle.transit_ipc.specs.Inner.{received_span, shown}
 use Rattle.transit_ipc.specs.Outcome.{Outcome}
 use Rattle.transit_ipc.specs.PortMachine as model
@@ -31,7 +31,7 @@ use Rattle.transit_ipc.specs.Seen.{is_transit, memory_seen, message_seen, port_s
 use Rattle.transit_ipc.specs.Tying.{AreTied, IsMessage, Waits}
 use Rattle.transit_ipc.specs.declared.port.Message.{Message}
 use Rattle.transit_ipc.specs.declared.port.Port.{Port}
-use Rattle.transit_ipc.proofs.Copying.{IsLack, RowIs, undenied}
+use Rattle.transit_ipc.proofs.Copying.{RowIs, undenied}
 use Rattle.transit_ipc.proofs.Emptying.{without}
 use Rattle.transit_ipc.proofs.Hiding.{hidden_cache, seen_cache}
 use Rattle.transit_ipc.proofs.Messages.{seen_apart, shown_visible, waiting_hides}

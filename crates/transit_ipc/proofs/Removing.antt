@@ -1,20 +1,18 @@
 -- A message is received: its cache is gone, and another that is seen has its pages.
-use Rattle.std.proofs.Common.{◌≡◌, ◌≢◌, ◌⊎◌, inl, inr, ◌==◌, ℕ, zero, suc, ◌+◌, ◌-◌, ◌≤◌, Bool, true, false, List, [], ◌∷◌, length, map, set, drop, Option, Some, None, refl, sym, ap, subst, ◌∙◌, arith}
-use Rattle.std.specs.Bool.{IsTrue}
+use Rattle.std.proofs.Common.{◌≡◌, ◌≢◌, ◌⊎◌, inl, inr, ◌==◌, ℕ, suc, ◌+◌, ◌-◌, ◌≤◌, Bool, false, List, [], ◌∷◌, length, map, set, drop, Option, Some, None, refl, sym, ap, subst, ◌∙◌, arith}
 use Rattle.std.specs.List.{list_any}
 use Rattle.std.specs.Prelude.{◌||◌, IsSome, slice_get}
 use Rattle.std.specs.VecDeque.{deque_capacity}
 use Rattle.std.proofs.lemmas.Bool.{cases_eq}
 use Rattle.std.proofs.lemmas.Bool.Decides.{nat_tests}
 use Rattle.std.proofs.lemmas.List.{drop-map, length-drop, length-set, map-set}
-use Rattle.vm_model.specs.Answering.{is_mapped, put_cache}
+use Rattle.vm_model.specs.Answering.{put_cache}
 use Rattle.vm_model.specs.Machine.{Cache, Machine, cache_of}
 use Rattle.vm_model.proofs.Parts.ListParts.{get_drop, numbered_set, numbered_set_other}
 use Rattle.vm_model.proofs.Parts.Lists.{numbered_place}
 use Rattle.transit_ipc.specs.Answering.{without_first}
-use Rattle.transit_ipc.specs.PortMachine as model
-use Rattle.transit_ipc.specs.PortMachine.{PortMachine, put_port}
-use Rattle.transit_ipc.specs.Seen.{but_for, is_transit, memory_seen, message_seen, port_seen, ports_seen, waits_in}
+use Rattle.transit_ipc.specs.PortMachine.{put_port}
+use Rattle.transit_ipc.specs.Seen.{is_transit, memory_seen, message_seen, port_seen, ports_seen}
 use Rattle.transit_ipc.specs.Tying.{AreTied, IsMessage, Waits}
 use Rattle.transit_ipc.specs.declared.port.Message.{Message}
 use Rattle.transit_ipc.specs.declared.port.Port.{Port}
@@ -82,11 +80,14 @@ module _ (m : Machine) (ports : List Port) (t : AreTied m ports) (place : ℕ) (
 
   left : (i j : ℕ) (y : Message) → Waits later i j y → Left i j y
   left i j y w = elim (waits_or ports place p q there i j y w) [
-    | inl h ↦ inl (h.0, record {
-      port = p;
-      there = there;
-      has = sym (get_drop 1 p.messages.items j (suc j) (omega arith)) ∙ ap (λ (ms : List Message). slice_get ms j) (sym rest) ∙ h.1;
-    })
+    | inl h ↦ inl (
+      h.0,
+      record {
+        port = p;
+        there = there;
+        has = sym (get_drop 1 p.messages.items j (suc j) (omega arith)) ∙ ap (λ (ms : List Message). slice_get ms j) (sym rest) ∙ h.1;
+      },
+    )
     | inr h ↦ inr h
   ]
 

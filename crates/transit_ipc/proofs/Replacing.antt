@@ -1,14 +1,12 @@
 -- One port becomes another: which messages wait, and which caches they hide.
-use Rattle.std.proofs.Common.{◌≡◌, ◌≢◌, ◌⊎◌, inl, inr, ℕ, zero, suc, ◌+◌, ◌<◌, ◌≤◌, Bool, true, false, cond, List, [], ◌∷◌, ◌++◌, length, set, map, Option, Some, None, refl, sym, ap, subst, ◌∙◌, arith}
-use Rattle.std.specs.Prelude.{◌||◌, ◌==◌, slice_get}
+use Rattle.std.proofs.Common.{◌≡◌, ◌≢◌, ◌⊎◌, inl, inr, ℕ, zero, suc, ◌+◌, ◌<◌, ◌≤◌, Bool, true, false, cond, List, [], ◌∷◌, length, set, map, Option, Some, None, refl, sym, ap, ◌∙◌, arith}
+use Rattle.std.specs.Prelude.{◌||◌, slice_get}
 use Rattle.std.specs.List.{list_any}
 use Rattle.std.specs.Option.{option_map_or}
-use Rattle.std.specs.VecDeque.{deque_capacity}
 use Rattle.std.proofs.lemmas.Bool.{cases_eq}
 use Rattle.std.proofs.lemmas.Option.{slice_get_within}
 use Rattle.vm_model.specs.Machine.{Cache, Machine, cache_of}
 use Rattle.vm_model.proofs.Parts.Lists.{get_set_other, get_set_same}
-use Rattle.transit_ipc.specs.PortMachine as model
 use Rattle.transit_ipc.specs.Seen.{but_for, is_transit, message_seen, port_seen, waits_in}
 use Rattle.transit_ipc.specs.Tying.{Waits}
 use Rattle.transit_ipc.specs.declared.port.Message.{Message}

@@ -1,5 +1,5 @@
 -- A send is answered: refused at once, or by what its calls of the manager came to.
-use Rattle.std.proofs.Common.{◌≡◌, ◌≢◌, ◌⊎◌, inl, inr, ◌==◌, ℕ, zero, suc, ◌+◌, ◌*◌, ◌^◌, ◌<◌, ◌≤◌, Bool, true, false, List, [], ◌∷◌, ◌++◌, length, set, Option, Some, None, refl, sym, ap, subst, ◌∙◌, arith}
+use Rattle.std.proofs.Common.{◌≡◌, ◌⊎◌, ◌==◌, ℕ, zero, suc, ◌^◌, ◌<◌, ◌≤◌, true, false, List, [], ◌∷◌, ◌++◌, length, set, Option, Some, None, refl, sym, ap, subst, ◌∙◌, arith}
 use Rattle.std.specs.Prelude.{Ok, Err, IsSome, Result, slice_get}
 use Rattle.std.specs.Bool.{IsTrue}
 use Rattle.std.specs.VecDeque.{deque_capacity}
@@ -10,7 +10,6 @@ use Rattle.vm_ids.specs.declared.command.Command.TheVariants as vm_commands
 use Rattle.vm_ids.specs.declared.command.Extent.{Extent}
 use Rattle.vm_ids.specs.declared.command.PortCommand.{PortCommand}
 use Rattle.vm_ids.specs.declared.command.PortCommand.TheVariants as commands
-use Rattle.vm_ids.specs.declared.command.Span.{Span}
 use Rattle.vm_ids.specs.declared.numbers.CacheId.{CacheId}
 use Rattle.vm_ids.specs.declared.numbers.PortId.{PortId}
 use Rattle.vm_ids.specs.declared.refusal.Refusal.TheVariants as refusals
@@ -20,7 +19,6 @@ use Rattle.vm_ids.specs.declared.reply.Trouble.TheVariants as troubles
 use Rattle.vm_model.specs.Answering.{Answer, is_mapped}
 use Rattle.vm_model.specs.Machine.{Cache, Machine, cache_of}
 use Rattle.vm_model.specs.Outcome.{OutcomeAt}
-use Rattle.vm_model.specs.PageForest.{PageForest}
 use Rattle.vm_model.proofs.Parts.Lists.{is_there}
 use Rattle.vm_model.proofs.Parts.ListParts.{numbered_past}
 use Rattle.vm_port.specs.declared.traits.mapper.Mapper.{Ghosts as GhostsOfMapper}
@@ -39,8 +37,8 @@ use Rattle.transit_ipc.specs.declared.port.Message.{Message}
 use Rattle.transit_ipc.specs.declared.port.Port.{Port}
 use Rattle.transit_ipc.specs.declared.ports.Ports.{Ports}
 use Rattle.transit_ipc.proofs.Appending.{appended, at_last, last_replaced, next_of, seen_sent, seen_taken, still_there, temporary_appended, tied_sent, tied_taken}
-use Rattle.transit_ipc.proofs.Calls.{call_is, one_call}
-use Rattle.transit_ipc.proofs.Copying.{RowIs, copied_at, copy_row}
+use Rattle.transit_ipc.proofs.Calls.{call_is}
+use Rattle.transit_ipc.proofs.Copying.{copied_at}
 use Rattle.transit_ipc.proofs.Emptying.{without}
 use Rattle.transit_ipc.proofs.Going.{Goes, goes_none, goes_on, mapped_alive, port_call, tied_none, tied_plain}
 use Rattle.transit_ipc.proofs.Hiding.{length_seen}

@@ -1,5 +1,5 @@
 -- What becomes of a temporary cache: it is made, or there is no room for it; and it is destroyed.
-use Rattle.std.proofs.Common.{◌≡◌, ◌⊎◌, inl, inr, ℕ, ◌+◌, ◌-◌, Bool, true, false, List, [], ◌∷◌, ◌++◌, length, map, set, Option, Some, None, refl, sym, ap, subst, ◌∙◌, arith}
+use Rattle.std.proofs.Common.{◌≡◌, inl, inr, ℕ, ◌+◌, Bool, true, false, [], ◌∷◌, length, Option, Some, None, refl, sym, ap, subst, ◌∙◌}
 use Rattle.std.specs.Prelude.{◌||◌, Ok, Err, Result, nat_le, nat_lt, option_map}
 use Rattle.std.proofs.lemmas.List.{length-map, length-replicate, map-append}
 use Rattle.vm_ids.specs.Counting.{MapperCounts}
@@ -8,17 +8,16 @@ use Rattle.vm_ids.specs.declared.command.Command.TheVariants as commands
 use Rattle.vm_ids.specs.declared.numbers.CacheId.{CacheId}
 use Rattle.vm_ids.specs.declared.refusal.Refusal.TheVariants as refusals
 use Rattle.vm_ids.specs.declared.reply.FaultAt.TheVariants as faults
-use Rattle.vm_ids.specs.declared.reply.Reply.{Reply}
 use Rattle.vm_ids.specs.declared.reply.Reply.TheVariants as replies
 use Rattle.vm_ids.specs.declared.reply.Trouble.{Trouble}
 use Rattle.vm_ids.specs.declared.reply.Trouble.TheVariants as troubles
-use Rattle.vm_model.specs.Answering.{Answer, Answered, answer_by, destroy_of, is_mapped, make_temp_of, refuse, reply, temporary, unless, with_some}
-use Rattle.vm_model.specs.Machine.{Cache, Machine, cache_of, live_pages, zero_page}
+use Rattle.vm_model.specs.Answering.{Answer, Answered, answer_by, destroy_of, is_mapped, refuse, reply, temporary, unless, with_some}
+use Rattle.vm_model.specs.Machine.{Cache, Machine, cache_of, zero_page}
 use Rattle.vm_model.specs.Outcome.{IsAlike, Outcome, OutcomeAt, blank, blank_cache}
 use Rattle.vm_model.specs.PageForest.{PageForest}
 use Rattle.vm_model.specs.declared.limits.TheConstants.{LIVE_PAGES, MOST_MADE}
 use Rattle.transit_ipc.proofs.Appending.{appended, next_of}
-use Rattle.transit_ipc.proofs.Copying.{IsLack, RowIs, by_row, no_name, whole_cache, whole_temporary}
+use Rattle.transit_ipc.proofs.Copying.{RowIs, by_row, no_name, whole_cache, whole_temporary}
 use Rattle.transit_ipc.proofs.Emptying.{blank_without, without}
 use Rattle.transit_ipc.proofs.Fresh.{has_no_room, temp_made, temp_refused, with_cache}
 use Rattle.transit_ipc.proofs.Messages.{either}

@@ -1,6 +1,5 @@
-use Rattle.std.proofs.Common.{◌≡◌, List, [], ◌∙◌}
+use Rattle.std.proofs.Common.{[], ◌∙◌}
 use Rattle.transit_ipc.specs.Seen.{ports_seen}
-use Rattle.transit_ipc.specs.Stepping.{State}
 use Rattle.vm_ids.specs.Held.{segments_of}
 use Rattle.vm_model.specs.Machine.{Machine}
 use Rattle.transit_ipc.proofs.Beginning.{able_bare}

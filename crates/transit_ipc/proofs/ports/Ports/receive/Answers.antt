@@ -1,5 +1,4 @@
-use Rattle.std.proofs.Common.{◌≡◌, ◌+◌, ◌≤◌, ◌<◌, ◌^◌, ℕ, suc, slice_get, List, length, drop, set, get_or, Ok, Err, Some, refl, sym, ap, subst, ◌∙◌, arith}
-use Rattle.std.specs.VecDeque.{deque_capacity}
+use Rattle.std.proofs.Common.{◌≤◌, ◌^◌, slice_get, set, Ok, Err, sym, ap, subst, ◌∙◌, arith}
 use Rattle.gmi_calls.specs.Calling.{Fits, MapperCall, done_by}
 use Rattle.gmi_calls.specs.Managing.{meanings_of}
 use Rattle.vm_ids.specs.declared.command.Command.TheVariants as vm_commands
@@ -7,7 +6,6 @@ use Rattle.vm_ids.specs.declared.command.PortCommand.TheVariants.{Receive}
 use Rattle.vm_ids.specs.declared.refusal.Refusal.{Refusal}
 use Rattle.vm_ids.specs.declared.reply.Trouble.TheVariants.{Refused}
 use Rattle.transit_ipc.specs.Calling.{PortCall}
-use Rattle.transit_ipc.specs.declared.port.Port.{Port}
 use Rattle.transit_ipc.specs.declared.ports.Ports.{Ports}
 use Rattle.transit_ipc.proofs.Received.{moved_few, moved_fits, receive_done, receive_empty, receive_failed, receive_nobody, some_pages}
 use Rattle.transit_ipc.proofs.Sent.{found_at}
@@ -32,14 +30,14 @@ pub destroy-requires-clause-made : goal.destroy-requires-clause-made
 destroy-requires-clause-made g c =
     let p = found_at c.args.self.now.ports.items c.in-Ok.place c.in-Ok.ensures.found.1 in
     let few = moved_few g.M.Mapper g.G.Gmi c.args.self.now c.args.mapper.now c.requires.can c.args.port c.args.cache c.args.page c.in-Ok.place p.0 p.1 (omega (arith, c.in-Ok.ensures.found.0)) c.in-Ok-first_of.message (c.in-Ok-first_of.ensures p.0 p.1)
-        c.take_out.new.mapper c.take_out.new.self.gmi (Ok tt) c.in-Ok-take_out.ensures.call c.requires.made in
+    c.take_out.new.mapper c.take_out.new.self.gmi (Ok tt) c.in-Ok-take_out.ensures.call c.requires.made in
     subst (λ (s : Ports g.row.G.Denot). g.G.Gmi.made s.gmi ≤ 2 ^ 62) (sym c.take_first.ensures.same) few
 
 pub destroy-requires-clause-fits : goal.destroy-requires-clause-fits
 destroy-requires-clause-fits g c =
     let p = found_at c.args.self.now.ports.items c.in-Ok.place c.in-Ok.ensures.found.1 in
     let fits = moved_fits g.M.Mapper g.G.Gmi c.args.self.now c.args.mapper.now c.requires.can c.args.port c.args.cache c.args.page c.in-Ok.place p.0 p.1 (omega (arith, c.in-Ok.ensures.found.0)) c.in-Ok-first_of.message (c.in-Ok-first_of.ensures p.0 p.1)
-        c.take_out.new.mapper c.take_out.new.self.gmi (Ok tt) c.in-Ok-take_out.ensures.call in
+    c.take_out.new.mapper c.take_out.new.self.gmi (Ok tt) c.in-Ok-take_out.ensures.call in
     subst (λ (s : Ports g.row.G.Denot). Fits (g.M.Mapper.page_bytes c.take_out.new.mapper) (g.G.Gmi.machine s.gmi (g.M.Mapper.held c.take_out.new.mapper))) (sym c.take_first.ensures.same) fits
 
 pub returns-in-Ok-take_out : goal.returns-in-Ok-take_out
