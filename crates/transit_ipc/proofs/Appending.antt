@@ -18,7 +18,8 @@ use Rattle.transit_ipc.specs.Tying.{AreTied, IsMessage, Waits}
 use Rattle.transit_ipc.specs.declared.port.Message.{Message}
 use Rattle.transit_ipc.specs.declared.port.Port.{Port}
 use Rattle.transit_ipc.proofs.Hiding.{push_seen}
-use Rattle.transit_ipc.proofs.Replacing.{hidden_as, hidden_by, map_same, or_false, port_or, ports_alike, replaced, same_hidden, waits_or}
+use Rattle.transit_ipc.proofs.Messages.{map_same, ports_same}
+use Rattle.transit_ipc.proofs.Replacing.{hidden_as, hidden_by, or_false, port_or, replaced, same_hidden, waits_or}
 use Rattle.transit_ipc.proofs.Shapes.{AllTemporary}
 
 abbrev pub appended : Machine → Option Cache → Machine
@@ -67,7 +68,7 @@ hidden_none false = refl
 module _ (m : Machine) (ports : List Port) (t : AreTied m ports) where
   -- the same messages are seen beside one cache more
   alike : (o : Option Cache) → map (port_seen (appended m o)) ports ≡ map (port_seen m) ports
-  alike o = ports_alike m (appended m o) ports (λ i j x w. numbered_push m.caches o x.cache.0 (let h = t.messages i j x w in other_number m x.cache.0 h.cache h.there))
+  alike o = ports_same m (appended m o) ports (λ i j x w. numbered_push m.caches o x.cache.0 (let h = t.messages i j x w in other_number m x.cache.0 h.cache h.there))
 
   pub seen_taken : ports_seen (appended m None) ports ≡ take_number (ports_seen m ports)
   seen_taken = λ i. record {

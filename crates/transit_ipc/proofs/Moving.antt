@@ -1,9 +1,9 @@
 -- What a move of all pages out of a temporary cache comes to that is destroyed behind it.
-use Rattle.std.proofs.Common.{◌≡◌, ◌≢◌, inl, inr, ℕ, zero, suc, ◌+◌, ◌-◌, ◌≤◌, Bool, true, false, List, [], ◌∷◌, length, set, take, drop, replicate, Option, Some, None, refl, sym, ap, subst, ◌∙◌, arith}
+use Rattle.std.proofs.Common.{◌≡◌, ◌≢◌, inl, inr, ℕ, ◌+◌, ◌-◌, ◌≤◌, Bool, true, false, List, length, take, drop, replicate, Option, Some, None, refl, sym, ap, subst, ◌∙◌, arith}
 use Rattle.std.specs.Prelude.{◌||◌, Ok, Err, Result, is_some, nat_lt, option_map}
 use Rattle.std.specs.Option.{option_map_or}
 use Rattle.std.proofs.lemmas.Bool.Decides.{nat_tests}
-use Rattle.std.proofs.lemmas.List.{length-drop, length-map, length-replicate, length-take-le}
+use Rattle.std.proofs.lemmas.List.{length-drop, length-map, length-replicate, length-take-le, set-set}
 use Rattle.vm_ids.specs.Counting.{MapperCounts}
 use Rattle.vm_ids.specs.Held.{Segments}
 use Rattle.vm_ids.specs.declared.command.Command.TheVariants as commands
@@ -69,14 +69,9 @@ module _ (m : Machine) (s : Span) (c : Cache) (may : MayMove m s c) (h : Segment
 
 -- What is destroyed had zeros, or what it had
 
-set_again : {A : Type 0} (xs : List A) (i : ℕ) (x y : A) → set (set xs i x) i y ≡ set xs i y
-set_again [] i x y = refl
-set_again (z ∷ xs) zero x y = refl
-set_again (z ∷ xs) (suc i) x y = ap (λ zs. z ∷ zs) (set_again xs i x y)
-
 without_put : (m : Machine) (k : ℕ) (change : Cache → Cache) (o : Option Cache) → without (option_map_or (λ (c : Cache). put_cache m k (change c)) o m) k ≡ without m k
 without_put m k change None = refl
-without_put m k change (Some c) = λ i. record m { caches = set_again m.caches (k - 1) (Some (change c)) None i }
+without_put m k change (Some c) = λ i. record m { caches = set-set m.caches (k - 1) (Some (change c)) None i }
 
 without_zeros : (m : Machine) (s : Span) → without (zero_source m s) s.from.0 ≡ without m s.from.0
 without_zeros m s = without_put m s.from.0 (put_pages s.from_page.0 (replicate s.pages (zero_page m.page_bytes))) (cache_of m s.from.0)
