@@ -1,28 +1,25 @@
 -- A cache is appended to those of a machine, and a message to those of a port.
 use Rattle.std.proofs.Common.{◌≡◌, ◌≢◌, ◌⊎◌, inl, inr, ℕ, zero, suc, ◌+◌, ◌-◌, ◌<◌, ◌≤◌, Bool, true, false, cond, List, [], ◌∷◌, ◌++◌, length, set, map, Option, Some, None, refl, sym, ap, subst, ◌∙◌, arith}
-use Rattle.std.specs.Bool.{IsTrue}
 use Rattle.std.specs.Prelude.{◌||◌, ◌==◌, IsSome, slice_get}
 use Rattle.std.specs.List.{list_any}
 use Rattle.std.specs.Option.{option_map_or}
 use Rattle.std.specs.VecDeque.{deque_capacity}
-use Rattle.std.proofs.lemmas.Bool.{cases_eq, eqb-true, ne_eqb}
+use Rattle.std.proofs.lemmas.Bool.{cases_eq}
 use Rattle.std.proofs.lemmas.Bool.Decides.{nat_tests}
 use Rattle.std.proofs.lemmas.List.{length-append, length-set, map-append, map-set}
 use Rattle.std.proofs.lemmas.List.Folds.{list_any-append}
-use Rattle.std.proofs.lemmas.Option.{slice_get_within}
-use Rattle.vm_model.specs.Answering.{is_mapped}
-use Rattle.vm_model.specs.Machine.{Cache, Machine, Page, cache_of}
+use Rattle.vm_model.specs.Machine.{Cache, Machine, cache_of}
 use Rattle.vm_model.proofs.Parts.ListParts.{numbered_past, numbered_push, numbered_pushed}
-use Rattle.vm_model.proofs.Parts.Lists.{is_there, numbered_place}
+use Rattle.vm_model.proofs.Parts.Lists.{is_there}
 use Rattle.transit_ipc.specs.Answering.{put_last}
-use Rattle.transit_ipc.specs.PortMachine as model
 use Rattle.transit_ipc.specs.PortMachine.{PortMachine, put_port, take_number}
 use Rattle.transit_ipc.specs.Seen.{but_for, is_transit, memory_seen, message_seen, port_seen, ports_seen, waits_in}
 use Rattle.transit_ipc.specs.Tying.{AreTied, IsMessage, Waits}
 use Rattle.transit_ipc.specs.declared.port.Message.{Message}
 use Rattle.transit_ipc.specs.declared.port.Port.{Port}
-use Rattle.transit_ipc.proofs.Hiding.{length_seen, push_seen}
-use Rattle.transit_ipc.proofs.Replacing.{hidden_as, hidden_by, map_same, none_any, or_false, port_or, ports_alike, replaced, same_hidden, waits_or}
+use Rattle.transit_ipc.proofs.Hiding.{push_seen}
+use Rattle.transit_ipc.proofs.Messages.{map_same, ports_same}
+use Rattle.transit_ipc.proofs.Replacing.{hidden_as, hidden_by, or_false, port_or, replaced, same_hidden, waits_or}
 use Rattle.transit_ipc.proofs.Shapes.{AllTemporary}
 
 abbrev pub appended : Machine → Option Cache → Machine
@@ -71,7 +68,7 @@ hidden_none false = refl
 module _ (m : Machine) (ports : List Port) (t : AreTied m ports) where
   -- the same messages are seen beside one cache more
   alike : (o : Option Cache) → map (port_seen (appended m o)) ports ≡ map (port_seen m) ports
-  alike o = ports_alike m (appended m o) ports (λ i j x w. numbered_push m.caches o x.cache.0 (let h = t.messages i j x w in other_number m x.cache.0 h.cache h.there))
+  alike o = ports_same m (appended m o) ports (λ i j x w. numbered_push m.caches o x.cache.0 (let h = t.messages i j x w in other_number m x.cache.0 h.cache h.there))
 
   pub seen_taken : ports_seen (appended m None) ports ≡ take_number (ports_seen m ports)
   seen_taken = λ i. record {
@@ -124,12 +121,17 @@ module _ (m : Machine) (ports : List Port) (t : AreTied m ports) where
 
     module _ (c : Cache) where
       memory_sent : memory_seen (appended m (Some c)) now ≡ appended (memory_seen m ports) None
-      memory_sent = λ i. record m { caches = (push_seen (is_transit now) 1 m.caches (Some c)
-          ∙ (λ j. same_hidden (is_transit ports) (is_transit now) 1 m.caches others j ++ cond (hides j) None (Some c) ∷ [])) i }
+      memory_sent = λ i. record m {
+        caches = (push_seen (is_transit now) 1 m.caches (Some c)
+            ∙ (λ j. same_hidden (is_transit ports) (is_transit now) 1 m.caches others j ++ cond (hides j) None (Some c) ∷ [])) i;
+      }
 
       port_sent : port_seen (appended m (Some c)) q ≡ put_last c.pages (port_seen m p)
-      port_sent = λ i. record { depth = depth i; messages = (ap (map (message_seen (appended m (Some c)))) pushed ∙ map-append (message_seen (appended m (Some c))) p.messages.items (x ∷ [])
-          ∙ (λ j. map_same (message_seen (appended m (Some c))) (message_seen m) p.messages.items old j ++ option_map_or (λ (y : Cache). y.pages) (at_last m (Some c) x.cache.0 new j) [] ∷ [])) i }
+      port_sent = λ i. record {
+        depth = depth i;
+        messages = (ap (map (message_seen (appended m (Some c)))) pushed ∙ map-append (message_seen (appended m (Some c))) p.messages.items (x ∷ [])
+            ∙ (λ j. map_same (message_seen (appended m (Some c))) (message_seen m) p.messages.items old j ++ option_map_or (λ (y : Cache). y.pages) (at_last m (Some c) x.cache.0 new j) [] ∷ [])) i;
+      }
         where
           old : (i : ℕ) (y : Message) → slice_get p.messages.items i ≡ Some y → message_seen (appended m (Some c)) y ≡ message_seen m y
           old i y has =

@@ -1,7 +1,7 @@
 -- After a call of the manager the ports can call it again.
 use Rattle.std.proofs.Common.{◌≡◌, ℕ, ◌+◌, ◌*◌, ◌≤◌, true, List, Option, Some, None, refl, sym, ap, subst, ◌∙◌, arith}
 use Rattle.std.specs.Prelude.{is_some, Ok, Err}
-use Rattle.vm_ids.specs.Held.{Held, Segments, segments_of}
+use Rattle.vm_ids.specs.Held.{Segments, segments_of}
 use Rattle.vm_ids.specs.declared.command.Command.{Command}
 use Rattle.vm_ids.specs.declared.command.Command.TheVariants.{Map}
 use Rattle.vm_ids.specs.declared.command.Mapping.{Mapping}
@@ -28,9 +28,10 @@ use Rattle.transit_ipc.specs.Inner.{mapping_shown}
 use Rattle.transit_ipc.specs.Tying.{AreAble, AreTied, CanCall}
 use Rattle.transit_ipc.specs.declared.port.Port.{Port}
 use Rattle.transit_ipc.specs.declared.ports.Ports.{Ports}
+use Rattle.transit_ipc.proofs.Emptying.{blank_after}
 use Rattle.transit_ipc.proofs.Followed.{IsFollowed, tied_blank, tied_followed, tied_whole}
 use Rattle.transit_ipc.proofs.Passed.{IsNoMap, IsPassed, map_passed, outcome_follows, outcome_passed, passed}
-use Rattle.transit_ipc.proofs.Untold.{blank_after, segments_stay, step_called}
+use Rattle.transit_ipc.proofs.Untold.{segments_stay, step_called}
 
 unlimited_still : (before now : Option ℕ) → before ≡ None → is_some now ≡ is_some before → now ≡ None
 unlimited_still before None e h = refl

@@ -1,6 +1,6 @@
 -- What a copy into a temporary cache comes to, and a move out of one, where no cache is named.
-use Rattle.std.proofs.Common.{◌≡◌, ◌≢◌, ◌⊎◌, inl, inr, ◌==◌, ℕ, zero, suc, ◌+◌, ◌-◌, ◌≤◌, Bool, true, false, cond, List, [], ◌∷◌, length, map, set, take, drop, replicate, Option, Some, None, refl, sym, ap, subst, ◌∙◌, arith}
-use Rattle.std.specs.Prelude.{◌&&◌, ◌||◌, Ok, Err, Result, is_some, nat_lt, option_and_then, option_map}
+use Rattle.std.proofs.Common.{◌≡◌, ◌≢◌, ◌⊎◌, inl, inr, ℕ, ◌+◌, ◌≤◌, Bool, true, false, length, Option, Some, None, refl, sym, ap, subst, ◌∙◌, arith}
+use Rattle.std.specs.Prelude.{◌&&◌, Ok, Err, Result, is_some, nat_lt, option_and_then, option_map}
 use Rattle.std.specs.Bool.{IsTrue}
 use Rattle.std.specs.List.{range_with_len}
 use Rattle.std.specs.Option.{option_map_or}
@@ -19,15 +19,14 @@ use Rattle.vm_ids.specs.declared.refusal.Refusal.TheVariants as refusals
 use Rattle.vm_ids.specs.declared.reply.Reply.TheVariants as replies
 use Rattle.vm_ids.specs.declared.reply.Trouble.{Trouble}
 use Rattle.vm_ids.specs.declared.reply.Trouble.TheVariants as troubles
-use Rattle.vm_model.specs.Answering.{Answer, Answered, answer_of, copy_of, is_any_denied, is_any_locked, is_denied_page, is_named, move_of, overlaps_itself, passes_an_end, passes_end, put_cache, put_pages, put_span, refuse, reply, shares, unless, with_some, zero_source}
-use Rattle.vm_model.specs.Machine.{Cache, Machine, Page, cache_of, is_locked_page, segment_of, zero_page}
+use Rattle.vm_model.specs.Answering.{Answer, Answered, answer_of, copy_of, is_any_denied, is_any_locked, is_denied_page, overlaps_itself, passes_an_end, passes_end, put_span, reply, shares, unless, with_some}
+use Rattle.vm_model.specs.Machine.{Cache, Machine, cache_of, is_locked_page, segment_of}
 use Rattle.vm_model.specs.Outcome.{IsNamed, IsNotRefused, MayFault, Outcome, OutcomeAt, blank, blank_cache}
 use Rattle.vm_model.specs.PageForest.{PageForest, forest_shown}
-use Rattle.vm_model.proofs.Parts.Lists.{length-overwrite}
 use Rattle.gmi_calls.specs.Calling.{done_by}
-use Rattle.transit_ipc.proofs.Emptying.{alike_done, blank_at, blank_span, blank_without, without}
+use Rattle.transit_ipc.proofs.Emptying.{alike_done, blank_at, blank_span}
 use Rattle.transit_ipc.proofs.Replacing.{none_any, or_false}
-use Rattle.transit_ipc.proofs.Shapes.{AllTemporary, IsLike, emptied, like_back, like_blank, like_cache, like_put, like_self, like_then, mapped_some, shape_of}
+use Rattle.transit_ipc.proofs.Shapes.{AllTemporary, emptied, mapped_some}
 
 -- An answer is that of the row, or there is no memory for it.
 

@@ -1,5 +1,5 @@
 -- The pages of the manager's machine are those that are seen and those that wait.
-use Rattle.std.proofs.Common.{◌≡◌, ◌≢◌, ◌==◌, ℕ, zero, suc, ◌+◌, ◌-◌, ◌≤◌, Bool, true, false, cond, List, [], ◌∷◌, length, map, Option, Some, None, refl, sym, ap, ◌∙◌, arith}
+use Rattle.std.proofs.Common.{◌≡◌, ◌≢◌, ◌==◌, ℕ, zero, suc, ◌+◌, ◌-◌, ◌≤◌, Bool, true, false, List, [], ◌∷◌, length, map, Option, Some, None, refl, sym, ap, ◌∙◌, arith}
 use Rattle.std.specs.Prelude.{◌||◌, nat_le, nat_lt, option_and_then, slice_get, sum_by}
 use Rattle.std.specs.List.{list_any}
 use Rattle.std.specs.Option.{option_map_or}
@@ -10,7 +10,6 @@ use Rattle.vm_model.specs.declared.limits.TheConstants.{LIVE_PAGES, MOST_MADE}
 use Rattle.vm_model.proofs.Parts.ListParts.{at_some}
 use Rattle.vm_model.proofs.Parts.Lists.{numbered_place}
 use Rattle.transit_ipc.specs.Answering.{lacks_room}
-use Rattle.transit_ipc.specs.PortMachine as model
 use Rattle.transit_ipc.specs.PortMachine.{pages_at, waiting_pages}
 use Rattle.transit_ipc.specs.Seen.{but_for, is_transit, memory_seen, message_seen, port_seen, ports_seen}
 use Rattle.transit_ipc.specs.Tying.{AreTied, Waits}
@@ -43,19 +42,34 @@ one_hidden g h k (x ∷ xs) zero is isnt same =
     let here : k + 0 ≡ k = omega arith in
     let gone : shown (g k) x ≡ None = ap (λ (b : Bool). shown b x) (ap g (sym here) ∙ is) in
     let there : shown (h k) x ≡ x = ap (λ (b : Bool). shown b x) (ap h (sym here) ∙ isnt) in
-    omega (arith, cons_pages (shown (g k) x) (but_for g (k + 1) xs), cons_pages (shown (h k) x) (but_for h (k + 1) xs), ap pages_in gone, ap pages_in there,
-    ap pages_of (same_behind g h (k + 1) xs (λ j past. same j (λ e. absurd (omega (arith, e, past))))))
+    omega (
+      arith,
+      cons_pages (shown (g k) x) (but_for g (k + 1) xs),
+      cons_pages (shown (h k) x) (but_for h (k + 1) xs),
+      ap pages_in gone,
+      ap pages_in there,
+      ap pages_of (same_behind g h (k + 1) xs (λ j past. same j (λ e. absurd (omega (arith, e, past))))),
+    )
 one_hidden g h k (x ∷ xs) (suc i) is isnt same =
     let next : k + 1 + i ≡ k + suc i = omega arith in
     let first : shown (g k) x ≡ shown (h k) x = ap (λ (b : Bool). shown b x) (same k (λ e. absurd (omega (arith, e)))) in
-    omega (arith, cons_pages (shown (g k) x) (but_for g (k + 1) xs), cons_pages (shown (h k) x) (but_for h (k + 1) xs), ap pages_in first,
-    one_hidden g h (k + 1) xs i (ap g next ∙ is) (ap h next ∙ isnt) (λ j other. same j (λ e. other (e ∙ sym next))))
+    omega (
+      arith,
+      cons_pages (shown (g k) x) (but_for g (k + 1) xs),
+      cons_pages (shown (h k) x) (but_for h (k + 1) xs),
+      ap pages_in first,
+      one_hidden g h (k + 1) xs i (ap g next ∙ is) (ap h next ∙ isnt) (λ j other. same j (λ e. other (e ∙ sym next))),
+    )
 
 number_hidden : (g h : ℕ → Bool) (xs : Caches) (n : ℕ) → 1 ≤ n → g n ≡ true → h n ≡ false → ((j : ℕ) → j ≢ n → g j ≡ h j) → pages_of (but_for g 1 xs) + pages_in (numbered xs n) ≡ pages_of (but_for h 1 xs)
 number_hidden g h xs (suc i) some is isnt same =
     let next : 1 + i ≡ suc i = omega arith in
-    omega (arith, ap pages_in (at_some xs (suc i) some), ap (λ (k : ℕ). pages_in (at xs k)) (let s : suc i - 1 ≡ i = omega arith in s),
-    one_hidden g h 1 xs i (ap g next ∙ is) (ap h next ∙ isnt) (λ j other. same j (λ e. other (e ∙ sym next))))
+    omega (
+      arith,
+      ap pages_in (at_some xs (suc i) some),
+      ap (λ (k : ℕ). pages_in (at xs k)) (let s : suc i - 1 ≡ i = omega arith in s),
+      one_hidden g h 1 xs i (ap g next ∙ is) (ap h next ∙ isnt) (λ j other. same j (λ e. other (e ∙ sym next))),
+    )
 number_hidden g h xs zero some is isnt same = absurd (omega (arith, some))
 
 none_hidden : (k : ℕ) (xs : Caches) → but_for (λ n. false) k xs ≡ xs
@@ -103,9 +117,13 @@ messages_hidden xs h (x ∷ ms) own =
     let rest = messages_hidden xs h ms (own_rest xs h x ms own) in
     let mine : with_messages (x ∷ ms) h x.cache.0 ≡ true = ap (λ (b : Bool). (b || list_any (has_number x.cache.0) ms) || h x.cache.0) (let s : (x.cache.0 == x.cache.0) ≡ true = grind (arith, nat_tests) in s) in
     let before : with_messages ms h x.cache.0 ≡ false = (λ i. first_apart xs h x ms own _ refl i || h x.cache.0) ∙ own.seen 0 x refl in
-    omega (arith, rest, sum_by-cons (λ (x : Message). pages_in (numbered xs x.cache.0)) x ms,
-    number_hidden (with_messages (x ∷ ms) h) (with_messages ms h) xs x.cache.0 (own.some 0 x refl) mine before
-    (λ j other. or_same (x.cache.0 == j) (list_any (has_number j) ms) (h j) false (other_number x.cache.0 j other)))
+    omega (
+      arith,
+      rest,
+      sum_by-cons (λ (x : Message). pages_in (numbered xs x.cache.0)) x ms,
+      number_hidden (with_messages (x ∷ ms) h) (with_messages ms h) xs x.cache.0 (own.some 0 x refl) mine before
+          (λ j other. or_same (x.cache.0 == j) (list_any (has_number j) ms) (h j) false (other_number x.cache.0 j other)),
+    )
 
 -- Those of all ports are hidden
 

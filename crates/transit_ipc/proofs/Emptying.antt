@@ -1,5 +1,5 @@
 -- What is done to machines without bytes.
-use Rattle.std.proofs.Common.{◌≡◌, ℕ, zero, suc, ◌+◌, ◌-◌, Bool, true, false, List, [], ◌∷◌, ◌++◌, length, map, set, take, drop, Option, Some, None, refl, sym, ap, ◌∙◌}
+use Rattle.std.proofs.Common.{◌≡◌, ℕ, ◌+◌, ◌-◌, List, [], ◌∷◌, ◌++◌, length, map, set, take, drop, Option, Some, None, refl, sym, ap, ◌∙◌}
 use Rattle.std.specs.FinMap.{empty}
 use Rattle.std.specs.Prelude.{IfNone, Ok, Err, Result, option_map}
 use Rattle.std.specs.Option.{option_map_or}
@@ -18,9 +18,8 @@ use Rattle.vm_model.specs.PageForest.{PageForest}
 use Rattle.vm_model.proofs.Parts.Lists.{numbered-map}
 use Rattle.gmi_calls.specs.Calling.{done_by}
 use Rattle.transit_ipc.specs.Outcome.{Outcome}
-use Rattle.transit_ipc.specs.PortMachine.{PortMachine}
-use Rattle.transit_ipc.specs.Seen.{but_for, is_transit, message_seen, port_seen, ports_seen}
-use Rattle.transit_ipc.specs.Stepping.{State, StepAt, blank_message, blank_port, blank_ports, forget}
+use Rattle.transit_ipc.specs.Seen.{is_transit, message_seen, port_seen, ports_seen}
+use Rattle.transit_ipc.specs.Stepping.{State, StepAt, blank_message, blank_port, blank_ports}
 use Rattle.transit_ipc.specs.Tying.{IsUntoldBlank}
 use Rattle.transit_ipc.specs.declared.port.Message.{Message}
 use Rattle.transit_ipc.specs.declared.port.Port.{Port}

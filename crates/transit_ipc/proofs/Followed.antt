@@ -1,26 +1,26 @@
 -- What may change in the manager's machine while the ports stay tied to it.
-use Rattle.std.proofs.Common.{◌≡◌, ◌≢◌, ◌⊎◌, inl, inr, ℕ, ◌+◌, ◌-◌, ◌≤◌, Bool, true, false, cond, List, [], ◌∷◌, ◌++◌, length, map, set, Option, Some, None, refl, sym, ap, subst, ◌∙◌, arith}
+use Rattle.std.proofs.Common.{◌≡◌, ◌≢◌, ◌⊎◌, inl, inr, ℕ, ◌+◌, ◌-◌, ◌≤◌, Bool, true, false, cond, List, [], ◌∷◌, ◌++◌, length, set, Option, Some, None, refl, sym, ap, subst, ◌∙◌}
 use Rattle.std.specs.Bool.{IsTrue}
-use Rattle.std.specs.Prelude.{◌==◌, ◌||◌, IsSome, nat_lt, option_map, slice_get}
+use Rattle.std.specs.Prelude.{◌==◌, ◌||◌, IsSome, nat_lt, slice_get}
 use Rattle.std.specs.List.{list_any}
 use Rattle.std.specs.Option.{option_map_or}
 use Rattle.std.proofs.lemmas.Bool.{cases_eq}
-use Rattle.std.proofs.lemmas.List.{length-map}
 use Rattle.std.proofs.lemmas.List.Folds.{list_any-append}
 use Rattle.std.proofs.lemmas.Option.{slice_get_within}
 use Rattle.vm_ids.specs.declared.command.Mapping.{Mapping}
 use Rattle.vm_model.specs.Answering.{add_region, insert_region, is_mapped, maps_in, overwrite, page_at, put_cache, put_page, region_of, temporary, write_at}
-use Rattle.vm_model.specs.Machine.{Actor, Cache, Machine, Page, Region, cache_of}
-use Rattle.vm_model.specs.Outcome.{blank, blank_cache}
+use Rattle.vm_model.specs.Machine.{Actor, Cache, Machine, Region, cache_of}
+use Rattle.vm_model.specs.Outcome.{blank}
 use Rattle.vm_model.specs.Place.{Place}
-use Rattle.vm_model.proofs.Parts.Lists.{get_set_other, get_set_same, is_there, numbered-map, numbered_place}
+use Rattle.vm_model.proofs.Parts.Lists.{get_set_other, get_set_same, numbered_place}
 use Rattle.vm_model.proofs.Parts.ListParts.{numbered_push, numbered_pushed, numbered_set, numbered_set_other}
 use Rattle.transit_ipc.specs.Seen.{is_transit, memory_seen}
 use Rattle.transit_ipc.specs.Tying.{AreTied, IsMessage, Waits}
 use Rattle.transit_ipc.specs.declared.port.Message.{Message}
 use Rattle.transit_ipc.specs.declared.port.Port.{Port}
 use Rattle.transit_ipc.proofs.Fresh.{messages_with_cache, with_cache}
-use Rattle.transit_ipc.proofs.Hiding.{numbered_seen, seen_cache, shown}
+use Rattle.transit_ipc.proofs.Hiding.{numbered_seen, seen_cache}
+use Rattle.transit_ipc.proofs.Shapes.{like_back, like_blank, some_shown, tied_like}
 use Rattle.transit_ipc.proofs.Messages.{any_at, any_found, equal, or_true, seen_apart}
 
 -- From one machine to the next: the messages that wait have their pages, no cache is gone, no
@@ -30,10 +30,6 @@ pub record IsFollowed (ports : List Port) (x y : Machine) : Type 0 where
   pub alive : (n : ℕ) → IsSome (cache_of x n) → IsSome (cache_of y n)
   pub mapped : (n : ℕ) → IsTrue (is_mapped y n) → IsTrue (is_mapped x n) ⊎ IsSome (cache_of (memory_seen x ports) n)
   pub temporary : (n : ℕ) (c : Cache) → cache_of y n ≡ Some c → c.segment ≡ None
-
-some_shown : (b : Bool) (o p : Option Cache) → (IsSome o → IsSome p) → IsSome (shown b o) → IsSome (shown b p)
-some_shown true o p alive h = h
-some_shown false o p alive h = alive h
 
 module _ (ports : List Port) (x y : Machine) (tied : AreTied x ports) (f : IsFollowed ports x y) where
   -- what is seen is seen then
@@ -55,66 +51,12 @@ module _ (ports : List Port) (x y : Machine) (tied : AreTied x ports) (f : IsFol
     few = tied.few;
   }
 
--- without bytes
-module _ (ports : List Port) (m : Machine) where
-  is_some_map : (o : Option Cache) → IsSome o → IsSome (option_map blank_cache o)
-  is_some_map None h = h
-  is_some_map (Some c) h = refl
+-- so do they where the bytes are left out, and where they are there
+pub tied_blank : (ports : List Port) (m : Machine) → AreTied m ports → AreTied (blank m) ports
+tied_blank ports m tied = tied_like m (blank m) ports (like_blank m) tied
 
-  some_map : (o : Option Cache) → IsSome (option_map blank_cache o) → IsSome o
-  some_map None h = h
-  some_map (Some c) h = refl
-
-  -- a cache of the machine without bytes is one with bytes
-  pub whole_cache : (n : ℕ) (d : Cache) → cache_of (blank m) n ≡ Some d → (c : Cache) × (cache_of m n ≡ Some c) × (d ≡ blank_cache c)
-  whole_cache n d e = by (cache_of m n) refl (sym (numbered-map blank_cache m.caches n) ∙ e)
-    where
-      by : (o : Option Cache) → cache_of m n ≡ o → option_map blank_cache o ≡ Some d → (c : Cache) × (cache_of m n ≡ Some c) × (d ≡ blank_cache c)
-      by None is e = absurd (cc e)
-      by (Some c) is e = (c, is, (let same : blank_cache c ≡ d = cc e in sym same))
-
-  pub blank_at : (n : ℕ) (c : Cache) → cache_of m n ≡ Some c → cache_of (blank m) n ≡ Some (blank_cache c)
-  blank_at n c e = numbered-map blank_cache m.caches n ∙ ap (option_map blank_cache) e
-
-  blank_message : (message : Message) → IsMessage m message → IsMessage (blank m) message
-  blank_message message is = record {
-    cache = blank_cache is.cache;
-    there = blank_at message.cache.0 is.cache is.there;
-    some = is.some;
-    many = length-map is.cache.pages (λ (page : Page). []) ∙ is.many;
-  }
-
-  whole_message : (message : Message) → IsMessage (blank m) message → IsMessage m message
-  whole_message message is =
-      let c = whole_cache message.cache.0 is.cache is.there in
-      record {
-        cache = c.0;
-        there = c.1;
-        some = is.some;
-        many = sym (ap (λ (d : Cache). length d.pages) c.2 ∙ length-map c.0.pages (λ (page : Page). [])) ∙ is.many;
-      }
-
-  followed_blank : AreTied m ports → IsFollowed ports m (blank m)
-  followed_blank tied = record {
-    messages = λ i j message w. blank_message message (tied.messages i j message w);
-    alive = λ n h. subst IsSome (sym (numbered-map blank_cache m.caches n)) (is_some_map (cache_of m n) h);
-    mapped = λ n is. inl is;
-    temporary = λ n d e. (let c = whole_cache n d e in ap (λ (d : Cache). d.segment) c.2 ∙ tied.temporary n c.0 c.1);
-  }
-
-  followed_whole : AreTied (blank m) ports → IsFollowed ports (blank m) m
-  followed_whole tied = record {
-    messages = λ i j message w. whole_message message (tied.messages i j message w);
-    alive = λ n h. some_map (cache_of m n) (subst IsSome (numbered-map blank_cache m.caches n) h);
-    mapped = λ n is. inl is;
-    temporary = λ n c e. tied.temporary n (blank_cache c) (blank_at n c e);
-  }
-
-  pub tied_blank : AreTied m ports → AreTied (blank m) ports
-  tied_blank tied = tied_followed ports m (blank m) tied (followed_blank tied)
-
-  pub tied_whole : AreTied (blank m) ports → AreTied m ports
-  tied_whole tied = tied_followed ports (blank m) m tied (followed_whole tied)
+pub tied_whole : (ports : List Port) (m : Machine) → AreTied (blank m) ports → AreTied m ports
+tied_whole ports m tied = tied_like (blank m) m ports (like_back m (blank m) (like_blank m)) tied
 
 -- The changes of each command
 

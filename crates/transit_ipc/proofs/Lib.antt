@@ -11,6 +11,7 @@ pub mod Lifting
 pub mod Passed
 pub mod Untold
 pub mod Calls
+pub mod Beginning
 pub mod Shapes
 pub mod Replacing
 pub mod Appending
@@ -18,4 +19,10 @@ pub mod Emptying
 pub mod Copying
 pub mod Moving
 pub mod Sending
+pub mod Temporary
+pub mod Going
+pub mod Removing
+pub mod Sent
+pub mod Receiving
+pub mod Received
 pub mod Answered

@@ -1,9 +1,8 @@
 -- A command of the manager is answered as over the caches that are seen.
-use Rattle.std.proofs.Common.{◌≡◌, ◌⊎◌, inl, inr, ◌==◌, ℕ, zero, suc, ◌+◌, ◌-◌, ◌≤◌, Bool, true, false, cond, List, [], ◌∷◌, length, set, take, drop, Option, Some, None, refl, sym, ap, subst, ◌∙◌, arith}
+use Rattle.std.proofs.Common.{◌≡◌, ◌==◌, ℕ, ◌+◌, ◌-◌, Bool, true, false, cond, List, [], ◌∷◌, length, take, drop, Option, Some, None, refl, sym, ap, subst, ◌∙◌, arith}
 use Rattle.std.specs.Prelude.{◌*◌, ◌%◌, ◌^◌, ◌||◌, nat_le, nat_lt, Result, Ok, Err, not, slice_get, unwrap_or, IsSome, option_and_then}
 use Rattle.std.specs.List.{list_any}
 use Rattle.std.specs.Option.{option_map_or}
-use Rattle.std.proofs.lemmas.Bool.Decides.{nat_tests}
 use Rattle.vm_ids.specs.Held.{Segments}
 use Rattle.vm_ids.specs.Denying.{denies}
 use Rattle.vm_ids.specs.declared.refusal.Refusal.{Refusal}
@@ -14,7 +13,7 @@ use Rattle.vm_ids.specs.declared.command.Mapping.{Mapping}
 use Rattle.vm_model.specs.Answering as plain
 use Rattle.vm_model.specs.Answering.{is_denied_page, is_mapped, maps_in, overwrite, page_at, put_cache, put_page, write_at}
 use Rattle.vm_model.specs.Machine.{Actor, Cache, Machine, Page, Region, actor_of, cache_of}
-use Rattle.vm_model.specs.Place.{Place, holds, place, place_among, place_in, place_of_actor, placed, region_at}
+use Rattle.vm_model.specs.Place.{Place, holds, place, place_in, place_of_actor, placed, region_at}
 use Rattle.vm_model.specs.declared.limits.TheConstants.{MOST_MADE}
 use Rattle.vm_model.proofs.Parts.Lists.{numbered_place}
 use Rattle.transit_ipc.specs.Inner.{mapping_shown}

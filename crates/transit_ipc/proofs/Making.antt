@@ -1,6 +1,5 @@
 -- A port is made: no cache is hidden by it.
 use Rattle.std.proofs.Common.{◌≡◌, ◌≢◌, ◌⊎◌, inl, inr, ℕ, zero, suc, ◌+◌, ◌<◌, ◌≤◌, Bool, true, false, cond, List, [], ◌∷◌, ◌++◌, length, map, Option, Some, None, refl, sym, ap, subst, ◌∙◌, arith}
-use Rattle.std.specs.Bool.{IsTrue}
 use Rattle.std.specs.VecDeque.{deque_capacity}
 use Rattle.std.specs.Prelude.{◌||◌, ◌==◌, slice_get, nat_le, IsSome, Ok, Err}
 use Rattle.std.specs.List.{list_any}
@@ -8,9 +7,6 @@ use Rattle.std.proofs.lemmas.Bool.{cases_eq}
 use Rattle.std.proofs.lemmas.Bool.Decides.{nat_tests}
 use Rattle.std.proofs.lemmas.List.{length-append, length-map, map-append}
 use Rattle.std.proofs.lemmas.List.Folds.{list_any-append}
-use Rattle.std.proofs.lemmas.Option.{slice_get_within}
-use Rattle.vm_ids.specs.Held.{Segments}
-use Rattle.vm_ids.specs.declared.command.PortCommand.TheVariants as commands
 use Rattle.vm_ids.specs.declared.refusal.Refusal.TheVariants.{TooMany}
 use Rattle.vm_ids.specs.declared.reply.Reply.TheVariants as replies
 use Rattle.vm_ids.specs.declared.reply.Trouble.TheVariants as troubles
@@ -18,7 +14,6 @@ use Rattle.vm_model.specs.Machine.{Cache, Machine, cache_of}
 use Rattle.vm_model.specs.Outcome.{IsNotRefused}
 use Rattle.transit_ipc.specs.Answering.{Answered, empty_port, make_port_of, refuse, unless}
 use Rattle.transit_ipc.specs.Calling.{IsMade}
-use Rattle.transit_ipc.specs.PortMachine as model
 use Rattle.transit_ipc.specs.PortMachine.{PortMachine}
 use Rattle.transit_ipc.specs.Seen.{but_for, is_transit, memory_seen, message_seen, port_seen, ports_seen, waits_in}
 use Rattle.transit_ipc.specs.Tying.{AreTied, Waits}

@@ -111,7 +111,7 @@ shown_visible m ports tied cache = by (is_transit ports cache.0) refl
 
 -- What is seen of the ports
 
-map_same : {A B : Type 0} (f g : A → B) (xs : List A) → ((i : ℕ) (x : A) → slice_get xs i ≡ Some x → f x ≡ g x) → map f xs ≡ map g xs
+pub map_same : {A B : Type 0} (f g : A → B) (xs : List A) → ((i : ℕ) (x : A) → slice_get xs i ≡ Some x → f x ≡ g x) → map f xs ≡ map g xs
 map_same f g [] same = refl
 map_same f g (x ∷ xs) same = λ i. same 0 x refl i ∷ map_same f g xs (λ k y e. same (suc k) y e) i
 

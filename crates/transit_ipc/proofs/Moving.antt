@@ -1,9 +1,9 @@
 -- What a move of all pages out of a temporary cache comes to that is destroyed behind it.
-use Rattle.std.proofs.Common.{◌≡◌, ◌≢◌, ◌⊎◌, inl, inr, ◌==◌, ℕ, zero, suc, ◌+◌, ◌-◌, ◌≤◌, Bool, true, false, cond, List, [], ◌∷◌, length, map, set, take, drop, replicate, Option, Some, None, refl, sym, ap, subst, ◌∙◌, arith}
+use Rattle.std.proofs.Common.{◌≡◌, ◌≢◌, inl, inr, ℕ, ◌+◌, ◌-◌, ◌≤◌, Bool, true, false, List, length, take, drop, replicate, Option, Some, None, refl, sym, ap, subst, ◌∙◌, arith}
 use Rattle.std.specs.Prelude.{◌||◌, Ok, Err, Result, is_some, nat_lt, option_map}
 use Rattle.std.specs.Option.{option_map_or}
 use Rattle.std.proofs.lemmas.Bool.Decides.{nat_tests}
-use Rattle.std.proofs.lemmas.List.{length-drop, length-map, length-replicate, length-take-le}
+use Rattle.std.proofs.lemmas.List.{length-drop, length-map, length-replicate, length-take-le, set-set}
 use Rattle.vm_ids.specs.Counting.{MapperCounts}
 use Rattle.vm_ids.specs.Held.{Segments}
 use Rattle.vm_ids.specs.declared.command.Command.TheVariants as commands
@@ -11,14 +11,13 @@ use Rattle.vm_ids.specs.declared.command.Span.{Span}
 use Rattle.vm_ids.specs.declared.refusal.Refusal.TheVariants as refusals
 use Rattle.vm_ids.specs.declared.reply.Reply.TheVariants as replies
 use Rattle.vm_ids.specs.declared.reply.Trouble.{Trouble}
-use Rattle.vm_ids.specs.declared.reply.Trouble.TheVariants as troubles
-use Rattle.vm_model.specs.Answering.{Answer, Answered, answer_of, is_any_denied, is_any_locked, move_of, overlaps_itself, passes_an_end, passes_end, put_cache, put_pages, put_span, reply, unless, with_some, zero_source}
+use Rattle.vm_model.specs.Answering.{Answer, Answered, is_any_denied, is_any_locked, move_of, overlaps_itself, passes_an_end, passes_end, put_cache, put_pages, put_span, reply, unless, with_some, zero_source}
 use Rattle.vm_model.specs.Machine.{Cache, Machine, Page, cache_of, is_locked_page, zero_page}
-use Rattle.vm_model.specs.Outcome.{IsNotRefused, Outcome, OutcomeAt, blank, blank_cache}
+use Rattle.vm_model.specs.Outcome.{IsNotRefused, OutcomeAt, blank, blank_cache}
 use Rattle.vm_model.specs.PageForest.{PageForest}
 use Rattle.vm_model.proofs.Parts.Lists.{length-overwrite}
 use Rattle.gmi_calls.specs.Calling.{done_by}
-use Rattle.transit_ipc.proofs.Copying.{IsLack, RowIs, as_many, blanked, by_row, inside, no_fault_move, no_overlap, row_blank, undenied, unlocked_all, whole_cache, whole_temporary}
+use Rattle.transit_ipc.proofs.Copying.{RowIs, as_many, blanked, by_row, inside, no_fault_move, no_overlap, row_blank, undenied, unlocked_all, whole_cache, whole_temporary}
 use Rattle.transit_ipc.proofs.Emptying.{alike_done, blank_at, blank_span, blank_without, without}
 use Rattle.transit_ipc.proofs.Shapes.{AllTemporary, IsLike, emptied, like_back, like_blank, like_cache, like_put, like_self, like_then, shape_of}
 
@@ -31,7 +30,7 @@ pub record MayMove (m : Machine) (s : Span) (c : Cache) : Type 0 where
   pub unlocked : (page : ℕ) → is_locked_page m s.from.0 page ≡ false
 
 -- the rows of a move into what there is, up to an end
-abbrev moved : Machine → Span → (Cache → Machine) → Option Cache → Answered
+abbrev pub moved : Machine → Span → (Cache → Machine) → Option Cache → Answered
 moved m s ending o = with_some o refusals.NoCache m (λ d. unless (passes_end d s.to_page.0 s.pages) refusals.OutOfCache m (unless (is_any_locked m s.to s.to_page.0 s.pages) refusals.Locked m (reply replies.Done (ending d))))
 
 abbrev move_row : Machine → Span → Cache → Answered
@@ -70,14 +69,9 @@ module _ (m : Machine) (s : Span) (c : Cache) (may : MayMove m s c) (h : Segment
 
 -- What is destroyed had zeros, or what it had
 
-set_again : {A : Type 0} (xs : List A) (i : ℕ) (x y : A) → set (set xs i x) i y ≡ set xs i y
-set_again [] i x y = refl
-set_again (z ∷ xs) zero x y = refl
-set_again (z ∷ xs) (suc i) x y = ap (λ zs. z ∷ zs) (set_again xs i x y)
-
 without_put : (m : Machine) (k : ℕ) (change : Cache → Cache) (o : Option Cache) → without (option_map_or (λ (c : Cache). put_cache m k (change c)) o m) k ≡ without m k
 without_put m k change None = refl
-without_put m k change (Some c) = λ i. record m { caches = set_again m.caches (k - 1) (Some (change c)) None i }
+without_put m k change (Some c) = λ i. record m { caches = set-set m.caches (k - 1) (Some (change c)) None i }
 
 without_zeros : (m : Machine) (s : Span) → without (zero_source m s) s.from.0 ≡ without m s.from.0
 without_zeros m s = without_put m s.from.0 (put_pages s.from_page.0 (replicate s.pages (zero_page m.page_bytes))) (cache_of m s.from.0)

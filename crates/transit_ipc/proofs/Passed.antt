@@ -1,5 +1,5 @@
 -- Commands that are passed on to the manager: its machine answers as that of the ports does.
-use Rattle.std.proofs.Common.{◌≡◌, ◌<◌, ℕ, Bool, true, false, List, length, map, Option, Some, None, refl, sym, ap, subst, ◌∙◌}
+use Rattle.std.proofs.Common.{◌≡◌, ℕ, true, false, List, length, map, Option, Some, None, refl, sym, ap, subst, ◌∙◌}
 use Rattle.std.specs.Prelude.{Result, Ok, Err, is_some}
 use Rattle.std.specs.Option.{option_map_or}
 use Rattle.std.specs.Result.{IsOkAnd}
@@ -19,22 +19,21 @@ use Rattle.vm_model.specs.Answering.{Answer, overwrite, page_at, put_cache, put_
 use Rattle.vm_model.specs.Machine.{Cache, Machine, actor_of, cache_of}
 use Rattle.vm_model.specs.Outcome as plain_outcome
 use Rattle.vm_model.specs.Outcome.{IsNamed, IsNotRefused, MayLackMemory, NotRefusedButFor}
-use Rattle.vm_model.specs.PageForest.{PageForest, forest_shown, plain_forest}
+use Rattle.vm_model.specs.PageForest.{PageForest, forest_shown}
 use Rattle.vm_model.specs.Place.{Place, place}
 use Rattle.vm_model.proofs.Outcomes.Rows.{each_ok, each_some, each_unless}
 use Rattle.vm_model.proofs.Parts.ListParts.{numbered_set_other}
 use Rattle.vm_model.proofs.Parts.Lists.{numbered_place}
-use Rattle.transit_ipc.specs.Answering.{Answered, answer_of, plain_of, unless, within}
+use Rattle.transit_ipc.specs.Answering.{Answered, plain_of, unless, within}
 use Rattle.transit_ipc.specs.Calling.{IsServed}
 use Rattle.transit_ipc.specs.Inner.{mapping_shown}
 use Rattle.transit_ipc.specs.Outcome.{Outcome}
-use Rattle.transit_ipc.specs.PortMachine.{PortMachine}
 use Rattle.transit_ipc.specs.Seen.{is_transit, memory_seen, port_seen, ports_seen}
 use Rattle.transit_ipc.specs.Tying.{AreTied, Waits}
 use Rattle.transit_ipc.specs.declared.port.Message.{Message}
 use Rattle.transit_ipc.specs.declared.port.Port.{Port}
 use Rattle.transit_ipc.proofs.Followed.{IsFollowed, followed_actor, followed_map, followed_self, followed_temp, followed_write}
-use Rattle.transit_ipc.proofs.Fresh.{answer_seen, temp_lifts, with_cache}
+use Rattle.transit_ipc.proofs.Fresh.{answer_seen, temp_lifts}
 use Rattle.transit_ipc.proofs.Lifting.{actor_lifts, lift, load_lifts, map_lifts, store_lifts, visible}
 use Rattle.transit_ipc.proofs.Messages.{ports_same, seen_apart, shown_visible}
 

@@ -1,42 +1,27 @@
 -- One port becomes another: which messages wait, and which caches they hide.
-use Rattle.std.proofs.Common.{◌≡◌, ◌≢◌, ◌⊎◌, inl, inr, ℕ, zero, suc, ◌+◌, ◌<◌, ◌≤◌, Bool, true, false, cond, List, [], ◌∷◌, ◌++◌, length, set, map, Option, Some, None, refl, sym, ap, subst, ◌∙◌, arith}
-use Rattle.std.specs.Prelude.{◌||◌, ◌==◌, slice_get}
+use Rattle.std.proofs.Common.{◌≡◌, ◌≢◌, ◌⊎◌, inl, inr, ℕ, zero, suc, ◌+◌, ◌<◌, ◌≤◌, Bool, true, false, cond, List, [], ◌∷◌, length, set, Option, Some, None, refl, sym, ap, ◌∙◌, arith}
+use Rattle.std.specs.Prelude.{◌||◌, slice_get}
 use Rattle.std.specs.List.{list_any}
-use Rattle.std.specs.Option.{option_map_or}
-use Rattle.std.specs.VecDeque.{deque_capacity}
 use Rattle.std.proofs.lemmas.Bool.{cases_eq}
 use Rattle.std.proofs.lemmas.Option.{slice_get_within}
-use Rattle.vm_model.specs.Machine.{Cache, Machine, cache_of}
+use Rattle.vm_model.specs.Machine.{Cache}
 use Rattle.vm_model.proofs.Parts.Lists.{get_set_other, get_set_same}
-use Rattle.transit_ipc.specs.PortMachine as model
-use Rattle.transit_ipc.specs.Seen.{but_for, is_transit, message_seen, port_seen, waits_in}
+use Rattle.transit_ipc.specs.Seen.{but_for, is_transit, waits_in}
 use Rattle.transit_ipc.specs.Tying.{Waits}
 use Rattle.transit_ipc.specs.declared.port.Message.{Message}
 use Rattle.transit_ipc.specs.declared.port.Port.{Port}
+use Rattle.transit_ipc.proofs.Messages.{any_at}
 
 -- Lists
-
-pub map_same : {A B : Type 0} (f g : A → B) (xs : List A) → ((i : ℕ) (x : A) → slice_get xs i ≡ Some x → f x ≡ g x) → map f xs ≡ map g xs
-map_same f g [] h = refl
-map_same f g (x ∷ xs) h = λ j. h 0 x refl j ∷ map_same f g xs (λ i y e. h (suc i) y e) j
 
 pub or_false : (b c : Bool) → c ≡ false → (b || c) ≡ b
 or_false true c e = refl
 or_false false c e = e
 
-or_true : (a b : Bool) → b ≡ true → (a || b) ≡ true
-or_true true b e = refl
-or_true false b e = e
-
 any_set : {A : Type 0} (f : A → Bool) (xs : List A) (i : ℕ) (x y : A) → slice_get xs i ≡ Some x → f y ≡ f x → list_any f (set xs i y) ≡ list_any f xs
 any_set f [] i x y e s = absurd (cc e)
 any_set f (z ∷ xs) zero x y e s = let same : z ≡ x = cc e in ap (λ (b : Bool). b || list_any f xs) (s ∙ ap f (sym same))
 any_set f (z ∷ xs) (suc i) x y e s = ap (λ (b : Bool). f z || b) (any_set f xs i x y e s)
-
-pub any_true : {A : Type 0} (f : A → Bool) (xs : List A) (i : ℕ) (x : A) → slice_get xs i ≡ Some x → f x ≡ true → list_any f xs ≡ true
-any_true f [] i x there e = absurd (cc there)
-any_true f (y ∷ xs) zero x there e = let same : y ≡ x = cc there in ap (λ (b : Bool). b || list_any f xs) (ap f same ∙ e)
-any_true f (y ∷ xs) (suc i) x there e = or_true (f y) (list_any f xs) (any_true f xs i x there e)
 
 pub none_any : {A : Type 0} (f : A → Bool) (xs : List A) → ((i : ℕ) (x : A) → slice_get xs i ≡ Some x → f x ≡ false) → list_any f xs ≡ false
 none_any f [] h = refl
@@ -70,14 +55,7 @@ module _ (ports : List Port) (place : ℕ) (p q : Port) (there : slice_get ports
   hidden_as n same = any_set (waits_in n) ports place p q there same
 
   pub hidden_by : (n : ℕ) → waits_in n q ≡ true → is_transit replaced n ≡ true
-  hidden_by n is = any_true (waits_in n) replaced place q (get_set_same ports place q within) is
-
--- what waits in the same caches is the same
-pub ports_alike : (m n : Machine) (ports : List Port) → ((i j : ℕ) (x : Message) → Waits ports i j x → cache_of n x.cache.0 ≡ cache_of m x.cache.0) → map (port_seen n) ports ≡ map (port_seen m) ports
-ports_alike m n ports same = map_same (port_seen n) (port_seen m) ports (λ i p e k. record {
-  depth = p.depth;
-  messages = map_same (message_seen n) (message_seen m) p.messages.items (λ j x has. ap (λ (o : Option Cache). option_map_or (λ (c : Cache). c.pages) o []) (same i j x (record { port = p; there = e; has = has }))) k;
-})
+  hidden_by n is = any_at (waits_in n) replaced place q (get_set_same ports place q within) is
 
 -- Which caches are seen
 

@@ -1,14 +1,11 @@
 -- What a send comes to: from the cache that is made for the message on.
-use Rattle.std.proofs.Common.{◌≡◌, ◌≢◌, ◌⊎◌, inl, inr, ◌==◌, ℕ, zero, suc, ◌+◌, ◌-◌, ◌<◌, ◌≤◌, Bool, true, false, cond, List, [], ◌∷◌, ◌++◌, length, map, set, take, drop, Option, Some, None, refl, sym, ap, subst, ◌∙◌, arith}
-use Rattle.std.specs.Bool.{IsTrue}
+use Rattle.std.proofs.Common.{◌≡◌, ◌≢◌, ◌⊎◌, inl, inr, ◌==◌, ℕ, zero, suc, ◌+◌, ◌<◌, ◌≤◌, Bool, true, false, cond, List, [], ◌∷◌, ◌++◌, length, map, take, drop, Option, Some, None, refl, sym, ap, subst, ◌∙◌, arith}
 use Rattle.std.specs.Prelude.{◌&&◌, IsSome, Ok, Err, Result, nat_le, nat_lt, option_map, slice_get}
-use Rattle.std.specs.List.{list_any}
 use Rattle.std.proofs.lemmas.Bool.Decides.{nat_tests}
-use Rattle.std.proofs.lemmas.List.{append-nil, drop_all, length-drop, length-map, length-replicate, length-take-le, map-append}
+use Rattle.std.proofs.lemmas.List.{append-nil, drop_all, length-drop, length-map, length-take-le}
 use Rattle.std.proofs.lemmas.Option.{slice_get-map, slice_get_past}
 use Rattle.vm_ids.specs.Counting.{MapperCounts}
 use Rattle.vm_ids.specs.Held.{Segments}
-use Rattle.vm_ids.specs.declared.command.Command.TheVariants as plain_commands
 use Rattle.vm_ids.specs.declared.command.Extent.{Extent}
 use Rattle.vm_ids.specs.declared.command.PortCommand.{PortCommand}
 use Rattle.vm_ids.specs.declared.command.PortCommand.TheVariants as commands
@@ -22,14 +19,11 @@ use Rattle.vm_ids.specs.declared.reply.Trouble.{Trouble}
 use Rattle.vm_ids.specs.declared.reply.Trouble.TheVariants as troubles
 use Rattle.vm_model.specs.Answering as plain
 use Rattle.vm_model.specs.Answering.{Answer, is_mapped, maps_in, overwrite, passes_end, put_pages, put_span}
-use Rattle.vm_model.specs.Machine.{Actor, Cache, Machine, Page, Region, cache_of, is_locked_page, live_pages, locks, locks_any, zero_page}
-use Rattle.vm_model.specs.Outcome.{OutcomeAt, blank, blank_cache}
-use Rattle.vm_model.specs.PageForest.{PageForest}
-use Rattle.vm_model.specs.declared.limits.TheConstants.{LIVE_PAGES, MOST_MADE}
+use Rattle.vm_model.specs.Machine.{Actor, Cache, Machine, Page, Region, cache_of, is_locked_page, locks, locks_any}
 use Rattle.vm_model.proofs.Parts.ListParts.{numbered_past, numbered_push}
 use Rattle.gmi_calls.specs.Calling.{done_by}
-use Rattle.transit_ipc.specs.Answering.{Answered, lacks_room, pages_of, put_last, refuse, reply, send_of, unless, with_some}
-use Rattle.transit_ipc.specs.Inner.{sent_span, source_of}
+use Rattle.transit_ipc.specs.Answering.{Answered, lacks_room, pages_of, put_last, reply, send_of, unless, with_some}
+use Rattle.transit_ipc.specs.Inner.{sent_span}
 use Rattle.transit_ipc.specs.Outcome.{GoesOn, Outcome}
 use Rattle.transit_ipc.specs.PortMachine as model
 use Rattle.transit_ipc.specs.PortMachine.{PortMachine, port_in, port_of, put_port, take_number}
@@ -38,7 +32,7 @@ use Rattle.transit_ipc.specs.Tying.{AreTied}
 use Rattle.transit_ipc.specs.declared.port.Message.{Message}
 use Rattle.transit_ipc.specs.declared.port.Port.{Port}
 use Rattle.transit_ipc.proofs.Appending.{appended, at_last, last_replaced, next_of, temporary_appended}
-use Rattle.transit_ipc.proofs.Copying.{IsLack, MayCopy, RowIs, copied, copy_row, inside}
+use Rattle.transit_ipc.proofs.Copying.{MayCopy, RowIs, copied, copy_row}
 use Rattle.transit_ipc.proofs.Counting.{lacks_same}
 use Rattle.transit_ipc.proofs.Fresh.{has_no_room}
 use Rattle.transit_ipc.proofs.Hiding.{hidden_cache, length_seen, seen_cache}

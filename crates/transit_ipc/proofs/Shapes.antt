@@ -1,12 +1,12 @@
 -- Machines that are alike but for the bytes of their pages.
-use Rattle.std.proofs.Common.{◌≡◌, ℕ, ◌+◌, ◌-◌, Bool, true, false, cond, List, [], ◌∷◌, length, set, map, Option, Some, None, zero, suc, refl, sym, ap, subst, ◌∙◌, arith}
+use Rattle.std.proofs.Common.{◌≡◌, ℕ, ◌-◌, Bool, true, false, cond, List, [], ◌∷◌, length, set, map, Option, Some, None, zero, suc, refl, sym, ap, subst, ◌∙◌, arith}
 use Rattle.std.specs.Bool.{IsTrue}
 use Rattle.std.specs.List.{list_any}
 use Rattle.std.specs.Prelude.{IsSome, option_map, slice_get, sum_by}
 use Rattle.std.proofs.lemmas.List.{length-map, map-set}
 use Rattle.std.proofs.lemmas.List.Sums.{sum_by-cons}
 use Rattle.std.proofs.lemmas.Option.{slice_get-map}
-use Rattle.vm_model.specs.Answering.{is_mapped, maps_in, put_cache}
+use Rattle.vm_model.specs.Answering.{maps_in, put_cache}
 use Rattle.vm_model.specs.Machine.{Actor, Cache, Machine, Page, cache_of, live_pages, numbered, pages_in}
 use Rattle.vm_model.specs.Outcome.{blank, blank_cache}
 use Rattle.vm_model.proofs.Parts.Lists.{is_there, numbered-map, numbered_place}
@@ -108,7 +108,7 @@ temporary_like m n l all k d there =
 
 -- The ties
 
-some_shown : (b : Bool) (o p : Option Cache) → (IsSome o → IsSome p) → IsSome (cond b None o) → IsSome (cond b None p)
+pub some_shown : (b : Bool) (o p : Option Cache) → (IsSome o → IsSome p) → IsSome (cond b None o) → IsSome (cond b None p)
 some_shown true o p f h = h
 some_shown false o p f h = f h
 

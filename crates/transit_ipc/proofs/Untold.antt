@@ -1,58 +1,28 @@
 -- Steps of ports where the mapper doesn't tell what it holds, and what is told after a call.
-use Rattle.std.proofs.Common.{◌≡◌, ◌==◌, ◌<◌, ℕ, zero, suc, ◌+◌, ◌-◌, Bool, true, false, cond, List, [], ◌∷◌, map, Option, Some, None, refl, sym, ap, subst, ◌∙◌, arith}
-use Rattle.std.specs.Prelude.{Ok, Err, IsSome, option_and_then, option_map, slice_get}
+use Rattle.std.proofs.Common.{◌≡◌, ◌==◌, ℕ, suc, ◌-◌, false, cond, List, [], ◌∷◌, Option, Some, None, refl, ap, subst, ◌∙◌, arith}
+use Rattle.std.specs.Prelude.{IsSome, option_and_then, slice_get}
 use Rattle.std.specs.Option.{option_map_or}
 use Rattle.vm_ids.specs.Counting.{MapperCounts}
-use Rattle.vm_ids.specs.Held.{Held, Segments, segments_of}
+use Rattle.vm_ids.specs.Held.{Segments}
 use Rattle.vm_ids.specs.declared.command.Command.{Command}
 use Rattle.vm_ids.specs.declared.command.PortCommand.{PortCommand}
-use Rattle.vm_ids.specs.declared.reply.Reply.TheVariants as replies
-use Rattle.std.specs.FinMap.{empty}
 use Rattle.vm_model.specs.Answering.{Answer}
-use Rattle.vm_model.specs.Machine.{Cache, Machine, cache_named, cache_of, is_named_by}
+use Rattle.vm_model.specs.Machine.{Cache, Machine, cache_named}
 use Rattle.vm_model.specs.Outcome as plain
 use Rattle.vm_model.specs.Outcome.{IsAlike, OutcomeAt, blank, blank_cache}
 use Rattle.vm_model.specs.PageForest.{PageForest}
 use Rattle.vm_model.specs.Pushing.{PushRule, page_named, segments_after}
 use Rattle.vm_model.proofs.Parts.ListParts.{at_some}
-use Rattle.vm_model.proofs.Parts.Lists.{numbered-map}
 use Rattle.gmi_calls.specs.Untold.{UntoldStep}
 use Rattle.transit_ipc.specs.Outcome.{Outcome}
-use Rattle.transit_ipc.specs.PortMachine as model
-use Rattle.transit_ipc.specs.Seen.{is_transit, memory_seen, message_seen, port_seen, ports_seen}
-use Rattle.transit_ipc.specs.Stepping.{State, StepAt, blank_message, blank_port, blank_ports, forget, no_bytes}
-use Rattle.transit_ipc.specs.Tying.{AreTied, IsUntoldBlank}
-use Rattle.transit_ipc.specs.declared.port.Message.{Message}
+use Rattle.transit_ipc.specs.Seen.{ports_seen}
+use Rattle.transit_ipc.specs.Stepping.{StepAt, forget}
+use Rattle.transit_ipc.specs.Tying.{AreTied}
 use Rattle.transit_ipc.specs.declared.port.Port.{Port}
+use Rattle.transit_ipc.proofs.Emptying.{over, seen_blank}
 use Rattle.transit_ipc.proofs.Followed.{tied_whole}
-use Rattle.transit_ipc.proofs.Hiding.{blank_seen}
 
--- What is seen of a machine without bytes
-
-then_same : {A B C : Type 0} (f : B → C) (g : A → B) (h : A → C) → ((x : A) → f (g x) ≡ h x) → (xs : List A) → map f (map g xs) ≡ map h xs
-then_same f g h e [] = refl
-then_same f g h e (x ∷ xs) = λ i. e x i ∷ then_same f g h e xs i
-
-message_blank : (m : Machine) (x : Message) → blank_message (message_seen m x) ≡ message_seen (blank m) x
-message_blank m x = by (cache_of m x.cache.0) ∙ ap (λ (o : Option Cache). option_map_or (λ (c : Cache). c.pages) o []) (sym (numbered-map blank_cache m.caches x.cache.0))
-  where
-    by : (o : Option Cache) → blank_message (option_map_or (λ (c : Cache). c.pages) o []) ≡ option_map_or (λ (c : Cache). c.pages) (option_map blank_cache o) []
-    by None = refl
-    by (Some c) = refl
-
-port_blank : (m : Machine) (p : Port) → blank_port (port_seen m p) ≡ port_seen (blank m) p
-port_blank m p = ap (λ (messages : List model.Message). let q : model.Port = record { depth = p.depth; messages = messages } in q)
-    (then_same blank_message (message_seen m) (message_seen (blank m)) (message_blank m) p.messages.items)
-
-pub seen_blank : (m : Machine) (ports : List Port) → ports_seen (blank m) ports ≡ blank_ports (ports_seen m ports)
-seen_blank m ports = λ i. record {
-  memory = record m { caches = sym (blank_seen (is_transit ports) 1 m.caches) i };
-  ports = sym (then_same blank_port (port_seen m) (port_seen (blank m)) (port_blank m) ports) i;
-}
-
--- the state over a machine
-abbrev pub over : Option Segments → Machine → List Port → State
-over told m ports = record { ports = ports_seen m ports; segments = told }
+-- Machines without bytes, by those with bytes
 
 over_blank : (told : Option Segments) (m w : Machine) (ports : List Port) → m ≡ blank w → over told m ports ≡ forget (over told w ports)
 over_blank told m w ports is = ap (λ (x : Machine). over told x ports) is ∙ (λ i. record { ports = seen_blank w ports i; segments = told })
@@ -81,32 +51,6 @@ step_called before None m n ports later tied f c a rises command leads o =
     step_untold before None m n o.whole o.whole_next ports later command a o.whole_answer o.segments rises o.is o.is_next o.alike
     (leads o.whole o.whole_next (tied_whole ports o.whole (subst (λ (x : Machine). AreTied x ports) o.is tied)) o.segments o.whole_answer o.outcome)
 step_called before (Some h) m n ports later tied f c a rises command leads o = leads m n tied h a o
-
-alike_self : (a : Answer) → IsAlike a a
-alike_self (Ok (replies.Bytes bytes)) = refl
-alike_self a = refl
-
-abbrev no_segments : Segments
-no_segments = record { pages = empty; denied = [] }
-
--- a step in which the manager isn't called
-pub step_still : (told : Option Held) (m : Machine) (ports later : List Port) → IsUntoldBlank told m → (command : PortCommand) (a : Answer) (rises : MapperCounts)
-    → ((h : Segments) → Outcome (ports_seen m ports) command h a (ports_seen m later) rises)
-    → StepAt (segments_of told) (over (segments_of told) m ports) command a rises (over (segments_of told) m later)
-step_still None m ports later bare command a rises leads = step_untold None None m m m m ports later command a a no_segments rises bare bare (alike_self a) (leads no_segments)
-step_still (Some h) m ports later bare command a rises leads = leads _
-
--- a machine to which an answer leads has no bytes where nothing is told
-blank_twice : (m : Machine) → blank (blank m) ≡ blank m
-blank_twice m = λ i. record m { caches = then_same (option_map blank_cache) (option_map blank_cache) (option_map blank_cache) twice m.caches i }
-  where
-    twice : (o : Option Cache) → option_map blank_cache (option_map blank_cache o) ≡ option_map blank_cache o
-    twice None = refl
-    twice (Some c) = λ i. Some (record c { pages = then_same no_bytes no_bytes no_bytes (λ page. refl) c.pages i })
-
-pub blank_after : (told : Option Held) (m n : Machine) (f : Option PageForest) (c : Command) (a : Answer) (rises : MapperCounts) → OutcomeAt (segments_of told) m f c a n rises → IsUntoldBlank told n
-blank_after None m n f c a rises o = o.is_next ∙ sym (blank_twice o.whole_next) ∙ ap blank (sym o.is_next)
-blank_after (Some h) m n f c a rises o = tt
 
 -- No segment changes
 

@@ -7,7 +7,6 @@ use Rattle.vm_ids.specs.declared.command.Command.TheVariants as plain_commands
 use Rattle.vm_ids.specs.declared.command.PortCommand.{PortCommand}
 use Rattle.vm_ids.specs.declared.command.PortCommand.TheVariants as commands
 use Rattle.vm_model.specs.Answering.{Answer}
-use Rattle.vm_model.specs.Asking.{IsWellFormed}
 use Rattle.vm_model.specs.Machine.{Machine}
 use Rattle.vm_port.specs.declared.traits.mapper.Mapper.{Ghosts as GhostsOfMapper}
 use Rattle.gmi_calls.specs.declared.gmi.Gmi.{Ghosts as GhostsOfGmi}
@@ -15,7 +14,6 @@ use Rattle.transit_ipc.specs.Outcome.{Outcome}
 use Rattle.transit_ipc.specs.Seen.{ports_seen, state_of}
 use Rattle.transit_ipc.specs.Stepping.{AnswerIs, State}
 use Rattle.transit_ipc.specs.Tying.{AreTied, CanCall}
-use Rattle.transit_ipc.specs.declared.port.Port.{Port}
 use Rattle.transit_ipc.specs.declared.ports.Ports.{Ports}
 
 -- the commands of the manager that a script of ports has

@@ -1,5 +1,5 @@
 -- One answer after another of ports: what there is between two, and how one leads on.
-use Rattle.std.specs.Prelude.{◌≡◌, List, [], map, Option, Some, None}
+use Rattle.std.specs.Prelude.{◌≡◌, [], map, Option, Some, None}
 use Rattle.vm_ids.specs.Counting.{MapperCounts}
 use Rattle.vm_ids.specs.Held.{Segments}
 use Rattle.vm_ids.specs.declared.command.PortCommand.{PortCommand}

@@ -1,5 +1,5 @@
 -- How the ports are tied to the machine that their manager stands for.
-use Rattle.std.specs.Prelude.{◌≡◌, ◌≤◌, ◌<◌, ℕ, List, [], length, Option, Some, None, slice_get, IfNone, IsSome}
+use Rattle.std.specs.Prelude.{◌≡◌, ◌≤◌, ℕ, false, List, [], length, Option, Some, None, slice_get, IfNone, IsSome}
 use Rattle.std.specs.Bool.{IsTrue}
 use Rattle.std.specs.VecDeque.{deque_capacity}
 use Rattle.vm_ids.specs.Held.{Held}
@@ -62,11 +62,11 @@ abbrev pub CanCall : {Manager Mapper Chooser : Type 0} → GhostsOfGmi Manager M
     → Ports Manager → Option Held → Option ℕ → Type 0
 CanCall G ports told page_bytes = AreAble G ports.gmi told page_bytes ports.ports.items
 
--- A manager without caches and actors whose room isn't limited.
+-- A manager without caches whose room isn't limited: no region maps one.
 pub record IsBare {Manager Mapper Chooser : Type 0} (G : GhostsOfGmi Manager Mapper Chooser)
     (gmi : Manager) (told : Option Held) (page_bytes : Option ℕ) : Type 0 where
   pub valid : G.valid gmi told
   pub unlimited : G.room gmi ≡ None
   pub fits : Fits page_bytes (G.machine gmi told)
   pub caches : (G.machine gmi told).caches ≡ []
-  pub actors : (G.machine gmi told).actors ≡ []
+  pub unmapped : (cache : ℕ) → is_mapped (G.machine gmi told) cache ≡ false

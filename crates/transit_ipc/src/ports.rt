@@ -36,8 +36,8 @@ pub struct Ports<G> {
 }
 
 impl<G> Ports<G> {
-    /// No ports. They can be called where the manager has no caches and actors, and its room isn't
-    /// limited.
+    /// No ports. They can be called where the manager has no caches and no regions, and its room
+    /// isn't limited.
     pub fn new<M: Mapper, C: Chooser>(alloc: Global, gmi: G) -> Ports<G>
     where
         G: Gmi<M, C>,
@@ -61,8 +61,8 @@ impl<G> Ports<G> {
         is_transit(&self.ports, cache)
     }
 
-    /// Makes a port at which so many messages may wait. Refused as `TooMany` exactly where 1,024
-    /// ports were made.
+    /// Makes a port at which so many messages may wait, and takes the room for them. Refused as
+    /// `TooMany` exactly where 1,024 ports were made.
     pub fn make_port(&mut self, depth: u32) -> Result<PortId, Trouble>
         ensures { IsMade self.old depth (answer_by Reply.Port result) self.new }
     {

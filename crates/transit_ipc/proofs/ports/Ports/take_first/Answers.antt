@@ -1,7 +1,6 @@
-use Rattle.std.proofs.Common.{◌≡◌, List, drop, refl, ap, ◌∙◌}
+use Rattle.std.proofs.Common.{◌≡◌, drop, refl, ap, ◌∙◌}
 use Rattle.std.specs.VecDeque.{deque_capacity}
 use Rattle.std.proofs.lemmas.Option.{get_or_from_slice_get}
-use Rattle.transit_ipc.specs.declared.port.Message.{Message}
 use Rattle.transit_ipc.specs.declared.port.Port.{Port}
 use Rattle.transit_ipc.proofs.ports.Ports.take_first.Goals as goal
 
