@@ -23,7 +23,9 @@ mod answering;
 mod area;
 pub mod laws;
 mod mix;
+mod plain;
 mod process;
 
 pub use area::{Area, DATA_START, MOST_DATA, MOST_STACK, MOST_TEXT, STACK_START, TEXT_START};
 pub use mix::Mix;
+pub use plain::PlainProcesses;
