@@ -11,7 +11,7 @@ use Rattle.transit_ipc.specs.Calling.{IsMade, PortCall}
 use Rattle.transit_ipc.specs.Stepping.{StepAt}
 use Rattle.transit_ipc.specs.Tying.{AreAble, CanCall}
 use Rattle.transit_ipc.specs.declared.ports.Ports.{Ports}
-use Rattle.transit_ipc.proofs.Untold.{over, step_still}
+use Rattle.transit_ipc.proofs.Emptying.{over, step_over}
 
 pub made_call : {Manager X Chooser : Type 0} (M : GhostsOfMapper X) (G : GhostsOfGmi Manager X Chooser) (mapper : X) (old new : Ports Manager) (depth : ℕ) (a : Answer) → CanCall G old (M.held mapper) (M.page_bytes mapper) → IsMade old depth a new
     → PortCall M G mapper old (commands.Port depth) a mapper new
@@ -34,7 +34,7 @@ made_call {Manager} M G mapper old new depth a can made =
       rose = rise_none (M.counts mapper);
       is = record {
         step = subst (λ (gmi : Manager). StepAt segments (over segments m old.ports.items) (commands.Port depth) a no_counts (over segments (G.machine gmi told) new.ports.items)) (sym made.gmi)
-            (step_still told m old.ports.items new.ports.items can.blank (commands.Port depth) a no_counts (made.outcome m));
+            (step_over told told m m old.ports.items new.ports.items (commands.Port depth) a no_counts can.blank can.blank refl (made.outcome m));
         segments = refl;
       };
     }
