@@ -190,10 +190,10 @@ pub fn run<S: Source, K: Sink, M: Mapper, C: Chooser, D: Dispatcher>(
             let mut lines = PortLines {
                 ports: Ports::new::<M, C>(alloc, manager),
             };
-            let ended = replay(
+            let outcome = replay(
                 &mut lines, mapper, chooser, &mut waits, dispatcher, source, sink,
             );
-            Status::of(ended)
+            Status::of(outcome)
         }
     }
 }
