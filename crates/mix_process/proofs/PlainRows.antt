@@ -1,6 +1,6 @@
 -- Rows of the table of answers, for the plain machine, and that an image that was opened can be
 -- taken back.
-use Rattle.std.proofs.Common.{◌≡◌, ◌+◌, ◌≤◌, ◌<◌, ℕ, Bool, true, false, List, [], ◌∷◌, ◌++◌, length, take, Option, Some, None, refl, ap, sym, subst, ◌∙◌, arith}
+use Rattle.std.proofs.Common.{◌≡◌, ◌+◌, ◌≤◌, ℕ, Bool, false, List, [], ◌∷◌, length, take, Option, Some, None, ap, ◌∙◌, arith}
 use Rattle.std.specs.Prelude.{nat_lt}
 use Rattle.std.proofs.lemmas.Bool.Decides.{nat_tests}
 use Rattle.std.proofs.Math.Seq.{take-append_seam, take-length}
@@ -8,7 +8,7 @@ use Rattle.vm_ids.specs.declared.refusal.Refusal.TheVariants as refusals
 use Rattle.vm_model.specs.Machine.{Page}
 use Rattle.mix_process.specs.Answering.{add_process, imaged, process_from, unless, with_image, with_some}
 use Rattle.mix_process.specs.Plain.{exec_ends}
-use Rattle.mix_process.specs.ProcessMachine.{Process, ProcessMachine, image_of}
+use Rattle.mix_process.specs.ProcessMachine.{ProcessMachine, image_of}
 
 -- an exec whose image has pages enough
 pub ends_good : (m : ProcessMachine) (text data_pages stack : ℕ) (pages : List Page) (o : Option (List Page)) → o ≡ Some pages → text + data_pages ≤ length pages

@@ -1,5 +1,5 @@
 -- What the calls of the plain machine of processes say.
-use Rattle.std.specs.Prelude.{◌≡◌, ℕ, ◌+◌, nat_lt, List, length, Option, Some, None, Result, Ok, Err}
+use Rattle.std.specs.Prelude.{◌≡◌, ℕ, ◌+◌, nat_lt, List, length, Option, Result, Ok, Err}
 use Rattle.std.specs.FinMap.{get}
 use Rattle.vm_ids.specs.Held.{Segments}
 use Rattle.vm_ids.specs.declared.command.MixCommand.{MixCommand}

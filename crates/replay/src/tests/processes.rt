@@ -356,7 +356,9 @@ fn counts_below(rt: &impl Abort, alloc: Global, script: &str) -> Result<Counts, 
         &mut sink,
     );
     assert_eq!(rt; ended, Ended::Done);
-    let refused = text(rt, &sink).lines().any(|reply| !said(reply).starts_with("ok"));
+    let refused = text(rt, &sink)
+        .lines()
+        .any(|reply| !said(reply).starts_with("ok"));
     assert!(rt; !refused);
     Ok(processes.mix.manager().stat())
 }

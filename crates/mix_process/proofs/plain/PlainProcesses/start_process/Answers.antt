@@ -1,9 +1,9 @@
-use Rattle.std.proofs.Common.{◌≡◌, ◌+◌, ◌≤◌, ℕ, List, Option, Some, length, ap, sym, subst, ◌∙◌, arith}
+use Rattle.std.proofs.Common.{◌≡◌, ◌+◌, ◌≤◌, ℕ, List, Some, length, ap, sym, subst, ◌∙◌, arith}
 use Rattle.std.specs.Prelude.{option_map}
 use Rattle.vm_model.specs.Machine.{Page}
 use Rattle.mix_process.specs.Answering.{Answered, add_process, process_from}
-use Rattle.mix_process.specs.Plain.{IsAnswered, exec_ends}
-use Rattle.mix_process.specs.ProcessMachine.{Process, ProcessMachine, image_in, image_of}
+use Rattle.mix_process.specs.Plain.{IsAnswered}
+use Rattle.mix_process.specs.ProcessMachine.{ProcessMachine, image_in, image_of}
 use Rattle.mix_process.proofs.PlainRows.{ends_good}
 use Rattle.mix_process.proofs.plain.PlainProcesses.start_process.Goals as goal
 
