@@ -7,6 +7,7 @@ use Rattle.vm_ids.specs.declared.refusal.Refusal.TheVariants.{BadLine}
 use Rattle.actor_script.specs.Words.{words_of}
 use Rattle.actor_script.specs.Forms.{asked_by, command_of, form_of}
 use Rattle.actor_script.specs.MixForms.{mix_command_of, mix_form_of}
+use Rattle.actor_script.specs.PortForms.{port_command_of, port_form_of}
 
 module _ {C : Type 0} (form : List (List ℕ) → Option C) (line : List ℕ) where
   long_line : 257 < length line → asked_by form (take 257 line) ≡ asked_by form line
@@ -27,3 +28,7 @@ command_of-front line = asked_by-front form_of line
 pub mix_command_of-front : (line : List ℕ) → mix_command_of (take 257 line) ≡ mix_command_of line
 unfolding mix_command_of
 mix_command_of-front line = asked_by-front mix_form_of line
+
+pub port_command_of-front : (line : List ℕ) → port_command_of (take 257 line) ≡ port_command_of line
+unfolding port_command_of
+port_command_of-front line = asked_by-front port_form_of line

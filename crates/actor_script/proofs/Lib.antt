@@ -5,6 +5,9 @@ pub mod Hexadecimal
 -- Lines of scripts of processes.
 pub mod MixForms
 pub mod MixWorked
+-- Lines of scripts of message ports.
+pub mod PortForms
+pub mod PortWorked
 pub mod Numbers
 -- Operands that have a space in them.
 pub mod Operands

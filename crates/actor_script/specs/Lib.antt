@@ -2,6 +2,7 @@ pub mod Forms
 pub mod Generator
 pub mod MixForms
 pub mod Operands
+pub mod PortForms
 pub mod Summary
 pub mod Text
 pub mod Words

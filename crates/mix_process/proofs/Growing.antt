@@ -40,7 +40,7 @@ use Rattle.mix_process.proofs.Untold.{as_untold, filled_put, filled_up, map-repl
 -- The row
 
 module _ (s : ProcessMachine) (of pages : ℕ) where
-  abbrev grown : model.Process → mix.Answered
+  abbrev pub grown : model.Process → mix.Answered
   grown p = mix.reply replies.Done (put_process s of (Some (grown_by s.page_bytes pages p)))
 
   grow_row : (o : Option model.Process) → process_of s of ≡ o → grow_of s of pages ≡ mix.with_some o refusals.NoProcess s (λ p. mix.unless (nat_lt MOST_DATA (length p.data_pages + pages)) refusals.TooLarge s (grown p))
@@ -59,7 +59,7 @@ module _ (s : ProcessMachine) (of pages : ℕ) where
   unfolding mix.unless
   grow_large p e many = by_size p true e (grind (arith, nat_tests))
 
-  grow_done : (p : model.Process) → process_of s of ≡ Some p → length p.data_pages + pages ≤ MOST_DATA → grow_of s of pages ≡ grown p
+  pub grow_done : (p : model.Process) → process_of s of ≡ Some p → length p.data_pages + pages ≤ MOST_DATA → grow_of s of pages ≡ grown p
   unfolding mix.unless
   grow_done p e few = by_size p false e (grind (arith, nat_tests))
 

@@ -44,3 +44,4 @@ pub mod Inheriting
 pub mod Forking
 pub mod Executing
 pub mod Executed
+pub mod PlainRows

@@ -13,3 +13,4 @@ pub mod Copying
 pub mod Calling
 pub mod Rows
 pub mod Laws
+pub mod Plain

@@ -64,6 +64,13 @@ impl<G> Mix<G> {
         }
     }
 
+    /// The manager below.
+    pub fn manager(&self) -> &G
+        ensures { result.now ≡ self.now.gmi }
+    {
+        &self.gmi
+    }
+
     /// Makes a process of a segment: its first pages are the text, the pages behind these the data,
     /// and zeros the stack. Refused as `TooLarge`, `NoSegment` or `BadImage`, in this order, or as
     /// `TooMany`.

@@ -12,5 +12,7 @@ pub mod Tallying
 pub mod Statuses
 -- What a trial promises, from how its lines are answered.
 pub mod Trials
--- Processes as whoever answers the lines of a script.
+-- Lines that are answered at once: what was answered.
 pub mod Answered
+-- The lines of scripts of message ports ask only well-formed commands.
+pub mod PortsFormed

@@ -20,6 +20,7 @@ use Rattle.vm_model.proofs.WholeRuns.Chains.{runs_are_chains}
 use Rattle.vm_model.proofs.WholeRuns.Runs.{runs_are_followed}
 use Rattle.actor_script.specs.Forms.{command_of}
 use Rattle.actor_script.specs.MixForms.{mix_command_of}
+use Rattle.actor_script.specs.PortForms.{port_command_of}
 use Rattle.actor_script.proofs.WellFormed.{well_formed}
 use Rattle.gmi_calls.specs.Calling.{Fits}
 use Rattle.vm_ids.specs.declared.access.Parked.{Parked}
@@ -38,7 +39,12 @@ use Rattle.mix_process.specs.Outcome.{Usage}
 use Rattle.mix_process.specs.ProcessMachine.{ProcessMachine}
 use Rattle.mix_process.specs.Stepping.{State as ProcessState}
 use Rattle.mix_process.specs.Tying.{IsBare}
-use Rattle.replay.specs.Ending.{CommandScene, EndsAs, MixEnds, Outside, RunEnds, scene_of_processes, scene_with, status_of}
+use Rattle.transit_ipc.specs.Calling.{beginning as ports_beginning}
+use Rattle.transit_ipc.specs.PortMachine.{PortMachine}
+use Rattle.transit_ipc.specs.Stepping.{State as PortState}
+use Rattle.transit_ipc.specs.Tying.{IsBare as IsBareForPorts}
+use Rattle.replay.specs.Ending.{CommandScene, EndsAs, MixEnds, Outside, PortEnds, RunEnds, scene_of_ports, scene_of_processes, scene_with, status_of}
+use Rattle.replay.specs.Posting.{port_semantics}
 use Rattle.replay.specs.Processing.{process_semantics}
 use Rattle.replay.specs.declared.status.Status.{Status}
 use Rattle.replay.specs.declared.asked.Asked.{Asked}
@@ -130,6 +136,18 @@ mix_ends status frames old now l k begun m processes usage begins machine ends =
       (begins ∙ ap (λ (x : Machine). beginning x old.segments) machine) ends;
 }
 
+-- the promise for a script of message ports, from a replay that began with none, over a manager that
+-- began
+pub port_ends : (status : Status) (frames : ℕ) (old now : Outside) (l k : Option (List ℕ)) (begun : PortState) (m : Machine) (machine : PortMachine)
+    → begun ≡ ports_beginning m old.segments → m ≡ start frames PAGE
+    → EndsAs status port_semantics port_command_of (record { state = begun; counts = old.counts; turns = old.turns; written = old.written }) (scene_of_ports now machine) l k
+    → PortEnds status frames old now l k
+port_ends status frames old now l k begun m machine begins starts ends = record {
+  last = machine;
+  ends = subst (λ (s : PortState). EndsAs status port_semantics port_command_of (record { state = s; counts = old.counts; turns = old.turns; written = old.written }) (scene_of_ports now machine) l k)
+      (begins ∙ ap (λ (x : Machine). ports_beginning x old.segments) starts) ends;
+}
+
 -- the mapper takes pages of the size that was asked for
 pub fits_start : (told : Option ℕ) (frames bytes named : ℕ) (m : Machine) → IfSome told (λ n. n ≡ named) → named ≡ bytes → m ≡ start frames bytes → Fits told m
 fits_start told frames bytes named m h same e = subst (Fits told) (sym e) (by told h)
@@ -146,6 +164,17 @@ bare_start G gmi told page_bytes frames named valid unlimited pages same starts 
   unlimited = unlimited;
   fits = fits_start page_bytes frames PAGE named (G.machine gmi told) pages same starts;
   page = ap (λ (m : Machine). m.page_bytes) starts;
+  caches = ap (λ (m : Machine). m.caches) starts;
+  actors = ap (λ (m : Machine). m.actors) starts;
+}
+
+-- and to make ports
+pub bare_ports : {Manager Mapper Chooser : Type 0} (G : GhostsOfGmi Manager Mapper Chooser) (gmi : Manager) (told : Option Held) (page_bytes : Option ℕ) (frames named : ℕ)
+    → G.valid gmi told → G.room gmi ≡ None → IfSome page_bytes (λ n. n ≡ named) → named ≡ PAGE → G.machine gmi told ≡ start frames PAGE → IsBareForPorts G gmi told page_bytes
+bare_ports G gmi told page_bytes frames named valid unlimited pages same starts = record {
+  valid = valid;
+  unlimited = unlimited;
+  fits = fits_start page_bytes frames PAGE named (G.machine gmi told) pages same starts;
   caches = ap (λ (m : Machine). m.caches) starts;
   actors = ap (λ (m : Machine). m.actors) starts;
 }

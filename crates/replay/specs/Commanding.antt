@@ -193,7 +193,7 @@ abbrev pub trial_behind : List (List ℕ) → Option Asked
 trial_behind words = trial_of (others_among false words) (options_among false words)
 
 -- What the words of a command line ask for: they are `run` and its options, `generate` and a
--- script, `trial`, a script and options, or `mix` and options. None for other words.
+-- script, `trial`, a script and options, or `mix` or `ipc` and options. None for other words.
 unfoldable pub asked_by : List (List ℕ) → Option Asked
 asked_by [] = None
 asked_by (command ∷ words) =
@@ -201,6 +201,7 @@ asked_by (command ∷ words) =
     else if bytes_eq command (codes "generate") then option_map asks.Generate (script_of words)
     else if bytes_eq command (codes "trial") then trial_behind words
     else if bytes_eq command (codes "mix") then option_map asks.Mix (frames_behind words)
+    else if bytes_eq command (codes "ipc") then option_map asks.Ipc (frames_behind words)
     else None
 
 -- the folder that words name, or the working folder

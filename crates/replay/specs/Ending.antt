@@ -17,6 +17,7 @@ use Rattle.vm_model.specs.Steps.{Semantics, Step}
 use Rattle.actor_script.specs.Forms.{command_of}
 use Rattle.actor_script.specs.Generator.{generated}
 use Rattle.actor_script.specs.MixForms.{mix_command_of}
+use Rattle.actor_script.specs.PortForms.{port_command_of}
 use Rattle.actor_script.specs.Summary.{summary_of, tally_of}
 use Rattle.actor_script.specs.Writing.{Writes, WritesFront}
 use Rattle.actor_script.specs.declared.tally.Tally.{Tally}
@@ -29,6 +30,9 @@ use Rattle.vm_port.specs.declared.traits.mapper.Mapper.{Ghosts as GhostsOfMapper
 use Rattle.mix_process.specs.Outcome.{Usage, no_usage}
 use Rattle.mix_process.specs.ProcessMachine.{ProcessMachine}
 use Rattle.mix_process.specs.ProcessMachine.{start as no_processes}
+use Rattle.transit_ipc.specs.PortMachine.{PortMachine}
+use Rattle.transit_ipc.specs.PortMachine.{start as no_ports}
+use Rattle.replay.specs.Posting.{port_semantics}
 use Rattle.replay.specs.Processing.{process_semantics}
 use Rattle.replay.specs.declared.status.Status.{Status}
 use Rattle.replay.specs.declared.status.Status.TheVariants as statuses
@@ -46,6 +50,10 @@ CommandScene = Scene command_semantics Told
 -- And of a script of processes: the processes, what the manager has, and the same besides.
 abbrev pub ProcessScene : Type 0
 ProcessScene = Scene process_semantics Told
+
+-- And of a script of message ports: the plain machine with the ports, and the same besides.
+abbrev pub PortScene : Type 0
+PortScene = Scene port_semantics Told
 
 -- What a scene has besides: the mapper's segments, where they are told, its counts, the turns that
 -- the dispatcher has left, and what was written.
@@ -77,6 +85,15 @@ scene_with o machine forest = record {
 abbrev pub scene_of_processes : Outside → ProcessMachine → Usage → ProcessScene
 scene_of_processes o processes usage = record {
   state = record { processes = processes; usage = usage; segments = o.segments };
+  counts = o.counts;
+  turns = o.turns;
+  written = o.written;
+}
+
+-- the scene of ports
+abbrev pub scene_of_ports : Outside → PortMachine → PortScene
+scene_of_ports o ports = record {
+  state = record { ports = ports; segments = o.segments };
   counts = o.counts;
   turns = o.turns;
   written = o.written;
@@ -121,6 +138,13 @@ pub record MixEnds (status : Status) (before now : Outside) (left left_now : Tol
   pub ends : EndsAs status process_semantics mix_command_of
       (scene_of_processes before (no_processes PAGE) no_usage)
       (scene_of_processes now last usage) left left_now
+
+-- How a script of message ports ends: it began with the empty machine and no port.
+pub record PortEnds (status : Status) (frames : ℕ) (before now : Outside) (left left_now : Told)
+    : Type 0 where
+  pub last : PortMachine
+  pub ends : EndsAs status port_semantics port_command_of
+      (scene_of_ports before (no_ports frames PAGE)) (scene_of_ports now last) left left_now
 
 -- All of a text was written; or, where a write failed, a front of it.
 abbrev pub WritesAs : Status → Option (List ℕ) → Option (List ℕ) → List ℕ → Type 0
@@ -183,15 +207,19 @@ AskedEnds status (asks.Trial script frames) before now left left_now =
     TrialEnds status script frames before now
 AskedEnds status (asks.Mix frames) before now left left_now =
     MixEnds status before now left left_now
+AskedEnds status (asks.Ipc frames) before now left left_now =
+    PortEnds status frames before now left left_now
 
 -- only the replay of a script reads the source
 abbrev pub reads_source : Asked → Bool
 reads_source (asks.Run size) = true
 reads_source (asks.Mix frames) = true
+reads_source (asks.Ipc frames) = true
 reads_source asked = false
 
 -- What is asked for reads no source, or one that tells no more bytes than a script may have.
 abbrev pub IsWithinLimit : Asked → Option (List ℕ) → Type 0
 IsWithinLimit (asks.Run size) left = IsSomeAnd left (λ all. length all ≤ most_bytes)
 IsWithinLimit (asks.Mix frames) left = IsSomeAnd left (λ all. length all ≤ most_bytes)
+IsWithinLimit (asks.Ipc frames) left = IsSomeAnd left (λ all. length all ≤ most_bytes)
 IsWithinLimit asked left = Unit {0}

@@ -8,7 +8,8 @@ use Rattle.vm_model.specs.Machine.{actor_of}
 use Rattle.vm_model.proofs.Parts.Distinct.{AreDistinct as AreApart}
 use Rattle.actor_script.specs.Forms.{command_of}
 use Rattle.actor_script.specs.MixForms.{mix_command_of}
-use Rattle.actor_script.proofs.Fronts.{command_of-front, mix_command_of-front}
+use Rattle.actor_script.specs.PortForms.{port_command_of}
+use Rattle.actor_script.proofs.Fronts.{command_of-front, mix_command_of-front, port_command_of-front}
 use Rattle.gmi_calls.specs.declared.gmi.Gmi.{Ghosts as GhostsOfGmi}
 use Rattle.gmi_calls.proofs.FewAlive.{few_alive}
 use Rattle.replay.specs.Managing.{CanCall}
@@ -32,6 +33,9 @@ fronts line = command_of-front line
 
 pub mix_fronts : (line : List ℕ) → mix_command_of (front_of_line line) ≡ mix_command_of line
 mix_fronts line = mix_command_of-front line
+
+pub port_fronts : (line : List ℕ) → port_command_of (front_of_line line) ≡ port_command_of line
+port_fronts line = port_command_of-front line
 
 -- where nobody is alive, few are
 pub nobody : (actors : List ℕ) → AreDistinct actors → AllByRecursion (λ actor. ⊥) actors

@@ -30,4 +30,7 @@ pub enum Asked {
     /// The replay of the script of processes that the source has left, over so many page frames of
     /// 4,096 bytes.
     Mix { frames: u32 },
+    /// The replay of the script of message ports that the source has left, over so many page frames
+    /// of 4,096 bytes.
+    Ipc { frames: u32 },
 }

@@ -15,6 +15,7 @@
 mod asked;
 mod commands;
 mod generating;
+mod ports;
 mod processes;
 mod status;
 #[cfg(test)]

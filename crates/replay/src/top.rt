@@ -9,6 +9,7 @@ use crate::Status;
 use crate::asked::Asked;
 use crate::commands::Commands;
 use crate::generating::generate;
+use crate::ports::PortLines;
 use crate::processes::Processes;
 use crate::trying::trial;
 use crate::words::read_words;
@@ -17,10 +18,11 @@ use mix_process::Mix;
 use pull_wait::PullWait;
 use pvm_core::Pvm;
 use std::alloc::Global;
+use transit_ipc::Ports;
 use vm_ids::PAGE;
 use vm_port::{Chooser, Dispatcher, Mapper, Sink, Source};
 
-/// Runs the program for the words of a command line, which ask for one of four things:
+/// Runs the program for the words of a command line, which ask for one of five things:
 ///
 /// - `run --frames F [--page B] [--segments DIR]` replays the script that the source has left, over
 ///   a demand-paged manager of F page frames of B bytes, and writes a reply for each line. The
@@ -31,6 +33,8 @@ use vm_port::{Chooser, Dispatcher, Mapper, Sink, Source};
 ///   them begin with `ok`, the sum of all bytes loaded modulo 2^64, and the counts of pages.
 /// - `mix --frames F [--segments DIR]` replays the script of processes that the source has left,
 ///   over a manager of F page frames of 4,096 bytes, and writes a reply for each line.
+/// - `ipc --frames F [--segments DIR]` replays the script of message ports that the source has left,
+///   over a manager of F page frames of 4,096 bytes, and writes a reply for each line.
 ///
 /// Whatever the source, the sink, the mapper, the chooser and the dispatcher: the lines written
 /// are, in the order written, the replies of a machine that keeps each cache as plain bytes and
@@ -39,7 +43,8 @@ use vm_port::{Chooser, Dispatcher, Mapper, Sink, Source};
 /// different actors. Chains and counts are those of the page forest, which follows each answer by
 /// its command's rule and agrees with that machine at the end. However reads cut the script, it is
 /// the same script. The replies to a script of processes are those of processes that have plain
-/// pages of bytes, which a fork copies at once; no segment changes.
+/// pages of bytes, which a fork copies at once; those to a script of message ports are those of
+/// ports at which plain pages of bytes wait, first in, first out. With both no segment changes.
 ///
 /// - `Done`: where a script is read, the source has nothing left, and each line is answered; else
 ///   all is written.
@@ -172,6 +177,23 @@ pub fn run<S: Source, K: Sink, M: Mapper, C: Chooser, D: Dispatcher>(
                 sink,
             );
             Status::of(ended)
+        }
+        Asked::Ipc { frames } => {
+            let manager = match Pvm::new(alloc, frames, PAGE as u32) {
+                Ok(manager) => manager,
+                Err(_) => return Status::NoMemory,
+            };
+            let mut waits = match PullWait::new(alloc) {
+                Ok(waits) => waits,
+                Err(_) => return Status::NoMemory,
+            };
+            let mut lines = PortLines {
+                ports: Ports::new::<M, C>(alloc, manager),
+            };
+            let outcome = replay(
+                &mut lines, mapper, chooser, &mut waits, dispatcher, source, sink,
+            );
+            Status::of(outcome)
         }
     }
 }

@@ -196,8 +196,9 @@ pub fn frames_behind(alloc: Global, words: &[&str]) -> Result<Option<u32>, NoMem
 }
 
 /// What the words of a command line ask for, which are `run --frames F [--page B] [--segments
-/// DIR]`, `generate N L`, `trial N L --frames F [--segments DIR]` or `mix --frames F [--segments
-/// DIR]`: `None` exactly for other words. `NoMemory` where there is none to read them.
+/// DIR]`, `generate N L`, `trial N L --frames F [--segments DIR]`, `mix --frames F [--segments DIR]`
+/// or `ipc --frames F [--segments DIR]`: `None` exactly for other words. `NoMemory` where there is
+/// none to read them.
 #[tactic(auto, unfolding(crate::specs::Commanding::asked_by))]
 pub fn read_words(alloc: Global, words: &[&str]) -> Result<Option<Asked>, NoMemory>
     ensures { IfOk result (λ asked. asked ≡ asked_by (map (λ w. w.now) words.now)) }
@@ -216,6 +217,10 @@ pub fn read_words(alloc: Global, words: &[&str]) -> Result<Option<Asked>, NoMemo
         [command, rest @ ..] if *command == "trial" => trial_behind(alloc, rest),
         [command, options @ ..] if *command == "mix" => match frames_behind(alloc, options)? {
             Some(frames) => Ok(Some(Asked::Mix { frames })),
+            None => Ok(None),
+        },
+        [command, options @ ..] if *command == "ipc" => match frames_behind(alloc, options)? {
+            Some(frames) => Ok(Some(Asked::Ipc { frames })),
             None => Ok(None),
         },
         _ => Ok(None),

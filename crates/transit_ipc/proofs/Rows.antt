@@ -1,6 +1,9 @@
--- A fact of each answer of a row, from the fact of its refusals and of its end.
+-- A fact of each answer of a row, from the fact of its refusals and of its end; and which of them it
+-- is.
 use Rattle.std.proofs.Common.{◌≡◌, Bool, true, false, Option, Some, None, refl}
 use Rattle.vm_ids.specs.declared.refusal.Refusal.{Refusal}
+use Rattle.vm_model.specs.Answering as plain
+use Rattle.vm_model.specs.Machine.{Machine}
 use Rattle.transit_ipc.specs.Answering.{Answered, refuse, unless, with_some}
 use Rattle.transit_ipc.specs.PortMachine.{PortMachine}
 
@@ -19,3 +22,25 @@ some_at P o (Some x) r m go e refused goes = goes x e
 
 pub each_some : {A : Type 0} (P : Answered → Type 0) (o : Option A) (r : Refusal) (m : PortMachine) (go : A → Answered) → P (refuse m r) → ((x : A) → o ≡ Some x → P (go x)) → P (with_some o r m go)
 each_some P o r m go refused goes = some_at P o o r m go refl refused goes
+
+-- Which it is
+
+pub refused_where : (bad : Bool) (r : Refusal) (m : PortMachine) (go : Answered) → bad ≡ true → unless bad r m go ≡ refuse m r
+unfolding unless
+refused_where true r m go e = refl
+refused_where false r m go e = absurd (cc e)
+
+pub goes_where : (bad : Bool) (r : Refusal) (m : PortMachine) (go : Answered) → bad ≡ false → unless bad r m go ≡ go
+unfolding unless
+goes_where false r m go e = refl
+goes_where true r m go e = absurd (cc e)
+
+pub plain_refused : (bad : Bool) (r : Refusal) (m : Machine) (go : plain.Answered) → bad ≡ true → plain.unless bad r m go ≡ plain.refuse m r
+unfolding plain.unless
+plain_refused true r m go e = refl
+plain_refused false r m go e = absurd (cc e)
+
+pub plain_goes : (bad : Bool) (r : Refusal) (m : Machine) (go : plain.Answered) → bad ≡ false → plain.unless bad r m go ≡ go
+unfolding plain.unless
+plain_goes false r m go e = refl
+plain_goes true r m go e = absurd (cc e)

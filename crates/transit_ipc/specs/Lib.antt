@@ -1,5 +1,11 @@
 pub mod PortMachine
 pub mod Answering
 pub mod Outcome
+pub mod Stepping
+pub mod Seen
+pub mod Tying
+pub mod Inner
+pub mod Calling
+pub mod Asking
 pub mod Rows
 pub mod Laws

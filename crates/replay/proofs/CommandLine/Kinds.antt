@@ -29,6 +29,7 @@ IsKind words (asks.Run size) = IsWord (codes "run") (λ rest. size_behind run_op
 IsKind words (asks.Generate script) = IsWord (codes "generate") (λ rest. script_of rest ≡ Some script) words
 IsKind words (asks.Trial script frames) = IsWord (codes "trial") (IsTrial script frames) words
 IsKind words (asks.Mix frames) = IsWord (codes "mix") (λ rest. frames_behind rest ≡ Some frames) words
+IsKind words (asks.Ipc frames) = IsWord (codes "ipc") (λ rest. frames_behind rest ≡ Some frames) words
 
 -- what a word asks for is made of what its words are
 mapped : {A : Type 0} (name : List ℕ) (rest : List (List ℕ)) (make : A → Asked) (o : Option A) (asked : Asked) → ((x : A) → o ≡ Some x → IsKind (name ∷ rest) (make x)) → option_map make o ≡ Some asked → IsKind (name ∷ rest) asked
@@ -59,7 +60,8 @@ kind_of_words (command ∷ rest) asked e =
     (λ e. this_or (codes "generate") command rest asked _ _ e (mapped (codes "generate") rest asks.Generate _ asked (λ script is. record { rest = rest; words_are = refl; holds = is }))
     (λ e. this_or (codes "trial") command rest asked _ _ e (trial_is rest asked)
     (λ e. this_or (codes "mix") command rest asked _ _ e (mapped (codes "mix") rest asks.Mix _ asked (λ frames is. record { rest = rest; words_are = refl; holds = is }))
-    (λ e. absurd (cc)))))
+    (λ e. this_or (codes "ipc") command rest asked _ _ e (mapped (codes "ipc") rest asks.Ipc _ asked (λ frames is. record { rest = rest; words_are = refl; holds = is }))
+    (λ e. absurd (cc))))))
 
 -- words whose pages have 4,096 bytes ask for a size, too
 plain_size : (words : List (List ℕ)) (frames : ℕ) → frames_behind words ≡ Some frames → Made (size_behind plain_options words) (λ size. size.frames ≡ frames)
@@ -89,6 +91,11 @@ pub mix_page : (words : List (List ℕ)) (frames : ℕ) → asked_by words ≡ S
 mix_page words frames e =
     let mix = kind_of_words words (asks.Mix frames) e in
     ap page_size_of mix.words_are ∙ plain_page mix.rest frames mix.holds
+
+pub ipc_page : (words : List (List ℕ)) (frames : ℕ) → asked_by words ≡ Some (asks.Ipc frames) → page_size_of words ≡ PAGE
+ipc_page words frames e =
+    let ipc = kind_of_words words (asks.Ipc frames) e in
+    ap page_size_of ipc.words_are ∙ plain_page ipc.rest frames ipc.holds
 
 -- bounds
 
@@ -121,6 +128,9 @@ trial_bounds words script frames e =
 
 pub mix_bounds : (words : List (List ℕ)) (frames : ℕ) → asked_by words ≡ Some (asks.Mix frames) → HasBounds frames PAGE
 mix_bounds words frames e = let mix = kind_of_words words (asks.Mix frames) e in plain_bounds mix.rest frames mix.holds
+
+pub ipc_bounds : (words : List (List ℕ)) (frames : ℕ) → asked_by words ≡ Some (asks.Ipc frames) → HasBounds frames PAGE
+ipc_bounds words frames e = let ipc = kind_of_words words (asks.Ipc frames) e in plain_bounds ipc.rest frames ipc.holds
 
 -- a script has 1 to 1,000,000 lines
 

@@ -19,6 +19,9 @@ tries number lines frames = Some (asks.Trial (record { number = number; lines = 
 abbrev mixes : ℕ → Option Asked
 mixes frames = Some (asks.Mix frames)
 
+abbrev posts : ℕ → Option Asked
+posts frames = Some (asks.Ipc frames)
+
 abbrev line_asks : List ℕ → Option Asked
 line_asks line = asked_by (words_of line)
 
@@ -71,6 +74,10 @@ rows = (codes "run --frames 8", runs 8 4096)
     ∷ (codes "mix --frames 8 --frames 8", None)
     ∷ (codes "mix 0 11 --frames 8", None)
     ∷ (codes "mix --frames 8 --", None)
+    ∷ (codes "ipc --frames 3", posts 3)
+    ∷ (codes "ipc --segments d --frames=65536", posts 65536)
+    ∷ (codes "ipc", None)
+    ∷ (codes "ipc --frames 8 --page 4096", None)
     ∷ (codes "help", None)
     ∷ []
 

@@ -10,6 +10,7 @@ mod lines;
 mod lying;
 mod page_forest;
 mod playing;
+mod ports;
 mod processes;
 mod rows;
 mod segment_rows;

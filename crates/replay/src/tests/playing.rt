@@ -27,7 +27,7 @@ pub(super) fn failing(alloc: Global, fails: &[CallNo]) -> Result<MemoryMapper, N
 }
 
 // No script here writes more bytes.
-const ROOM: usize = 65536;
+pub(super) const ROOM: usize = 65536;
 
 // What these words write for a script over a mapper, by these choices and turns.
 pub(super) fn written_by<C: Chooser, D: Dispatcher>(

@@ -1,13 +1,20 @@
-// Scripts of processes: worked ones, drawn ones beside processes that keep a byte of each page, and
-// calls of the mapper that fail.
-ghost use Rattle.std.specs.Prelude.{◌≡◌, ◌<◌, ◌≤◌, ◌*◌, length, IfOk};
+// Scripts of processes: worked ones, drawn ones beside the machine of processes run plainly, calls
+// of the mapper that fail, and what is left of processes below.
+ghost use Rattle.std.specs.Prelude.{◌≡◌, ◌*◌, length, map, IfOk};
+ghost use Rattle.replay.specs.Commanding.{page_size_of};
 
 use super::draws::Draws;
-use super::playing::{said, text, written};
+use super::playing::{ROOM, said, text, written};
+use crate::processes::Processes;
+use actor_script::{read_mix, write_reply};
+use line_service::{Ended, replay};
+use mix_process::{Mix, PlainProcesses};
+use pull_wait::PullWait;
+use pvm_core::Pvm;
 use std::alloc::Global;
 use std::process::Abort;
-use vm_ids::{NoMemory, PAGE};
-use vm_port::{CallKind, CallNo, MemoryMapper};
+use vm_ids::{Counts, NoMemory, PAGE, Trouble};
+use vm_port::{CallKind, CallNo, Clock, ListedTurns, MemoryMapper, MemorySink, MemorySource};
 
 // The pages of the segment begin with these bytes, and are zeros else.
 const IMAGE: [u8; 5] = [0x7f, 0x41, 0x42, 0x43, 0x44];
@@ -102,6 +109,45 @@ const REFUSED_REPLIES: &str = "1 no NoProcess
 18 no BadAddress
 ";
 
+// Of an image of 1,025 pages 1,024 are text; the first, the last of these and the one behind it
+// begin with these bytes.
+const MUCH_TEXT: &str = "exec 1 1024 1 1
+load p1 400000 1
+load p1 7ff000 1
+load p1 800000 1
+load p1 10000000 1
+exec 1 1025 1 1
+exec 1 1024 2 1
+";
+
+const MUCH_TEXT_REPLIES: &str = "1 ok p1
+2 ok 11
+3 ok 22
+4 no BadAddress
+5 ok 33
+6 no TooLarge
+7 no BadImage
+";
+
+fn much_text(alloc: Global) -> Result<MemoryMapper, NoMemory>
+    ensures { IfOk result (λ m. m.page_bytes ≡ PAGE) }
+{
+    let mut bytes = vec![in alloc; 0u8; 1025 * PAGE]?;
+    bytes[0] = 0x11;
+    bytes[1023 * PAGE] = 0x22;
+    bytes[1024 * PAGE] = 0x33;
+    MemoryMapper::new(alloc, &[bytes], &[], 512, &[], PAGE as u32)
+}
+
+#[test]
+fn a_text_of_1024_pages(rt: HostRuntime) -> Result<(), NoMemory> {
+    let mut mapper = much_text(rt.alloc())?;
+    let words = ["mix", "--frames", "4"];
+    let sink = written(&rt, rt.alloc(), &words, MUCH_TEXT, &mut mapper)?;
+    assert_eq!(&rt; text(&rt, &sink), MUCH_TEXT_REPLIES);
+    Ok(())
+}
+
 #[test]
 fn worked_scripts_of_processes(rt: HostRuntime) -> Result<(), NoMemory> {
     for (script, replies) in [
@@ -116,245 +162,93 @@ fn worked_scripts_of_processes(rt: HostRuntime) -> Result<(), NoMemory> {
     Ok(())
 }
 
-// A process by the first byte of each of its pages.
-#[derive(Drop)]
-struct Plain {
-    text: Vec<u8>,
-    data: Vec<u8>,
-    stack: Vec<u8>,
-}
-
-impl Plain {
-    fn of_image(alloc: Global, behind: usize, stack: usize) -> Result<Plain, NoMemory>
-        requires { behind ≤ 4 }
-    {
-        let mut plain = Plain {
-            text: Vec::new(alloc),
-            data: Vec::new(alloc),
-            stack: Vec::new(alloc),
-        };
-        plain.text.push(IMAGE[0])?;
-        plain.data.extend_from_slice(&IMAGE[1..behind + 1])?;
-        for _ in 0..stack {
-            plain.stack.push(0)?;
-        }
-        Ok(plain)
-    }
-
-    fn forked(&self, alloc: Global) -> Result<Plain, NoMemory> {
-        let mut plain = Plain {
-            text: Vec::new(alloc),
-            data: Vec::new(alloc),
-            stack: Vec::new(alloc),
-        };
-        plain.text.extend_from_slice(&self.text)?;
-        plain.data.extend_from_slice(&self.data)?;
-        plain.stack.extend_from_slice(&self.stack)?;
-        Ok(plain)
-    }
-}
-
-// A drawn line, and what it is to be answered.
-#[derive(Drop)]
-struct Turn {
-    line: String,
-    reply: String,
-}
-
-// An area of a process: where it begins, and what the first bytes of its pages are.
-#[derive(Clone, Copy, PartialEq)]
-enum Area {
-    Text,
-    Data,
-    Stack,
-}
-
-fn area_of(number: u32) -> Area {
-    match number {
-        0 => Area::Text,
-        1 => Area::Stack,
-        _ => Area::Data,
-    }
-}
-
-fn address_of(area: Area, page: u32) -> u64
-    requires { page < 16 }
+// A page that begins with this byte.
+fn page(alloc: Global, first: u8) -> Result<Vec<u8>, NoMemory>
+    ensures { IfOk result (λ v. length v.items ≡ PAGE) }
 {
-    let start = match area {
-        Area::Text => 0x40_0000,
-        Area::Data => 0x1000_0000,
-        Area::Stack => 0x4000_0000,
+    let mut bytes = vec![in alloc; 0u8; PAGE]?;
+    bytes[0] = first;
+    Ok(bytes)
+}
+
+// What the machine of processes answers to a script over that segment, run plainly.
+fn plainly(rt: &impl Abort, alloc: Global, script: &str) -> Result<MemorySink, NoMemory> {
+    let [first, second, third, fourth, fifth] = IMAGE;
+    let held = [
+        page(alloc, first)?,
+        page(alloc, second)?,
+        page(alloc, third)?,
+        page(alloc, fourth)?,
+        page(alloc, fifth)?,
+    ];
+    let mut machine = PlainProcesses::new(alloc);
+    let mut sink = MemorySink::new(alloc, ROOM, &[])?;
+    let mut number = 0u32;
+    for line in script.lines() {
+        number = number.wrapping_add(1);
+        let answer = match read_mix(line.as_bytes()) {
+            Ok(command) => machine.answer(&command, Some(&held))?,
+            Err(refusal) => Err(Trouble::Refused(refusal)),
+        };
+        let wrote = write_reply(number, &answer, &mut sink).is_ok();
+        assert!(rt; wrote);
+    }
+    Ok(sink)
+}
+
+// A drawn address: the first byte, the second or the last of one of eight pages of an area.
+fn drawn_address(draws: &mut Draws) -> u64 {
+    let start = match draws.below(4) {
+        0 => 0x40_0000,
+        1 => 0x4000_0000,
+        _ => 0x1000_0000,
     };
-    start + page as u64 * PAGE as u64
+    let byte = match draws.below(3) {
+        0 => 0,
+        1 => 1,
+        _ => 4095,
+    };
+    start + draws.below(8) as u64 * PAGE as u64 + byte
 }
 
-fn pages_of(process: &mut Plain, area: Area) -> &mut Vec<u8> {
-    match area {
-        Area::Text => &mut process.text,
-        Area::Data => &mut process.data,
-        Area::Stack => &mut process.stack,
-    }
-}
-
-// What a load of the first byte of a page is answered.
-fn load(alloc: Global, process: &mut Plain, area: Area, page: u32) -> Result<String, NoMemory> {
-    match pages_of(process, area).get(page as usize) {
-        Some(byte) => Ok(format!(in alloc; "ok {byte:02x}")?),
-        None => Ok(format!(in alloc; "no BadAddress")?),
-    }
-}
-
-// And a store of it.
-fn store(process: &mut Plain, area: Area, page: u32, byte: u8) -> &'static str {
-    match pages_of(process, area).get_mut(page as usize) {
-        Some(_) if area == Area::Text => "no Protection",
-        Some(place) => {
-            *place = byte;
-            "ok"
-        }
-        None => "no BadAddress",
-    }
-}
-
-// A drawn command of one process, which is alive.
-fn command(
-    alloc: Global,
-    draws: &mut Draws,
-    number: u32,
-    process: &mut Plain,
-) -> Result<Turn, NoMemory> {
-    let area = area_of(draws.below(4));
-    let page = draws.below(6);
-    let address = address_of(area, page);
-    match draws.below(9) {
-        0 => {
-            for _ in 0..page {
-                process.data.push(0)?;
-            }
-            process.data.push(0)?;
-            Ok(Turn {
-                line: format!(in alloc; "grow p{number} {}", page + 1)?,
-                reply: format!(in alloc; "ok")?,
-            })
-        }
-        1..=4 => Ok(Turn {
-            line: format!(in alloc; "load p{number} {address:x} 1")?,
-            reply: load(alloc, process, area, page)?,
-        }),
+fn drawn_line(alloc: Global, draws: &mut Draws) -> Result<String, NoMemory> {
+    let number = draws.below(8) + 1;
+    let pages = draws.below(4) + 1;
+    let few = draws.below(2) + 1;
+    let address = drawn_address(draws);
+    match draws.below(24) {
+        0 => Ok(format!(in alloc; "exec 1 {few} {pages} {few}\n")?),
+        1 | 2 => Ok(format!(in alloc; "fork p{number}\n")?),
+        3 => Ok(format!(in alloc; "exit p{number}\n")?),
+        4 => Ok(format!(in alloc; "grow p{number} {pages}\n")?),
+        5 => Ok(format!(in alloc; "pageout {pages}\n")?),
+        6..=13 => Ok(format!(in alloc; "load p{number} {address:x} {few}\n")?),
         _ => {
-            let byte = draws.below(256) as u8;
-            let reply = store(process, area, page, byte);
-            Ok(Turn {
-                line: format!(in alloc; "store p{number} {address:x} {byte:02x}")?,
-                reply: format!(in alloc; "{reply}")?,
-            })
+            let byte = draws.below(256);
+            Ok(format!(in alloc; "store p{number} {address:x} {byte:02x}\n")?)
         }
     }
 }
 
-// A drawn process that is made: of the image, or as another one is.
-fn make(
-    alloc: Global,
-    draws: &mut Draws,
-    number: u32,
-    processes: &mut Vec<Option<Plain>>,
-) -> Result<Turn, NoMemory> {
-    let made = processes.len() + 1;
-    let parent = match processes.get(number as usize) {
-        Some(Some(parent)) => Some(parent.forked(alloc)?),
-        _ => None,
-    };
-    let (line, process) = match parent {
-        Some(process) => (format!(in alloc; "fork p{}", number as u64 + 1)?, process),
-        None => {
-            let data = draws.below(4) + 1;
-            let stack = draws.below(2) + 1;
-            let line = format!(in alloc; "exec 1 1 {data} {stack}")?;
-            (line, Plain::of_image(alloc, data as usize, stack as usize)?)
-        }
-    };
-    processes.push(Some(process))?;
-    Ok(Turn {
-        line,
-        reply: format!(in alloc; "ok p{made}")?,
-    })
-}
-
-// The next drawn line, played on plain processes.
-fn play(
-    alloc: Global,
-    draws: &mut Draws,
-    processes: &mut Vec<Option<Plain>>,
-) -> Result<Turn, NoMemory> {
-    let number = draws.below(6);
-    let drawn = draws.below(12);
-    if drawn == 0 {
-        return make(alloc, draws, number, processes);
-    }
-    let shown = number + 1;
-    let Some(place) = processes.get_mut(number as usize) else {
-        return Ok(Turn {
-            line: format!(in alloc; "fork p{shown}")?,
-            reply: format!(in alloc; "no NoProcess")?,
-        });
-    };
-    let Some(process) = place else {
-        return Ok(Turn {
-            line: format!(in alloc; "load p{shown} 400000 1")?,
-            reply: format!(in alloc; "no NoProcess")?,
-        });
-    };
-    match drawn {
-        1 => {
-            *place = None;
-            Ok(Turn {
-                line: format!(in alloc; "exit p{shown}")?,
-                reply: format!(in alloc; "ok")?,
-            })
-        }
-        2 => Ok(Turn {
-            line: format!(in alloc; "pageout {shown}")?,
-            reply: format!(in alloc; "ok")?,
-        }),
-        _ => command(alloc, draws, shown, process),
-    }
-}
-
-// A drawn script, and what it is to be answered.
-#[derive(Drop)]
-struct Script {
-    script: String,
-    replies: String,
-}
-
-fn drawn_script(alloc: Global, seed: u64, lines: u32) -> Result<Script, NoMemory>
-    requires { lines ≤ 1000 }
-{
+fn drawn_script(alloc: Global, seed: u64, lines: u32) -> Result<String, NoMemory> {
     let mut draws = Draws { state: seed };
-    let mut processes = Vec::new(alloc);
-    let mut drawn = Script {
-        script: String::new(alloc),
-        replies: String::new(alloc),
-    };
-    for number in 1..lines + 1 {
-        let turn = play(alloc, &mut draws, &mut processes)?;
-        drawn
-            .script
-            .push_str(format!(in alloc; "{}\n", turn.line.as_str())?.as_str())?;
-        drawn.replies.push_str(format!(in alloc; "{number} {}\n", turn.reply.as_str())?.as_str())?;
+    let mut script = format!(in alloc; "exec 1 1 3 2\n")?;
+    for _ in 0..lines {
+        script.push_str(drawn_line(alloc, &mut draws)?.as_str())?;
     }
-    Ok(drawn)
+    Ok(script)
 }
 
 #[test]
 fn drawn_scripts_of_processes(rt: HostRuntime) -> Result<(), NoMemory> {
     for seed in 0..8 {
-        let drawn = drawn_script(rt.alloc(), seed, 150)?;
+        let script = drawn_script(rt.alloc(), seed, 150)?;
+        let plain = plainly(&rt, rt.alloc(), script.as_str())?;
         for frames in ["3", "8"] {
             let mut mapper = images(rt.alloc(), &[])?;
             let words = ["mix", "--frames", frames];
-            let sink = written(&rt, rt.alloc(), &words, drawn.script.as_str(), &mut mapper)?;
-            assert_eq!(&rt; text(&rt, &sink), drawn.replies.as_str(), "{seed}");
+            let sink = written(&rt, rt.alloc(), &words, script.as_str(), &mut mapper)?;
+            assert_eq!(&rt; text(&rt, &sink), text(&rt, &plain), "{seed}");
         }
     }
     Ok(())
@@ -379,31 +273,105 @@ fn without(alloc: Global, script: &str, gone: usize) -> Result<String, NoMemory>
 
 // One call of the mapper fails, the first of its kind, then the second, till none does. Each other
 // line is answered as if there were no line in the place of the one that tells it.
+pub(super) fn fails_in_turn(
+    rt: &impl Abort,
+    alloc: Global,
+    words: &[&str],
+    script: &str,
+    kind: CallKind,
+) -> Result<(), NoMemory>
+    requires { PAGE ≡ page_size_of (map (λ w. w.now) words.now) }
+{
+    for nth in 1..60 {
+        let mut mapper = images(alloc, &[CallNo { kind, nth }])?;
+        let sink = written(rt, alloc, words, script, &mut mapper)?;
+        let replies = text(rt, &sink);
+        let Some(gone) = faulted(replies) else {
+            break;
+        };
+        let left = without(alloc, script, gone)?;
+        let mut mapper = images(alloc, &[])?;
+        let sink = written(rt, alloc, words, left.as_str(), &mut mapper)?;
+        for (reply, other) in replies.lines().zip(text(rt, &sink).lines()) {
+            assert!(rt; reply == other || said(other) == "no BadLine", "{nth}");
+        }
+    }
+    Ok(())
+}
+
 #[test]
 fn calls_of_the_mapper_fail_in_turn(rt: HostRuntime) -> Result<(), NoMemory> {
     let drawn = drawn_script(rt.alloc(), 5, 60)?;
-    let script = drawn.script.as_str();
-    let words = ["mix", "--frames", "3"];
     for kind in [
         CallKind::Size,
         CallKind::PullIn,
         CallKind::SwapIn,
         CallKind::SwapOut,
     ] {
-        for nth in 1..60 {
-            let mut mapper = images(rt.alloc(), &[CallNo { kind, nth }])?;
-            let sink = written(&rt, rt.alloc(), &words, script, &mut mapper)?;
-            let replies = text(&rt, &sink);
-            let Some(gone) = faulted(replies) else {
-                break;
-            };
-            let left = without(rt.alloc(), script, gone)?;
-            let mut mapper = images(rt.alloc(), &[])?;
-            let sink = written(&rt, rt.alloc(), &words, left.as_str(), &mut mapper)?;
-            for (reply, other) in replies.lines().zip(text(&rt, &sink).lines()) {
-                assert!(&rt; reply == other || said(other) == "no BadLine", "{nth}");
-            }
-        }
+        let words = ["mix", "--frames", "3"];
+        fails_in_turn(&rt, rt.alloc(), &words, drawn.as_str(), kind)?;
+    }
+    Ok(())
+}
+
+// A process, 200 forks of drawn ones, each of which stores, and exits of all in a drawn order.
+fn drawn_forks(alloc: Global, draws: &mut Draws) -> Result<String, NoMemory> {
+    let mut script = format!(in alloc; "exec 1 1 3 2\n")?;
+    let mut living = Vec::new(alloc);
+    living.push(1u32)?;
+    for child in 2..202 {
+        let parent = draws.below(child - 1) + 1;
+        let fork = format!(in alloc; "fork p{parent}\nstore p{child} 10001000 62\n")?;
+        script.push_str(fork.as_str())?;
+        living.push(child)?;
+    }
+    while let Some(last) = living.pop() {
+        let place = draws.below(202) as usize;
+        let gone = match living.get_mut(place) {
+            Some(other) => std::mem::replace(other, last),
+            None => last,
+        };
+        script.push_str(format!(in alloc; "exit p{gone}\n")?.as_str())?;
+    }
+    Ok(script)
+}
+
+// What the manager below has when a script has been answered.
+fn counts_below(rt: &impl Abort, alloc: Global, script: &str) -> Result<Counts, NoMemory> {
+    let mut mapper = images(alloc, &[])?;
+    let manager = Pvm::new(alloc, 8, PAGE as u32)?;
+    let mut waits = PullWait::new(alloc)?;
+    let mut processes = Processes {
+        mix: Mix::new::<MemoryMapper, Clock>(alloc, manager),
+    };
+    let mut source = MemorySource::new(script.as_bytes(), &[]);
+    let mut sink = MemorySink::new(alloc, ROOM, &[])?;
+    let ended = replay(
+        &mut processes,
+        &mut mapper,
+        &mut Clock::new(),
+        &mut waits,
+        &mut ListedTurns::new(&[]),
+        &mut source,
+        &mut sink,
+    );
+    assert_eq!(rt; ended, Ended::Done);
+    let refused = text(rt, &sink)
+        .lines()
+        .any(|reply| !said(reply).starts_with("ok"));
+    assert!(rt; !refused);
+    Ok(processes.mix.manager().stat())
+}
+
+// Forks of forks leave the pages of the opened image, and nothing else.
+#[test]
+fn nothing_is_left_of_processes(rt: HostRuntime) -> Result<(), NoMemory> {
+    for seed in 0..3 {
+        let mut draws = Draws { state: seed };
+        let script = drawn_forks(rt.alloc(), &mut draws)?;
+        let counts = counts_below(&rt, rt.alloc(), script.as_str())?;
+        assert_eq!(&rt; counts.live, 5, "{seed}");
+        assert_eq!(&rt; counts.working, 0, "{seed}");
     }
     Ok(())
 }

@@ -3,10 +3,12 @@ use Rattle.replay.specs.declared.asked.Asked.TheVariants as asks
 use Rattle.vm_model.specs.Run.{command_semantics}
 use Rattle.actor_script.specs.Forms.{command_of}
 use Rattle.actor_script.specs.MixForms.{mix_command_of}
+use Rattle.actor_script.specs.PortForms.{port_command_of}
 use Rattle.replay.specs.Ending.{outside_of}
+use Rattle.replay.specs.Posting.{port_semantics}
 use Rattle.replay.specs.Processing.{process_semantics}
-use Rattle.replay.proofs.CommandLine.Kinds.{mix_bounds, mix_page, run_bounds, run_page, trial_bounds, trial_few, trial_page}
-use Rattle.replay.proofs.Promise.{as_asked, asked_holds, bare_start, can_start, complete, ends_at, fits_start, limited, live_start, living_start, mix_ends, of_sink_fault, of_source_fault, run_ends}
+use Rattle.replay.proofs.CommandLine.Kinds.{ipc_bounds, ipc_page, mix_bounds, mix_page, run_bounds, run_page, trial_bounds, trial_few, trial_page}
+use Rattle.replay.proofs.Promise.{as_asked, asked_holds, bare_ports, bare_start, can_start, complete, ends_at, fits_start, limited, live_start, living_start, mix_ends, of_sink_fault, of_source_fault, port_ends, run_ends}
 use Rattle.replay.proofs.Trials.{trial_ends}
 use Rattle.replay.proofs.top.run.Goals as goal
 
@@ -129,3 +131,40 @@ returns-in-Ok-new-5-clause-complete g c = λ short reads readable writes writabl
     complete process_semantics mix_command_of c.of-in-Mix.result _ _ _ _ _ _ _ _ (ends_at process_semantics mix_command_of c.of-in-Mix.result c.replay-ended.result _ _ _ _ c.of-in-Mix.ensures c.replay-ended.ensures.ends)
     (λ f. c.replay-ended.ensures.source_fault (of_source_fault c.replay-ended.result (sym c.of-in-Mix.ensures ∙ f)))
     (λ f. c.replay-ended.ensures.sink_fault (of_sink_fault c.replay-ended.result (sym c.of-in-Mix.ensures ∙ f))) few reads readable writes writable
+
+pub new-requires-in-Ipc-clause-few : goal.new-requires-in-Ipc-clause-few
+new-requires-in-Ipc-clause-few g c = (ipc_bounds _ c.in-Ipc.frames (sym c.in-Ok-Some.ensures ∙ c.in-Ok-Some.field-0-is ∙ ap Some c.in-Ipc.is)).few
+
+pub new-requires-in-Ipc-clause-frames : goal.new-requires-in-Ipc-clause-frames
+new-requires-in-Ipc-clause-frames g c = (ipc_bounds _ c.in-Ipc.frames (sym c.in-Ok-Some.ensures ∙ c.in-Ok-Some.field-0-is ∙ ap Some c.in-Ipc.is)).frames
+
+pub replay-outcome-requires-clause-able : goal.replay-outcome-requires-clause-able
+replay-outcome-requires-clause-able g c =
+    let M = g.M.Mapper in
+    let told = M.held c.args.mapper.now in
+    let frames = c.in-Ipc.frames in
+    can_start _ M _ c.args.mapper.now _ c.in-Ok-new-7.ensures
+    (c.new-in-Ipc-3.ensures.can told (M.page_bytes c.args.mapper.now)
+    (bare_ports _ _ told (M.page_bytes c.args.mapper.now) frames _ (c.in-Ok-new-6.ensures.valid told) refl c.requires (ipc_page _ frames (sym c.in-Ok-Some.ensures ∙ c.in-Ok-Some.field-0-is ∙ ap Some c.in-Ipc.is)) (c.in-Ok-new-6.ensures.machine told)))
+    (search rules)
+
+pub returns-in-Ok-new-7-clause-ends : goal.returns-in-Ok-new-7-clause-ends
+returns-in-Ok-new-7-clause-ends g c = λ some.
+    let M = g.M.Mapper in
+    let K = g.K.Sink in
+    let D = g.D.Dispatcher in
+    let told = M.held c.args.mapper.now in
+    as_asked (asks.Ipc c.in-Ipc.frames) _ _ (sym (ap Some c.in-Ipc.is) ∙ sym c.in-Ok-Some.field-0-is ∙ c.in-Ok-Some.ensures)
+    (port_ends c.of-in-Ipc.result c.in-Ipc.frames (outside_of M c.args.mapper.now (D.turns c.args.dispatcher.now) (K.written c.args.sink.now)) (outside_of M c.replay-outcome.new.mapper (D.turns c.replay-outcome.new.dispatcher) (K.written c.replay-outcome.new.sink)) _ _
+    _ _ _ (c.new-in-Ipc-3.ensures.begins told) (c.in-Ok-new-6.ensures.machine told)
+    (ends_at port_semantics port_command_of c.of-in-Ipc.result c.replay-outcome.result _ _ _ _ c.of-in-Ipc.ensures c.replay-outcome.ensures.ends))
+
+pub returns-in-Ok-new-7-clause-too_long_exactly : goal.returns-in-Ok-new-7-clause-too_long_exactly
+returns-in-Ok-new-7-clause-too_long_exactly g c = limited port_semantics port_command_of c.of-in-Ipc.result _ _ _ _ (ends_at port_semantics port_command_of c.of-in-Ipc.result c.replay-outcome.result _ _ _ _ c.of-in-Ipc.ensures c.replay-outcome.ensures.ends)
+
+pub returns-in-Ok-new-7-clause-complete : goal.returns-in-Ok-new-7-clause-complete
+returns-in-Ok-new-7-clause-complete g c = λ short reads readable writes writable.
+    let few = asked_holds (asks.Ipc c.in-Ipc.frames) _ _ (sym (ap Some c.in-Ipc.is) ∙ sym c.in-Ok-Some.field-0-is ∙ c.in-Ok-Some.ensures) short in
+    complete port_semantics port_command_of c.of-in-Ipc.result _ _ _ _ _ _ _ _ (ends_at port_semantics port_command_of c.of-in-Ipc.result c.replay-outcome.result _ _ _ _ c.of-in-Ipc.ensures c.replay-outcome.ensures.ends)
+    (λ f. c.replay-outcome.ensures.source_fault (of_source_fault c.replay-outcome.result (sym c.of-in-Ipc.ensures ∙ f)))
+    (λ f. c.replay-outcome.ensures.sink_fault (of_sink_fault c.replay-outcome.result (sym c.of-in-Ipc.ensures ∙ f))) few reads readable writes writable

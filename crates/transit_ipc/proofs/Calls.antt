@@ -1,0 +1,146 @@
+-- After a call of the manager the ports can call it again.
+use Rattle.std.proofs.Common.{◌≡◌, ℕ, ◌+◌, ◌*◌, ◌≤◌, true, List, Option, Some, None, refl, sym, ap, subst, ◌∙◌, arith}
+use Rattle.std.specs.Prelude.{is_some, Ok, Err}
+use Rattle.vm_ids.specs.Held.{Segments, segments_of}
+use Rattle.vm_ids.specs.declared.command.Command.{Command}
+use Rattle.vm_ids.specs.declared.command.Command.TheVariants.{Map}
+use Rattle.vm_ids.specs.declared.command.Mapping.{Mapping}
+use Rattle.vm_ids.specs.declared.command.PortCommand.TheVariants.{Plain}
+use Rattle.vm_ids.specs.declared.numbers.ActorId.{ActorId}
+use Rattle.vm_ids.specs.declared.reply.Trouble.TheVariants as troubles
+use Rattle.vm_model.specs.Answering.{Answer}
+use Rattle.vm_model.specs.Machine.{Machine, live_pages}
+use Rattle.vm_model.specs.Outcome as plain
+use Rattle.vm_model.specs.Outcome.{OutcomeAt}
+use Rattle.vm_model.specs.PageForest.{PageForest}
+use Rattle.vm_model.specs.Run.{CallIs}
+use Rattle.vm_model.specs.Run as vm_run
+use Rattle.vm_model.specs.declared.limits.TheConstants.{LIVE_PAGES}
+use Rattle.vm_model.proofs.Outcomes.Kept.{IsKept, kept}
+use Rattle.vm_port.specs.declared.traits.mapper.Mapper.{Ghosts as GhostsOfMapper}
+use Rattle.gmi_calls.specs.Calling.{CallDone, Fits, MapperCall, RaisesMade}
+use Rattle.gmi_calls.specs.Managing.{meanings_of}
+use Rattle.gmi_calls.specs.Room.{CallWithin}
+use Rattle.gmi_calls.specs.declared.gmi.Gmi.{Ghosts as GhostsOfGmi}
+use Rattle.gmi_calls.proofs.Still.{without_mapper}
+use Rattle.transit_ipc.specs.Calling.{IsServed, PortCall}
+use Rattle.transit_ipc.specs.Inner.{mapping_shown}
+use Rattle.transit_ipc.specs.Tying.{AreAble, AreTied, CanCall}
+use Rattle.transit_ipc.specs.declared.port.Port.{Port}
+use Rattle.transit_ipc.specs.declared.ports.Ports.{Ports}
+use Rattle.transit_ipc.proofs.Emptying.{blank_after}
+use Rattle.transit_ipc.proofs.Followed.{IsFollowed, tied_blank, tied_followed, tied_whole}
+use Rattle.transit_ipc.proofs.Passed.{IsNoMap, IsPassed, map_passed, outcome_follows, outcome_passed, passed}
+use Rattle.transit_ipc.proofs.Untold.{segments_stay, step_called}
+
+unlimited_still : (before now : Option ℕ) → before ≡ None → is_some now ≡ is_some before → now ≡ None
+unlimited_still before None e h = refl
+unlimited_still before (Some n) e h = absurd (let yes : true ≡ is_some before = h in cc (yes, ap is_some e))
+
+fits_still : (told now : Option ℕ) (m next : Machine) → now ≡ told → next.page_bytes ≡ m.page_bytes → Fits told m → Fits now next
+fits_still told now m next same page fits = subst (λ (o : Option ℕ). Fits o next) (sym same) (go told fits)
+  where
+    go : (told : Option ℕ) → Fits told m → Fits told next
+    go None fits = fits
+    go (Some n) fits = fits ∙ sym page
+
+-- One call of the manager raises the number that bounds its counters by no more than this.
+abbrev pub one_call : ℕ
+one_call = 32 * LIVE_PAGES + 8
+
+raised : (m n : Machine) (c : Command) (a : Answer) (before now : ℕ) → live_pages m ≤ LIVE_PAGES → IsKept m c a n → RaisesMade m c a n before now → now ≤ before + one_call
+raised m n c (Ok r) before now few k made = omega (arith, made, k.touched few tt, k.live few)
+raised m n c (Err (troubles.Refused r)) before now few k made = omega (arith, made)
+raised m n c (Err (troubles.Mapper at)) before now few k made = omega (arith, made, k.touched few tt, k.live few)
+raised m n c (Err troubles.Memory) before now few k made = omega (arith, made, k.touched few tt, k.live few)
+
+module _ {Manager X Chooser : Type 0} (M : GhostsOfMapper X) (G : GhostsOfGmi Manager X Chooser) (old gmi : Manager) (before after : X) (c : Command) (a : Answer) (ports : List Port)
+    (can : AreAble G old (M.held before) (M.page_bytes before) ports) (call : MapperCall M (meanings_of G) before old c a after gmi) where
+  abbrev pub m : Machine
+  m = G.machine old (M.held before)
+
+  abbrev pub n : Machine
+  n = G.machine gmi (M.held after)
+
+  abbrev pub call_is : CallIs (M.counts before) (M.counts after) (vm_run.state_of G.machine G.forest old (M.held before)) c a (vm_run.state_of G.machine G.forest gmi (M.held after))
+  call_is = subst (λ (room : Option ℕ). CallWithin room (M.counts before) (M.counts after) (vm_run.state_of G.machine G.forest old (M.held before)) c a (vm_run.state_of G.machine G.forest gmi (M.held after))) can.unlimited call.answers
+
+  keeps : IsKept m c a n
+  keeps = kept (segments_of (M.held after)) m n (G.forest old (M.held before)) c a call_is.rises call_is.is.outcome
+
+  pub made_after : G.made gmi ≤ G.made old + one_call
+  made_after = raised m n c a (G.made old) (G.made gmi) can.live keeps call.made
+
+  -- no segment changes
+  pub segments_after : segments_of (M.held after) ≡ segments_of (M.held before)
+  segments_after = segments_stay m ports can.tied (segments_of (M.held before)) (segments_of (M.held after)) call_is.pushes call_is.is.pushed
+
+  -- the ports that are tied to the manager as it is then can call it
+  pub able_after : (later : List Port) → AreTied n later → AreAble G gmi (M.held after) (M.page_bytes after) later
+  able_after later tied = record {
+    valid = call.valid;
+    unlimited = unlimited_still (G.room old) (G.room gmi) can.unlimited call.room;
+    fits = fits_still (M.page_bytes before) (M.page_bytes after) m n call.page keeps.page can.fits;
+    live = keeps.live can.live;
+    tied = tied;
+    blank = blank_after (M.held after) m n (G.forest old (M.held before)) c a call_is.rises call_is.is.outcome;
+  }
+
+  -- The ports stay tied where they do with bytes.
+  pub tied_after : ((x y : Machine) → AreTied x ports → (h : Segments) (b : Answer) → plain.Outcome x (G.forest old (M.held before)) c h b y call_is.rises → IsFollowed ports x y) → AreTied n ports
+  tied_after follows = go (segments_of (M.held after)) call_is.is.outcome
+    where
+      then_tied : (x y : Machine) → AreTied x ports → (h : Segments) (b : Answer) → plain.Outcome x (G.forest old (M.held before)) c h b y call_is.rises → AreTied y ports
+      then_tied x y tied h b o = tied_followed ports x y tied (follows x y tied h b o)
+
+      go : (told : Option Segments) → OutcomeAt told m (G.forest old (M.held before)) c a n call_is.rises → AreTied n ports
+      go None o =
+          let tied : AreTied o.whole ports = tied_whole ports o.whole (subst (λ (x : Machine). AreTied x ports) o.is can.tied) in
+          subst (λ (x : Machine). AreTied x ports) (sym o.is_next) (tied_blank ports o.whole_next (then_tied o.whole o.whole_next tied o.segments o.whole_answer o.outcome))
+      go (Some h) o = then_tied m n can.tied h a o
+
+-- A command is passed on to the manager.
+module _ {Manager X Chooser : Type 0} (M : GhostsOfMapper X) (G : GhostsOfGmi Manager X Chooser) (old : Ports Manager) (gmi : Manager) (before after : X) (c : Command) (a : Answer)
+    (can : CanCall G old (M.held before) (M.page_bytes before)) (call : MapperCall M (meanings_of G) before old.gmi c a after gmi) where
+  abbrev ports : List Port
+  ports = old.ports.items
+
+  pub call_passed : (command : Command) → ((x : Machine) → AreTied x ports → IsPassed ports x c command) → PortCall M G before old (Plain command) a after (record old { gmi = gmi })
+  call_passed command passed =
+      let it = call_is M G old.gmi gmi before after c a ports can call in
+      let f : Option PageForest = G.forest old.gmi (M.held before) in
+      let tied : AreTied (G.machine gmi (M.held after)) ports = tied_after M G old.gmi gmi before after c a ports can call
+      (λ x y tied h b o. outcome_follows ports x y tied c command f h b it.rises (passed x tied) o) in
+      record {
+        can = able_after M G old.gmi gmi before after c a ports can call ports tied;
+        made = omega (arith, made_after M G old.gmi gmi before after c a ports can call);
+        rises = it.rises;
+        rose = it.rose;
+        is = record {
+          step = step_called (segments_of (M.held before)) (segments_of (M.held after)) (G.machine old.gmi (M.held before)) (G.machine gmi (M.held after)) ports ports can.tied f c a it.rises (Plain command)
+              (λ x y tied h b o. outcome_passed ports x y c command f h b it.rises (passed x tied) o) it.is.outcome;
+          segments = segments_after M G old.gmi gmi before after c a ports can call;
+        };
+      }
+
+-- The commands of a script
+
+no_map : (command : Command) → ((actor : ActorId) (p : Mapping) → command ≡ Map actor p → ⊥) → IsNoMap command
+no_map (Map actor p) other = other actor p refl
+no_map command other = tt
+
+module _ {Manager X Chooser : Type 0} (M : GhostsOfMapper X) (G : GhostsOfGmi Manager X Chooser) (old : Ports Manager) (before : X) (can : CanCall G old (M.held before) (M.page_bytes before)) where
+  -- a map takes no mapper
+  pub map_called : (new : Ports Manager) (command : Command) (actor : ActorId) (p : Mapping) (a : Answer) → command ≡ Map actor p
+      → CallDone (meanings_of G) old.gmi (Map actor (mapping_shown old.ports.items p)) a new.gmi → new ≡ record old { gmi = new.gmi } → PortCall M G before old (Plain command) a before new
+  map_called new command actor p a is done same =
+      subst (λ (c : Command). PortCall M G before old (Plain c) a before new) (sym is)
+      (subst (λ (next : Ports Manager). PortCall M G before old (Plain (Map actor p)) a before next) (sym same)
+      (call_passed M G old new.gmi before before (Map actor (mapping_shown old.ports.items p)) a can
+      (without_mapper M (meanings_of G) before old.gmi can.valid (Map actor (mapping_shown old.ports.items p)) a new.gmi done)
+      (Map actor p) (λ x tied. map_passed old.ports.items x tied actor p)))
+
+  pub other_called : (gmi : Manager) (after : X) (command : Command) (a : Answer) → IsServed command → ((actor : ActorId) (p : Mapping) → command ≡ Map actor p → ⊥)
+      → MapperCall M (meanings_of G) before old.gmi command a after gmi → PortCall M G before old (Plain command) a after (record old { gmi = gmi })
+  other_called gmi after command a served other call =
+      call_passed M G old gmi before after command a can call command (λ x tied. passed old.ports.items x tied command served (no_map command other))

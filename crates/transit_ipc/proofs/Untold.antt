@@ -1,0 +1,78 @@
+-- Steps of ports where the mapper doesn't tell what it holds, and what is told after a call.
+use Rattle.std.proofs.Common.{◌≡◌, ◌==◌, ℕ, suc, ◌-◌, false, cond, List, [], ◌∷◌, Option, Some, None, refl, ap, subst, ◌∙◌, arith}
+use Rattle.std.specs.Prelude.{IsSome, option_and_then, slice_get}
+use Rattle.std.specs.Option.{option_map_or}
+use Rattle.vm_ids.specs.Counting.{MapperCounts}
+use Rattle.vm_ids.specs.Held.{Segments}
+use Rattle.vm_ids.specs.declared.command.Command.{Command}
+use Rattle.vm_ids.specs.declared.command.PortCommand.{PortCommand}
+use Rattle.vm_model.specs.Answering.{Answer}
+use Rattle.vm_model.specs.Machine.{Cache, Machine, cache_named}
+use Rattle.vm_model.specs.Outcome as plain
+use Rattle.vm_model.specs.Outcome.{IsAlike, OutcomeAt, blank, blank_cache}
+use Rattle.vm_model.specs.PageForest.{PageForest}
+use Rattle.vm_model.specs.Pushing.{PushRule, page_named, segments_after}
+use Rattle.vm_model.proofs.Parts.ListParts.{at_some}
+use Rattle.gmi_calls.specs.Untold.{UntoldStep}
+use Rattle.transit_ipc.specs.Outcome.{Outcome}
+use Rattle.transit_ipc.specs.Seen.{ports_seen}
+use Rattle.transit_ipc.specs.Stepping.{StepAt, forget}
+use Rattle.transit_ipc.specs.Tying.{AreTied}
+use Rattle.transit_ipc.specs.declared.port.Port.{Port}
+use Rattle.transit_ipc.proofs.Emptying.{over, seen_blank}
+use Rattle.transit_ipc.proofs.Followed.{tied_whole}
+
+-- Machines without bytes, by those with bytes
+
+over_blank : (told : Option Segments) (m w : Machine) (ports : List Port) → m ≡ blank w → over told m ports ≡ forget (over told w ports)
+over_blank told m w ports is = ap (λ (x : Machine). over told x ports) is ∙ (λ i. record { ports = seen_blank w ports i; segments = told })
+
+-- A step between machines without bytes, by one of machines with bytes that these are but for them.
+pub step_untold : (before now : Option Segments) (m n w next : Machine) (ports later : List Port) (command : PortCommand) (a b : Answer) (h : Segments) (rises : MapperCounts)
+    → m ≡ blank w → n ≡ blank next → IsAlike b a → Outcome (ports_seen w ports) command h b (ports_seen next later) rises
+    → UntoldStep forget (λ h whole x after. Outcome whole.ports command h x after.ports rises) (over before m ports) a (over now n later)
+step_untold before now m n w next ports later command a b h rises is is_next alike leads = record {
+  whole = over before w ports;
+  whole_next = over now next later;
+  segments = h;
+  whole_answer = b;
+  is = over_blank before m w ports is;
+  is_next = over_blank now n next later is_next;
+  alike = alike;
+  leads = leads;
+}
+
+-- One call of the manager that is the whole step: where a machine to which the ports are tied has
+-- the outcome of the call, it is that of the ports.
+pub step_called : (before now : Option Segments) (m n : Machine) (ports later : List Port) → AreTied m ports → (f : Option PageForest) (c : Command) (a : Answer) (rises : MapperCounts) (command : PortCommand)
+    → ((x y : Machine) → AreTied x ports → (h : Segments) (b : Answer) → plain.Outcome x f c h b y rises → Outcome (ports_seen x ports) command h b (ports_seen y later) rises)
+    → OutcomeAt now m f c a n rises → StepAt now (over before m ports) command a rises (over now n later)
+step_called before None m n ports later tied f c a rises command leads o =
+    step_untold before None m n o.whole o.whole_next ports later command a o.whole_answer o.segments rises o.is o.is_next o.alike
+    (leads o.whole o.whole_next (tied_whole ports o.whole (subst (λ (x : Machine). AreTied x ports) o.is tied)) o.segments o.whole_answer o.outcome)
+step_called before (Some h) m n ports later tied f c a rises command leads o = leads m n tied h a o
+
+-- No segment changes
+
+none_named : (seg : ℕ) (cs : List (Option Cache)) → ((i : ℕ) (c : Cache) → slice_get cs i ≡ Some (Some c) → c.segment ≡ None) → cache_named cs seg ≡ None
+none_named seg [] temporary = refl
+none_named seg (None ∷ cs) temporary = none_named seg cs (λ i c e. temporary (suc i) c e)
+none_named seg (Some c ∷ cs) temporary =
+    ap (λ (o : Option ℕ). cond (option_map_or (λ s. s == seg) o false) (Some c) (cache_named cs seg)) (temporary 0 c refl)
+    ∙ none_named seg cs (λ i c e. temporary (suc i) c e)
+
+module _ (m : Machine) (ports : List Port) (tied : AreTied m ports) where
+  no_segment : (i : ℕ) (c : Cache) → slice_get m.caches i ≡ Some (Some c) → c.segment ≡ None
+  no_segment i c e = tied.temporary (suc i) c (at_some m.caches (suc i) (omega arith) ∙ ap (option_and_then (λ (x : Option Cache). x)) (ap (slice_get m.caches) (let k : suc i - 1 ≡ i = omega arith in k) ∙ e))
+
+  no_page : (seg page : ℕ) → page_named m seg page ≡ None
+  no_page seg page = ap (option_and_then (λ (c : Cache). slice_get c.pages page)) (none_named seg m.caches no_segment)
+
+  after_none : (pushes : List (ℕ × ℕ)) → segments_after m pushes None ≡ None
+  after_none [] = refl
+  after_none (p ∷ ps) = after_none ps
+
+  pub segments_stay : (before now : Option Segments) (pushes : List (ℕ × ℕ)) → PushRule m before pushes now → now ≡ before
+  segments_stay None now pushes rule = rule.pushed ∙ after_none pushes
+  segments_stay (Some s) now [] rule = rule.pushed
+  segments_stay (Some s) now (p ∷ ps) rule = absurd (let wrong : IsSome (let none : Option (List ℕ) = None in none) = subst IsSome (no_page p.0 p.1) rule.may.0.0 in cc wrong)

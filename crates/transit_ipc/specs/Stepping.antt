@@ -1,0 +1,48 @@
+-- One answer after another of ports: what there is between two, and how one leads on.
+use Rattle.std.specs.Prelude.{◌≡◌, [], map, Option, Some, None}
+use Rattle.vm_ids.specs.Counting.{MapperCounts}
+use Rattle.vm_ids.specs.Held.{Segments}
+use Rattle.vm_ids.specs.declared.command.PortCommand.{PortCommand}
+use Rattle.vm_model.specs.Answering.{Answer}
+use Rattle.vm_model.specs.Machine.{Page}
+use Rattle.vm_model.specs.Outcome.{blank}
+use Rattle.gmi_calls.specs.Untold.{UntoldStep}
+use Rattle.transit_ipc.specs.Outcome.{Outcome}
+use Rattle.transit_ipc.specs.PortMachine.{Message, Port, PortMachine}
+
+-- What there is between two answers: the ports over plain caches, and the mapper's segments where
+-- they are told.
+pub record State : Type 0 where
+  pub ports : PortMachine
+  pub segments : Option Segments
+
+abbrev pub no_bytes : Page → Page
+no_bytes page = []
+
+abbrev pub blank_message : Message → Message
+blank_message message = map no_bytes message
+
+abbrev pub blank_port : Port → Port
+blank_port p = record p { messages = map blank_message p.messages }
+
+-- the machine without the bytes of its pages
+abbrev pub blank_ports : PortMachine → PortMachine
+blank_ports m = record { memory = blank m.memory; ports = map blank_port m.ports }
+
+-- the state without the bytes of its pages
+abbrev pub forget : State → State
+forget s = record s { ports = blank_ports s.ports }
+
+-- One answer, where the mapper tells what it holds and where it doesn't.
+abbrev pub StepAt : Option Segments → State → PortCommand → Answer → MapperCounts → State → Type 0
+StepAt None before command answer rises after =
+    UntoldStep forget (λ h whole a next. Outcome whole.ports command h a next.ports rises) before
+    answer after
+StepAt (Some h) before command answer rises after =
+    Outcome before.ports command h answer after.ports rises
+
+-- One answer of the ports over a manager. No segment changes.
+pub record AnswerIs (before : State) (command : PortCommand) (answer : Answer)
+    (rises : MapperCounts) (after : State) : Type 0 where
+  pub step : StepAt after.segments before command answer rises after
+  pub segments : after.segments ≡ before.segments
