@@ -9,21 +9,23 @@ use Rattle.vm_model.specs.Machine as model
 use Rattle.vm_model.specs.declared.limits.TheConstants.{MOST_MADE}
 use Rattle.regions.specs.AddressSpace.{AddressSpace}
 use Rattle.contexts.specs.Actors.{times_among}
-use Rattle.contexts.specs.Layout.{IsChanged, IsKept, IsSound, owner_of}
+use Rattle.contexts.specs.Layout.{IsChanged, IsKept, IsListed, IsSound, owner_of}
 use Rattle.contexts.specs.declared.contexts.Contexts.TheInside.{Inside}
 use Rattle.contexts.proofs.Owners.{IsFor, kept_before, owner_before, owner_next}
 use Rattle.contexts.proofs.Once.{AreOnce, once_more}
 use Rattle.contexts.proofs.Places.{Numbered}
-use Rattle.contexts.proofs.Kept.{changed_kept, changed_living}
+use Rattle.contexts.proofs.Kept.{changed_kept, changed_listed, changed_living}
+use Rattle.contexts.proofs.Listing.{listed_same}
 
-module _ (i j : Inside) (k : IsSound i) (page : j.page ≡ i.page) (living : j.living ≡ i.living) where
+module _ (i j : Inside) (k : IsSound i) (page : j.page ≡ i.page) (living : j.living.items ≡ i.living.items) where
   sound_changed : (a : ℕ) (by : model.Actor → model.Actor) (e : IsChanged a by i.actors.items j.actors.items) → length j.owners.items ≤ MOST_MADE
       → ((n : ℕ) (s : AddressSpace) → IsKept i.page i.owners.items n s → IsKept i.page j.owners.items n s) → (All (IsFor i.owners.items a) e.space.regions → All (IsFor j.owners.items a) (by e.space.regions))
       → (All (IsFor i.owners.items a) e.space.regions → AreOnce e.space.regions → AreOnce (by e.space.regions)) → IsSound j
   sound_changed a by e few weaker this once = record {
     some = subst (λ (p : ℕ). 1 ≤ p) (sym page) k.some;
     most = subst (λ (p : ℕ). p ≤ 2 ^ 16) (sym page) k.most;
-    living = living ∙ k.living ∙ sym (changed_living a by i.actors.items j.actors.items e);
+    living = ap length living ∙ k.living ∙ sym (changed_living a by i.actors.items j.actors.items e);
+    listed = subst (λ (l : List ActorId). IsListed l j.actors.items) (sym living) (changed_listed a by i.actors.items j.actors.items e i.living.items k.listed);
     few = few;
     kept = subst (λ (p : ℕ). Numbered (IsKept p j.owners.items) j.actors.items) (sym page)
         (changed_kept a by i.actors.items j.actors.items e i.page i.owners.items j.owners.items weaker this once k.kept);
@@ -34,7 +36,8 @@ module _ (i j : Inside) (k : IsSound i) (page : j.page ≡ i.page) (living : j.l
   sound_still actors owners = record {
     some = subst (λ (p : ℕ). 1 ≤ p) (sym page) k.some;
     most = subst (λ (p : ℕ). p ≤ 2 ^ 16) (sym page) k.most;
-    living = living ∙ k.living ∙ sym (ap (count_by is_some) actors);
+    living = ap length living ∙ k.living ∙ sym (ap (count_by is_some) actors);
+    listed = listed_same i.living.items j.living.items i.actors.items j.actors.items living actors k.listed;
     few = subst (λ (os : List ActorId). length os ≤ MOST_MADE) (sym owners) k.few;
     kept = subst (λ (xs : List (Option AddressSpace)). Numbered (IsKept j.page j.owners.items) xs) (sym actors)
         (subst (λ (os : List ActorId). Numbered (IsKept j.page os) i.actors.items) (sym owners)

@@ -1,5 +1,5 @@
 // Actors under their numbers.
-ghost use Rattle.std.specs.Prelude.{◌≡◌, ℕ, ◌+◌, ◌-◌, ◌≤◌, ◌<◌, ◌^◌, [], ◌∷◌, ◌++◌, true, false, is_some, map, None, Some, Err, length, slice_set, option_map, IfOk, IfSome, IsSome, IsSomeAnd, OnErr, OnOk, MatchOption, MatchResult};
+ghost use Rattle.std.specs.Prelude.{◌≡◌, ◌≢◌, ◌==◌, ℕ, ◌+◌, ◌-◌, ◌≤◌, ◌<◌, ◌^◌, [], ◌∷◌, ◌++◌, true, false, is_some, map, None, Some, Err, length, slice_set, option_map, position, IfOk, IfSome, IsSome, IsSomeAnd, OnErr, OnOk, MatchOption, MatchResult};
 ghost use Rattle.std.specs.List.{list_any};
 ghost use Rattle.vm_ids.specs.declared.refusal.Refusal.TheVariants.{TooMany};
 ghost use Rattle.vm_ids.specs.declared.reply.Trouble.TheVariants.{Memory, Refused};
@@ -9,7 +9,7 @@ ghost use Rattle.vm_model.specs.Regions.{region_with, replace_in, status_with, w
 ghost use Rattle.vm_model.specs.Machine.{numbered};
 ghost use Rattle.vm_model.specs.Place.{place_of_actor};
 ghost use Rattle.contexts.specs.Actors.{has_region, holder_of, is_full, next_region, region_count, split_refusal, times_made, with_region, with_split};
-ghost use Rattle.contexts.specs.Layout.{owner_of};
+ghost use Rattle.contexts.specs.Layout.{owner_of, times_listed};
 
 use crate::spaces::{
     add_region, lock_region, maps_any, protect_region, remove_region, split_region,
@@ -19,6 +19,13 @@ use std::alloc::Global;
 use std::marker::Model;
 use vm_ids::{ActorId, CacheId, Mapping, NoMemory, Prot, Refusal, RegionId, RegionStatus, Trouble};
 use vm_model::{LIVING_ACTORS, MOST_MADE, numbered};
+
+// The place of an actor in a list.
+fn place_in(listed: &[ActorId], actor: ActorId) -> Option<usize>
+    ensures { result ≡ position (λ a. a.0 == actor.0) listed.now }
+{
+    listed.iter().position(|other| other.0 == actor.0)
+}
 
 // The actor for which a region was made.
 fn owner_in(owners: &[ActorId], region: RegionId) -> Option<ActorId>
@@ -30,6 +37,21 @@ fn owner_in(owners: &[ActorId], region: RegionId) -> Option<ActorId>
     owners.get(region.0 as usize - 1).copied()
 }
 
+// Takes an actor off a list that has it.
+fn strike(listed: &mut Vec<ActorId>, actor: ActorId)
+    requires { 1 ≤ times_listed actor.0 listed.old.items }
+    ensures shorter { length listed.new.items + 1 ≡ length listed.old.items }
+    ensures others { (n : ℕ) → n ≢ actor.0
+        → times_listed n listed.new.items ≡ times_listed n listed.old.items }
+{
+    match place_in(listed, actor) {
+        Some(place) => {
+            listed.remove(place);
+        }
+        None => unreachable!(),
+    }
+}
+
 /// The actors made so far, each with its regions while it is alive.
 #[derive(Drop)]
 pub struct Contexts {
@@ -37,7 +59,8 @@ pub struct Contexts {
     page: u32,
     // Actors stand at their number less 1.
     actors: Vec<Option<RegionMap>>,
-    living: u32,
+    // The living actors, in the order of making.
+    living: Vec<ActorId>,
     // The actor of region n stands at place n less 1, also when the region is gone.
     owners: Vec<ActorId>,
 }
@@ -67,7 +90,7 @@ impl Contexts {
             alloc,
             page,
             actors: Vec::new(alloc),
-            living: 0,
+            living: Vec::new(alloc),
             owners: Vec::new(alloc),
         }
     }
@@ -106,6 +129,13 @@ impl Contexts {
         numbered(&self.actors, actor.0)
     }
 
+    // Whether no more actors can be made.
+    fn is_full(&self) -> bool
+        ensures { result ≡ is_full self.now }
+    {
+        self.living.len() >= LIVING_ACTORS as usize || self.actors.len() >= MOST_MADE as usize
+    }
+
     /// Makes an actor without regions. `TooMany` exactly where 256 actors are alive or 65,535 were
     /// made, and after an error everything is as it was.
     pub fn make(&mut self) -> Result<ActorId, Trouble>
@@ -116,8 +146,12 @@ impl Contexts {
             (self.new ≡ record self.old { actors = self.old.actors ++ Some [] ∷ [] }) }
         ensures err { OnErr result (self.new ≡ self.old) }
     {
-        if self.living >= LIVING_ACTORS || self.actors.len() >= MOST_MADE as usize {
+        if self.is_full() {
             return Err(Trouble::Refused(Refusal::TooMany));
+        }
+        match self.living.reserve(1) {
+            Ok(()) => {}
+            Err(_) => return Err(Trouble::Memory),
         }
         match self
             .actors
@@ -126,8 +160,9 @@ impl Contexts {
             Ok(()) => {}
             Err(_) => return Err(Trouble::Memory),
         }
-        self.living += 1;
-        Ok(ActorId(self.actors.len() as u32))
+        let made = ActorId(self.actors.len() as u32);
+        self.living.push_reserved(made);
+        Ok(made)
     }
 
     /// Takes a living actor away, with its regions.
@@ -138,7 +173,7 @@ impl Contexts {
         } }
     {
         self.actors[actor.0 as usize - 1] = None;
-        self.living -= 1;
+        strike(&mut self.living, actor);
     }
 
     /// Maps pages into a living actor, as the next region, unlocked. They fit where they are
@@ -306,7 +341,7 @@ impl Contexts {
     pub fn maps(&self, cache: CacheId) -> bool
         ensures { result ≡ list_any (maps_in cache.0) self.now.actors }
     {
-        maps_any(&self.actors, cache)
+        maps_any(&self.actors, &self.living, cache)
     }
 
     /// The place of an access of `length` bytes of an actor. `NoActor` where it isn't alive, else

@@ -1,14 +1,15 @@
 // The address spaces of actors, of which a dead one has none.
 ghost use Rattle.std.specs.Prelude.{◌≡◌, ◌<◌, ◌≤◌, false, IsSome, IsSomeAnd, OnErr, OnOk};
 ghost use Rattle.std.specs.List.{list_any};
-ghost use Rattle.vm_model.specs.Answering.{insert_region, maps_in, overlaps, region_of, without_region};
+ghost use Rattle.vm_model.specs.Answering.{insert_region, overlaps, region_of, without_region};
 ghost use Rattle.vm_model.specs.Machine.{numbered};
 ghost use Rattle.vm_model.specs.Regions.{region_among, replace_region, split_at, with_lock, with_prot};
 ghost use Rattle.regions.specs.AddressSpace.{AddressSpace, IsWellFormed};
-ghost use Rattle.contexts.specs.Layout.{regions_in, IsChanged};
+ghost use Rattle.contexts.specs.Layout.{maps_at, IsChanged};
 
 use regions::RegionMap;
 use vm_ids::{ActorId, CacheId, Mapping, NoMemory, Prot, RegionId};
+use vm_model::numbered;
 
 // Adds a region to an actor.
 pub(crate) fn add_region(
@@ -110,12 +111,12 @@ pub(crate) fn remove_region(spaces: &mut [Option<RegionMap>], actor: ActorId, re
     }
 }
 
-// Whether a region of a living actor maps the cache.
-pub(crate) fn maps_any(spaces: &[Option<RegionMap>], cache: CacheId) -> bool
-    ensures { result ≡ list_any (maps_in cache.0) (regions_in spaces.now) }
+// Whether one of these actors is alive and has a region that maps the cache.
+pub(crate) fn maps_any(spaces: &[Option<RegionMap>], actors: &[ActorId], cache: CacheId) -> bool
+    ensures { result ≡ list_any (maps_at spaces.now cache.0) actors.now }
 {
-    for space in spaces {
-        if let Some(regions) = space {
+    for actor in actors {
+        if let Some(regions) = numbered(spaces, actor.0) {
             if regions.maps(cache) {
                 return true;
             }

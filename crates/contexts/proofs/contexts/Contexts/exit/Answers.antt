@@ -1,35 +1,44 @@
-use Rattle.std.proofs.Common.{◌≡◌, ◌-◌, List, Option, None, length, set, sym, ap, subst, arith}
-use Rattle.std.specs.Prelude.{IsSome, option_map}
+use Rattle.std.proofs.Common.{◌≡◌, ℕ, ◌-◌, List, Option, None, Some, length, set, sym, ap, subst, arith}
+use Rattle.std.specs.Prelude.{IsSome, is_some, option_map}
 use Rattle.std.proofs.lemmas.List.{map-set}
+use Rattle.std.proofs.lemmas.Option.{slice_get_within}
 use Rattle.vm_model.specs.Machine.{Actor, numbered}
 use Rattle.vm_model.proofs.Parts.Lists.{is_there, numbered_place}
 use Rattle.regions.specs.AddressSpace.{AddressSpace}
 use Rattle.contexts.specs.Actors.{Actors}
-use Rattle.contexts.specs.Layout.{IsKept, regions_in}
+use Rattle.contexts.specs.Layout.{IsKept, actors_seen, regions_in}
+use Rattle.contexts.specs.declared.contexts.Contexts.TheInside.{Inside}
 use Rattle.contexts.proofs.Living.{gone}
+use Rattle.contexts.proofs.Listing.{listed_gone}
 use Rattle.contexts.proofs.Kept.{alive_in}
 use Rattle.contexts.proofs.Places.{numbered_replaced}
 use Rattle.contexts.proofs.contexts.Contexts.exit.Goals as goal
 
-pub overflow_sub-self : goal.overflow_sub-self
-overflow_sub-self c =
-    let there = alive_in c.self.inside.actors.items c.args.actor.0 (subst (λ (a : Actors). IsSome (numbered a.actors c.args.actor.0)) (sym c.self.view_is) c.requires) in
-    let counted = c.self.invariant.living in
-    omega (arith, gone c.self.inside.actors.items c.args.actor.0 there, counted)
+-- the actor has a space
+alive : (i : Inside) (a : Actors) → actors_seen i ≡ a → (n : ℕ) → IsSome (numbered a.actors n) → (s : AddressSpace) × (numbered i.actors.items n ≡ Some s)
+alive i a is n h = is_there (numbered i.actors.items n) (alive_in i.actors.items n (subst (λ (t : Actors). IsSome (numbered t.actors n)) (sym is) h))
+
+pub strike-requires : goal.strike-requires
+strike-requires c =
+    let n = c.args.actor.0 in
+    let here = alive c.self.inside c.args.self.now c.self.view_is n c.requires in
+    c.self.invariant.listed n here.0 here.1
 
 pub invariant_of-self : goal.invariant_of-self
 invariant_of-self c =
     let n = c.args.actor.0 in
-    let xs = c.self.inside.actors.items in
-    let there = alive_in xs n (subst (λ (a : Actors). IsSome (numbered a.actors n)) (sym c.self.view_is) c.requires) in
+    let i = c.self.inside in
+    let xs = i.actors.items in
     let counted = c.self.invariant.living in
-    let here = is_there (numbered xs n) there in
+    let here = alive i c.args.self.now c.self.view_is n c.requires in
+    let place = numbered_place xs n here.0 here.1 in
     record {
       some = c.self.invariant.some;
       most = c.self.invariant.most;
-      living = omega (arith, gone xs n there, counted);
+      living = omega (arith, gone xs n (ap is_some here.1), counted, c.strike.ensures.shorter);
+      listed = listed_gone i.living.items c.strike.new.listed.items xs n place.0 (slice_get_within xs (n - 1) (Some here.0) place.1) c.strike.ensures.others c.self.invariant.listed;
       few = c.self.invariant.few;
-      kept = numbered_replaced (IsKept c.self.inside.page c.self.inside.owners.items) xs n None (numbered_place xs n here.0 here.1).0
+      kept = numbered_replaced (IsKept i.page i.owners.items) xs n None place.0
           (λ s e. absurd (cc e)) c.self.invariant.kept;
     }
 
