@@ -341,9 +341,8 @@ fn counts_below(rt: &impl Abort, alloc: Global, script: &str) -> Result<Counts, 
     let mut mapper = images(alloc, &[])?;
     let manager = Pvm::new(alloc, 8, PAGE as u32)?;
     let mut waits = PullWait::new(alloc)?;
-    let mut processes = Processes {
-        mix: Mix::new::<MemoryMapper, Clock>(alloc, manager),
-    };
+    let mix = Mix::new::<MemoryMapper, Clock>(alloc, manager);
+    let mut processes = Processes { mix };
     let mut source = MemorySource::new(script.as_bytes(), &[]);
     let mut sink = MemorySink::new(alloc, ROOM, &[])?;
     let ended = replay(
