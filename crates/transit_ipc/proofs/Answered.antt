@@ -1,5 +1,5 @@
 -- A port is made, as a call of the ports: the manager isn't called.
-use Rattle.std.proofs.Common.{◌≡◌, ℕ, List, refl, sym, ap, subst, arith}
+use Rattle.std.proofs.Common.{◌≡◌, ℕ, refl, sym, ap, subst, arith}
 use Rattle.vm_ids.specs.Counting.{no_counts}
 use Rattle.vm_ids.specs.Held.{segments_of}
 use Rattle.vm_ids.specs.declared.command.PortCommand.TheVariants as commands
