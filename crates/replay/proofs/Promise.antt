@@ -8,6 +8,7 @@ use Rattle.vm_ids.specs.Counting.{Rose, last_count}
 use Rattle.vm_ids.specs.Held.{Held, Segments}
 use Rattle.vm_ids.specs.declared.numbers.TheConstants.{PAGE}
 use Rattle.vm_ids.specs.Forest.Nodes.{no_forest}
+use Rattle.vm_model.specs.Answering.{is_mapped}
 use Rattle.vm_model.specs.Asking.{IsWellFormed}
 use Rattle.vm_model.specs.Events.{Stand, steps_of}
 use Rattle.vm_model.specs.Laws.{IsFollowed}
@@ -176,7 +177,7 @@ bare_ports G gmi told page_bytes frames named valid unlimited pages same starts 
   unlimited = unlimited;
   fits = fits_start page_bytes frames PAGE named (G.machine gmi told) pages same starts;
   caches = ap (λ (m : Machine). m.caches) starts;
-  actors = ap (λ (m : Machine). m.actors) starts;
+  unmapped = λ cache. ap (λ (m : Machine). is_mapped m cache) starts;
 }
 
 pub as_asked : (asked : Asked) (words : Option Asked) (P : Asked → Type 0) → Some asked ≡ words → P asked → IfSome words P
