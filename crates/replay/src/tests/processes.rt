@@ -325,8 +325,11 @@ fn drawn_forks(alloc: Global, draws: &mut Draws) -> Result<String, NoMemory> {
         script.push_str(fork.as_str())?;
         living.push(child)?;
     }
-    while let Some(last) = living.pop() {
-        let place = draws.below(202) as usize;
+    for _ in 0..201 {
+        let place = draws.below(201) as usize;
+        let Some(last) = living.pop() else {
+            break;
+        };
         let gone = match living.get_mut(place) {
             Some(other) => std::mem::replace(other, last),
             None => last,
