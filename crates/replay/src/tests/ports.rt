@@ -124,6 +124,50 @@ fn worked_scripts_of_ports(rt: HostRuntime) -> Result<(), NoMemory> {
     Ok(())
 }
 
+// A port of 64 messages is filled, 1,024 ports are made, and one is filled and drained 1,000 times.
+// Then so many pages are live as before.
+fn limits(alloc: Global) -> Result<Script, NoMemory> {
+    let mut script = Script::new(alloc);
+    script.script.push_str("temp 1\nport 64\nport 1\n")?;
+    script.replies.push_str("1 ok c1\n2 ok q1\n3 ok q2\n")?;
+    for number in 4..68u32 {
+        script.script.push_str("send q1 c1 0 1\n")?;
+        script
+            .replies
+            .push_str(format!(in alloc; "{number} ok\n")?.as_str())?;
+    }
+    script.script.push_str("send q1 c1 0 1\n")?;
+    script.replies.push_str("68 no PortFull\n")?;
+    for port in 3..1025u32 {
+        script.script.push_str("port 1\n")?;
+        script
+            .replies
+            .push_str(format!(in alloc; "{} ok q{port}\n", port + 66)?.as_str())?;
+    }
+    script.script.push_str("port 1\n")?;
+    script.replies.push_str("1091 no TooMany\n")?;
+    for number in 1092..2092u32 {
+        script.script.push_str("send q2 c1 0 1\nreceive q2 c1 0\n")?;
+        let (sent, received) = (2 * number - 1092, 2 * number - 1091);
+        script
+            .replies
+            .push_str(format!(in alloc; "{sent} ok\n{received} ok\n")?.as_str())?;
+    }
+    script.script.push_str("temp 4194240\ntemp 4194239\n")?;
+    script.replies.push_str("3092 no TooMany\n3093 ok c1066\n")?;
+    Ok(script)
+}
+
+#[test]
+fn limits_of_ports(rt: HostRuntime) -> Result<(), NoMemory> {
+    let script = limits(rt.alloc())?;
+    let mut mapper = swap_area(rt.alloc(), PAGE as u32, &[])?;
+    let words = ["ipc", "--frames", "3"];
+    let sink = written(&rt, rt.alloc(), &words, script.script.as_str(), &mut mapper)?;
+    assert_eq!(&rt; text(&rt, &sink), script.replies.as_str());
+    Ok(())
+}
+
 // The pages of each cache.
 const PAGES: usize = 4;
 
@@ -259,18 +303,16 @@ fn play(alloc: Global, draws: &mut Draws, plain: &mut Plain) -> Result<Turn, NoM
     }
 }
 
-fn drawn_script(alloc: Global, seed: u64, lines: u32) -> Result<Script, NoMemory>
-    requires { lines ≤ 1000 }
-{
+fn drawn_script(alloc: Global, seed: u64, lines: u32) -> Result<Script, NoMemory> {
     let mut draws = Draws { state: seed };
     let mut plain = Plain {
         caches: [[0; PAGES]; 2],
         ports: [VecDeque::new(alloc), VecDeque::new(alloc)],
     };
     let mut drawn = Script::new(alloc);
-    let mut number = 0;
+    let mut number = 0u32;
     for (line, reply) in BEGINNING {
-        number += 1;
+        number = number.wrapping_add(1);
         let turn = Turn {
             line: format!(in alloc; "{line}")?,
             reply: format!(in alloc; "{reply}")?,
@@ -278,7 +320,7 @@ fn drawn_script(alloc: Global, seed: u64, lines: u32) -> Result<Script, NoMemory
         drawn.add(alloc, number, &turn)?;
     }
     for _ in 0..lines {
-        number += 1;
+        number = number.wrapping_add(1);
         let turn = play(alloc, &mut draws, &mut plain)?;
         drawn.add(alloc, number, &turn)?;
     }
