@@ -129,14 +129,21 @@ const MUCH_TEXT_REPLIES: &str = "1 ok p1
 7 no BadImage
 ";
 
-fn much_text(alloc: Global) -> Result<MemoryMapper, NoMemory>
-    ensures { IfOk result (λ m. m.page_bytes ≡ PAGE) }
+fn much_image(alloc: Global) -> Result<Vec<u8>, NoMemory>
+    ensures { IfOk result (λ v. length v.items ≡ 1025 * PAGE) }
 {
     let mut bytes = vec![in alloc; 0u8; 1025 * PAGE]?;
     bytes[0] = 0x11;
     bytes[1023 * PAGE] = 0x22;
     bytes[1024 * PAGE] = 0x33;
-    MemoryMapper::new(alloc, &[bytes], &[], 512, &[], PAGE as u32)
+    Ok(bytes)
+}
+
+fn much_text(alloc: Global) -> Result<MemoryMapper, NoMemory>
+    ensures { IfOk result (λ m. m.page_bytes ≡ PAGE) }
+{
+    let segments = [much_image(alloc)?];
+    MemoryMapper::new(alloc, &segments, &[], 512, &[], PAGE as u32)
 }
 
 #[test]
