@@ -1,0 +1,194 @@
+// What is asked of several page nodes.
+ghost use Rattle.std.specs.Prelude.{◌≡◌, ℕ, ◌+◌, ◌<◌, ◌≤◌, ◌^◌, None, true, IfSome, IsSome, MatchOption, slice_get};
+ghost use Rattle.std.specs.FinMap as map;
+ghost use Rattle.stretches.specs.Stretches.{said};
+ghost use Rattle.local_cache.specs.Looking.{AreAllMembers, IsInRow, IsOnWay, IsOwner};
+ghost use Rattle.local_cache.specs.Many.{CanBeAlike};
+ghost use Rattle.local_cache.specs.NodeCells.{HasCell, cell_at, is_page};
+ghost use Rattle.local_cache.specs.NodeTable.{AreSaidAlike};
+ghost use Rattle.local_cache.specs.Runs.{run};
+
+use crate::runs::pieces::{next_if, numbers_from};
+use crate::runs::{NodeTable, PlainState, Run};
+use stretches::Stretch;
+use vm_ids::{NodeId, NodeName};
+
+// How many nodes of one run are alike.
+fn alike_of(nodes: Stretch<Run>) -> u32
+    requires { 0 < nodes.count }
+    ensures within { result ≤ nodes.count }
+    ensures parent { IfSome nodes.value.parent (λ n. n.0 + result ≤ 2 ^ 64) }
+    ensures older { IfSome nodes.value.older (λ n. n.0 + result ≤ 2 ^ 64) }
+    ensures newer { IfSome nodes.value.newer (λ n. n.0 + result ≤ 2 ^ 64) }
+    ensures some { 0 < result }
+{
+    let parents = numbers_from(nodes.value.parent, nodes.count);
+    let older = numbers_from(nodes.value.older, parents);
+    numbers_from(nodes.value.newer, older)
+}
+
+// Where a way up ends: at a node with an own page, or at the next one to be looked at.
+#[derive(Clone, Copy)]
+enum Way {
+    Owner(u64),
+    On(u64),
+}
+
+// What is asked of each node of a row.
+#[derive(Clone, Copy)]
+struct Member {
+    name: NodeName,
+    child: Option<NodeId>,
+    has_two: bool,
+    // so many stand in one run
+    count: u32,
+}
+
+impl NodeTable {
+    // How many nodes from this one on are alike: one run says all of them, each a step further on
+    // than the one before. There is none only where a run can't say all of this node.
+    #[inline(always)]
+    pub(crate) fn stretch(&self, node: u64) -> u32
+        requires { HasCell self.now.cells node }
+        ensures alike { AreSaidAlike self.now.cells node result }
+        ensures some { CanBeAlike (cell_at self.now.cells node) → 0 < result }
+    {
+        match self.nodes.recent(node) {
+            Some(single) => single.is_alike() as u32,
+            None => self.count_from(node),
+        }
+    }
+
+    // How many nodes from one on are alike, wherever it stands.
+    #[inline(never)]
+    fn count_from(&self, node: u64) -> u32
+        requires { HasCell self.now.cells node }
+        ensures alike { AreSaidAlike self.now.cells node result }
+        ensures some { CanBeAlike (cell_at self.now.cells node) → 0 < result }
+    {
+        match self.nodes.lone(node) {
+            Some(single) => single.is_alike() as u32,
+            None => alike_of(self.run_from(node)),
+        }
+    }
+
+    // What is asked of a node and of those that stand in one run with it, from it on; or `None`
+    // exactly where there is no node.
+    fn member(&self, node: u64) -> Option<Member>
+        ensures { MatchOption result (map.get self.now.cells node ≡ None)
+            (AreAllMembers self.now.cells node) }
+    {
+        match self.nodes.lone(node) {
+            Some(single) => Some(Member {
+                name: single.name(),
+                child: single.older(),
+                has_two: single.newer().is_some(),
+                count: 1,
+            }),
+            None => {
+                let nodes = self.nodes.stretch_from(node)?;
+                Some(Member {
+                    name: nodes.value.name.first(),
+                    child: nodes.value.tree_child(0),
+                    has_two: nodes.value.tree_child(1).is_some(),
+                    count: nodes.count,
+                })
+            }
+        }
+    }
+
+    // How many nodes, from one of a page on, are in a row, as far as so many: their numbers follow
+    // one another, and so do the pages that they are of and their only tree children, if they have
+    // some. There is none where the first one has two tree children.
+    pub(crate) fn row_from(&self, first: u64, most: u32) -> u32
+        requires { HasCell self.now.cells first }
+        ensures row { (k : ℕ) → k < result → IsInRow self.now.cells first k }
+        ensures within { result ≤ most }
+        ensures some { 0 < most → is_page (cell_at self.now.cells first).name ≡ true
+            → slice_get (cell_at self.now.cells first).tree 1 ≡ None → 0 < result }
+    {
+        let Some(start) = self.member(first) else {
+            return 0;
+        };
+        let NodeName::Live(cache, page) = start.name else {
+            return 0;
+        };
+        if start.has_two {
+            return 0;
+        }
+        let mut count = start.count.min(most);
+        while count < most {
+            let Some(next) = self.member(first + count as u64) else {
+                return count;
+            };
+            let is_next = match next.name {
+                NodeName::Live(of, at) => of.0 == cache.0 && at.0 == page.0 + count,
+                NodeName::Working(_) => false,
+            };
+            if !is_next || next.has_two || next.child != next_if(start.child, count) {
+                return count;
+            }
+            count += next.count.min(most - count);
+        }
+        count
+    }
+
+    // The first node with an own page on the way up from a node.
+    pub(crate) fn owner_from(&self, first: u64) -> NodeId
+        requires { (owner : ℕ) × IsOwner self.now.cells first owner }
+        ensures { IsOwner self.now.cells first result.0 }
+    {
+        let mut node = first;
+        while let Some(single) = self.nodes.recent(node) {
+            if !single.own().is_absent() {
+                return NodeId(node);
+            }
+            node = single.parent().unwrap().0;
+        }
+        self.search_owner(node)
+    }
+
+    // The same, wherever the nodes stand.
+    #[inline(never)]
+    fn search_owner(&self, first: u64) -> NodeId
+        requires { (owner : ℕ) × IsOwner self.now.cells first owner }
+        ensures { IsOwner self.now.cells first result.0 }
+    {
+        let mut node = first;
+        loop {
+            match self.nodes.lone(node) {
+                Some(single) => {
+                    if !single.own().is_absent() {
+                        return NodeId(node);
+                    }
+                    node = single.parent().unwrap().0;
+                }
+                None => match self.way_up(node) {
+                    Way::Owner(owner) => return NodeId(owner),
+                    Way::On(next) => node = next,
+                },
+            }
+        }
+    }
+
+    // The way up from a node that stands in a run, as long as each next node stands in a run right
+    // beside that of the one before.
+    fn way_up(&self, first: u64) -> Way
+        requires owner { (owner : ℕ) × IsOwner self.now.cells first owner }
+        requires told { IsSome (said run self.now.list first) }
+        ensures { IsOnWay self.now.cells first result }
+    {
+        let nodes = self.run_from(first);
+        if nodes.value.own != PlainState::Absent {
+            return Way::Owner(first);
+        }
+        let mut node = nodes.value.parent.unwrap().0;
+        while let Some(nodes) = self.nodes.stretch_beside(node) {
+            if nodes.value.own != PlainState::Absent {
+                return Way::Owner(node);
+            }
+            node = nodes.value.parent.unwrap().0 + (node - nodes.first);
+        }
+        Way::On(node)
+    }
+}
