@@ -30,3 +30,9 @@ pub mod ArenaBy
 pub mod Known
 -- What is done so many times.
 pub mod Each
+-- The thin nodes.
+pub mod Thinness
+-- Maps from numbers.
+pub mod NodeCells
+-- What holds of the nodes by their numbers.
+pub mod TableRight

@@ -1,6 +1,8 @@
 -- The page nodes by their numbers, as they stand.
 use Rattle.std.specs.Prelude.{◌≡◌, ◌↔◌, ℕ, ◌+◌, ◌≤◌, ◌<◌, ◌^◌, true, Option, Some, None, IfSome, IsSome}
+use Rattle.std.specs.FinMap.{FinMap}
 use Rattle.std.specs.FinMap as map
+use Rattle.std.specs.Ordering.{nat_cmp}
 use Rattle.stretches.specs.Stretch.{IsFit}
 use Rattle.stretches.specs.Stretches.{AreTogether, said}
 use Rattle.stretches.specs.declared.stretch.Stretch.{Stretch}
@@ -12,7 +14,7 @@ use Rattle.local_cache.specs.declared.runs.pieces.Piece.TheVariants.{Run as InRu
 use Rattle.local_cache.specs.declared.runs.run.Run.{Run}
 use Rattle.local_cache.specs.Arena.{Cell}
 use Rattle.local_cache.specs.ManyNodes.{each}
-use Rattle.local_cache.specs.NodeCells.{Cells, cell_at, changed, is_page, run_cell}
+use Rattle.local_cache.specs.NodeCells.{Cells, HasCell, cell_at, changed, is_page, run_cell}
 use Rattle.local_cache.specs.NodeKeys.{key_at, working_number}
 use Rattle.local_cache.specs.Runs.{run, run_after}
 use Rattle.local_cache.specs.Thin.{thin_number}
@@ -92,14 +94,27 @@ pub record AreSaidAlike (m : Cells) (n count : ℕ) : Type 0 where
   pub newer : IfSome run.newer (λ p. p.0 + count ≤ 2 ^ 64)
 
 -- The thin nodes are found: those that stand alone by their slots, those of runs by their numbers.
-pub record AreThinKept (t : Table) (thin : Thin) : Type 0 where
+pub record AreThinKept (cells : Cells) (slots : FinMap nat_cmp ℕ) (thin : Thin) : Type 0 where
   -- a slot has a number exactly where the node in it is thin under that number
   pub alone : (slot k : ℕ) → (map.get thin.alone slot ≡ Some k)
-      ↔ ((n : ℕ) × (map.get t.slots n ≡ Some slot) × IsThin t.cells n k)
+      ↔ ((n : ℕ) × (map.get slots n ≡ Some slot) × IsThin cells n k)
   -- a number has a node exactly where that stands in a run and is thin under it
   pub among : (k n : ℕ) → (map.get thin.among k ≡ Some (record { 0 = n }))
-      ↔ (((r : Run) × (said run t.list n ≡ Some r)) × IsThin t.cells n k)
-  -- no two nodes have one working number
-  pub apart : (n m k : ℕ) → key_at working_number t.cells n ≡ Some k
-      → key_at working_number t.cells m ≡ Some k → n ≡ m
+      ↔ ((map.get slots n ≡ None) × IsThin cells n k)
+
+-- no two nodes have one working number
+abbrev pub AreNumbersApart : Cells → Type 0
+AreNumbersApart m =
+    (n o k : ℕ) → key_at working_number m n ≡ Some k → key_at working_number m o ≡ Some k → n ≡ o
+
+-- what holds of the nodes and the thin ones among them
+pub record IsTableRight (t : Table) (thin : Thin) : Type 0 where
+  pub kept : AreThinKept t.cells t.slots thin
+  pub apart : AreNumbersApart t.cells
+  -- no two nodes have one slot
+  pub once : (n o slot : ℕ) → map.get t.slots n ≡ Some slot → map.get t.slots o ≡ Some slot → n ≡ o
+  pub within : (n slot : ℕ) → map.get t.slots n ≡ Some slot → slot < t.room
+  pub held : (n slot : ℕ) → map.get t.slots n ≡ Some slot → HasCell t.cells n
+  pub counted : t.count ≡ map.len t.cells
+  pub few : t.count ≤ t.room
   pub room : t.room ≤ thin.room

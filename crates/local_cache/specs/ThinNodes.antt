@@ -6,7 +6,7 @@ use Rattle.std.specs.FinMap as map
 use Rattle.std.specs.Coded.{Coded, code_by, coded×, coded_ℕ}
 use Rattle.least_heap.specs.Heaps.{Numbers}
 use Rattle.mixed_map.specs.Mixed.{without_range}
-use Rattle.stretches.specs.Cells.{cells}
+use Rattle.stretches.specs.Cells.{cells, with_stretch}
 use Rattle.stretches.specs.Rising.{rising}
 use Rattle.stretches.specs.Stretches.{Stretches}
 use Rattle.stretches.specs.declared.rising.Rising.{Rising}
@@ -14,7 +14,6 @@ use Rattle.stretches.specs.declared.stretch.Stretch.{Stretch}
 use Rattle.local_cache.specs.declared.runs.run.Run.{Run}
 use Rattle.local_cache.specs.declared.runs.thin_nodes.FirstThin.{FirstThin}
 use Rattle.local_cache.specs.declared.runs.thin_nodes.FirstThin.TheVariants.{Alone, Among}
-use Rattle.local_cache.specs.ManyNodes.{each}
 use Rattle.local_cache.specs.NodeCells.{run_cell}
 use Rattle.local_cache.specs.Singles.{IsCounted}
 use Rattle.local_cache.specs.Thin.{thin_number}
@@ -55,7 +54,8 @@ changed_to m slot (Some k) = map.insert m slot k
 abbrev pub with_numbers : FinMap nat_cmp Rising → Option ℕ → ℕ → ℕ → FinMap nat_cmp Rising
 with_numbers m None first count = m
 with_numbers m (Some k) first count =
-    each (λ i s. map.insert s (k + i) (record { 0 = first + i })) count m
+    with_stretch rising m
+    (record { first = k; count = count; value = record { 0 = first } })
 
 abbrev pub without_numbers : FinMap nat_cmp Rising → Option ℕ → ℕ → FinMap nat_cmp Rising
 without_numbers m None count = m

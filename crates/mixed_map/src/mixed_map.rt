@@ -226,6 +226,7 @@ impl<V: Says, S: Alone<V>> MixedMap<V, S> {
             → said V.Says self.new.list n ≡ said V.Says self.old.list n }
         ensures slots { (n : ℕ) → is_in stretch n ≡ false
             → map.get self.new.slots n ≡ map.get self.old.slots n }
+        ensures told { 1 < stretch.count → self.new.slots ≡ self.old.slots }
         ensures count { self.new.count ≡ self.old.count + stretch.count }
         ensures room { self.new.room ≡ self.old.room }
     {
@@ -244,6 +245,7 @@ impl<V: Says, S: Alone<V>> MixedMap<V, S> {
         requires fit { IsFit V.Says stretch }
         requires together { AreTogether self.old.list stretch.first stretch.count }
         ensures cells { self.new.cells ≡ with_stretch V.Says S.told self.old.cells stretch }
+        ensures apart { (n : ℕ) → is_in stretch n ≡ true → map.get self.old.slots n ≡ None }
         ensures also { SayAlso V.Says self.old.list stretch self.new.list }
         ensures slots { self.new.slots ≡ self.old.slots }
         ensures count { self.new.count ≡ self.old.count }
@@ -369,6 +371,8 @@ impl<V: Says, S: Alone<V>> MixedMap<V, S> {
         ensures cells { self.new.cells ≡ self.old.cells }
         ensures others { (n : ℕ) → is_in stretch n ≡ false
             → map.get self.new.slots n ≡ map.get self.old.slots n }
+        ensures gone { 1 < stretch.count
+            → self.new.slots ≡ without_range self.old.slots stretch.first stretch.count }
         ensures count { self.new.count ≡ self.old.count }
         ensures room { self.new.room ≡ self.old.room }
     {

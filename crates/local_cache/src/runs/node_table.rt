@@ -33,7 +33,7 @@ impl Model for NodeTable {
     ghost use Rattle.mixed_map.specs.Mixed.{Mixed};
     ghost use Rattle.local_cache.specs.Arena.{Cell};
     ghost use Rattle.local_cache.specs.Codes.{node_table_code};
-    ghost use Rattle.local_cache.specs.NodeTable.{AreThinKept};
+    ghost use Rattle.local_cache.specs.NodeTable.{IsTableRight};
     ghost use Rattle.local_cache.specs.declared.runs.run.Run.{Run};
 
     ghost Value = { Mixed Run Cell };
@@ -42,7 +42,7 @@ impl Model for NodeTable {
 
     ghost view = { λ t. t.nodes };
 
-    ghost invariant = { λ t. AreThinKept t.nodes t.thin };
+    ghost invariant = { λ t. IsTableRight t.nodes t.thin };
 }
 
 impl NodeTable {

@@ -31,3 +31,6 @@ pub returns-clause-others : goal.returns-clause-others
 returns-clause-others g c n h =
     c.insert_stretch.ensures.slots n h ∙ ap (λ (m : FinMap nat_cmp ℕ). map.get m n) c.remove_range.ensures.slots
     ∙ gone c.args.self.now.slots c.args.stretch n ∙ cond-false _ _ _ h
+
+pub returns-clause-gone : goal.returns-clause-gone
+returns-clause-gone g c = λ more. c.insert_stretch.ensures.told more ∙ c.remove_range.ensures.slots

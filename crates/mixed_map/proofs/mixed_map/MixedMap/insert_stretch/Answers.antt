@@ -31,3 +31,9 @@ returns-then-stretch-eq1-clause-slots g c n h =
     let r = c.args.stretch in
     let other : n ≢ r.first = λ e. false≢true (sym h ∙ within r n (omega arith) (omega (arith, c.if-stretch-eq1.true))) in
     ap (λ (v : Mixed _ _). map.get v.slots n) c.insert-then-stretch-eq1.ensures.inserted ∙ insert_other c.args.self.now.slots r.first c.insert-then-stretch-eq1.result.slot n other
+
+pub returns-then-stretch-gt1-clause-told : goal.returns-then-stretch-gt1-clause-told
+returns-then-stretch-gt1-clause-told g c = λ more. ap (λ (v : Mixed _ _). v.slots) c.self.view_is
+
+pub returns-then-stretch-eq1-clause-told : goal.returns-then-stretch-eq1-clause-told
+returns-then-stretch-eq1-clause-told g c = λ more. absurd (omega (arith, more, c.if-stretch-eq1.true))
