@@ -1,33 +1,33 @@
 -- The page nodes: look-ups, changes of one node, own states.
-pub mod Nodes
+--STAGE pub mod Nodes
 -- The page forest that is read off the caches.
-pub mod Forest
+--STAGE pub mod Forest
 -- Changes of single nodes, and what they leave.
-pub mod Changes
+--STAGE pub mod Changes
 -- A node comes, and a node goes.
-pub mod NewNode
+--STAGE pub mod NewNode
 -- A node gets another name.
-pub mod Names
+--STAGE pub mod Names
 -- The tables of the caches.
-pub mod Tables
+--STAGE pub mod Tables
 -- A cache is made.
-pub mod NewCache
+--STAGE pub mod NewCache
 -- What holds between two commands.
-pub mod Whole
+--STAGE pub mod Whole
 -- A list of stretches when one number is set or cleared.
 pub mod Singles
 -- The lists by which nodes are found.
-pub mod NodeKeys
+--STAGE pub mod NodeKeys
 -- The caches without their page nodes.
-pub mod CacheList
+--STAGE pub mod CacheList
 -- A node that gets another own state and another parent in one write.
-pub mod Rehung
+--STAGE pub mod Rehung
 -- Many page nodes at once.
 pub mod ManyNodes
 -- The arena that page nodes as runs and the rows of caches stand for.
-pub mod ArenaBy
+--STAGE pub mod ArenaBy
 -- What is known of some nodes and of some pages.
-pub mod Known
+--STAGE pub mod Known
 -- What is done so many times.
 pub mod Each
 -- The thin nodes.
@@ -36,3 +36,7 @@ pub mod Thinness
 pub mod NodeCells
 -- What holds of the nodes by their numbers.
 pub mod TableRight
+-- Runs further on.
+pub mod RunAfter
+-- Maps changed at many numbers.
+pub mod Stretched

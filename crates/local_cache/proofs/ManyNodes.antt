@@ -3,4 +3,4 @@
 -- A stretch of numbers cleared.
 pub mod Cleared
 -- Nodes of pages that go, so that other nodes can come for these pages.
-pub mod Renewed
+--STAGE pub mod Renewed

@@ -382,9 +382,28 @@ module _ (t u : Table) (thin : Thin) (r : Stretch Run) (right : IsTableRight t t
       | inr out ↦ ap is_some (get_with run run_cell t.cells r q ∙ cond-false _ _ _ out) ∙ right.held q s e
     ]
 
--- they are said otherwise
-pub put_again : (cells : Cells) (r : Stretch Run) (v : Run) → with_stretch run run_cell (without_stretch cells r) (record r { value = v }) ≡ with_stretch run run_cell cells (record r { value = v })
-put_again cells r v = same _ _ (λ n. get_with run run_cell (without_stretch cells r) (record r { value = v }) n ∙ elim (cases_Bool (is_in r n)) [
-  | inl inside ↦ cond-true _ _ _ inside ∙ sym (get_with run run_cell cells (record r { value = v }) n ∙ cond-true _ _ _ inside)
-  | inr out ↦ cond-false _ _ _ out ∙ gone cells r n ∙ cond-false _ _ _ out ∙ sym (get_with run run_cell cells (record r { value = v }) n ∙ cond-false _ _ _ out)
-])
+-- What stands at a slot
+
+no_number : (o : Option ℕ) → ((k : ℕ) → o ≡ Some k → ⊥) → o ≡ None
+no_number None h = refl
+no_number (Some k) h = absurd (h k refl)
+
+-- a slot that no node has, has no number
+pub slot_free : (t : Table) (thin : Thin) (slot : ℕ) → IsTableRight t thin → ((q : ℕ) → map.get t.slots q ≢ Some slot) → map.get thin.alone slot ≡ None
+slot_free t thin slot right fresh = no_number (map.get thin.alone slot) (λ k e. (let w = (right.kept.alone slot k).0 e in fresh w.0 w.1))
+
+-- that of a node has the node's number, if it is thin
+pub slot_number : (t : Table) (thin : Thin) (n slot : ℕ) (d : Cell) → IsTableRight t thin → map.get t.slots n ≡ Some slot → map.get t.cells n ≡ Some d → map.get thin.alone slot ≡ thin_number d
+slot_number t thin n slot d right at is = by_number (thin_number d) refl where
+  by_number : (o : Option ℕ) → thin_number d ≡ o → map.get thin.alone slot ≡ o
+  by_number (Some k) e = (right.kept.alone slot k).1 (n, at, ap (option_and_then thin_number) is ∙ e)
+  by_number None e = no_number (map.get thin.alone slot) (λ k h.
+      (let w = (right.kept.alone slot k).0 h in
+      let here = right.once w.0 n slot w.1 at in
+      none-some k (sym (ap (option_and_then thin_number) (ap (map.get t.cells) here ∙ is) ∙ e) ∙ w.2)))
+
+pub right_as : (t u : Table) (a b : Thin) → u ≡ t → b ≡ a → IsTableRight t a → IsTableRight u b
+right_as t u a b e f right =
+    let P : Thin → Type 0 = λ x. IsTableRight u x in
+    let Q : Table → Type 0 = λ x. IsTableRight x a in
+    subst P (sym f) (subst Q (sym e) right)

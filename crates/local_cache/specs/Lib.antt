@@ -1,6 +1,6 @@
 pub mod Arena
 pub mod ArenaBy
-pub mod CacheList
+--STAGE pub mod CacheList
 pub mod Changes
 pub mod Changing
 pub mod Codes
@@ -12,7 +12,7 @@ pub mod Many
 pub mod ManyNodes
 pub mod NodeCells
 pub mod NodeKeys
-pub mod NodeRuns
+--STAGE pub mod NodeRuns
 pub mod NodeTable
 pub mod OnCells
 pub mod Own
@@ -23,7 +23,7 @@ pub mod Pages
 pub mod Placed
 pub mod Reading
 pub mod ReadingBy
-pub mod RowChanges
+--STAGE pub mod RowChanges
 pub mod Runs
 pub mod Singles
 pub mod Sound

@@ -84,14 +84,22 @@ IsLeastThin m None = (n k : ℕ) → IsThin m n k → ⊥
 IsLeastThin m (Some n) =
     (k : ℕ) × IsThin m n.0 k × ((other j : ℕ) → IsThin m other j → k ≤ j)
 
+-- a run can say all of this cell
+abbrev pub IsSayable : Cell → Type 0
+IsSayable c = (r : Run) × (run_cell r ≡ c)
+
+-- there is a number so many behind a node, if there is one
+abbrev pub HasNumber : Option NodeId → ℕ → Type 0
+HasNumber o k = IfSome o (λ p. p.0 + k < 2 ^ 64)
+
 -- so many nodes from one on are what a run says, and there are as many numbers behind each node
 -- that it names
 pub record AreSaidAlike (m : Cells) (n count : ℕ) : Type 0 where
   pub run : Run
   pub said : (k : ℕ) → k < count → map.get m (n + k) ≡ Some (run_cell (run_after run k))
-  pub parent : IfSome run.parent (λ p. p.0 + count ≤ 2 ^ 64)
-  pub older : IfSome run.older (λ p. p.0 + count ≤ 2 ^ 64)
-  pub newer : IfSome run.newer (λ p. p.0 + count ≤ 2 ^ 64)
+  pub parent : (k : ℕ) → 0 < k → k < count → HasNumber run.parent k
+  pub older : (k : ℕ) → 0 < k → k < count → HasNumber run.older k
+  pub newer : (k : ℕ) → 0 < k → k < count → HasNumber run.newer k
 
 -- The thin nodes are found: those that stand alone by their slots, those of runs by their numbers.
 pub record AreThinKept (cells : Cells) (slots : FinMap nat_cmp ℕ) (thin : Thin) : Type 0 where

@@ -1,5 +1,5 @@
 // The changes of page nodes.
-ghost use Rattle.std.specs.Prelude.{◌+◌, ◌<◌, ◌^◌, IfSome};
+ghost use Rattle.std.specs.Prelude.{◌+◌, ◌-◌, ◌<◌, ◌^◌, IfSome};
 ghost use Rattle.std.proofs.Common.{rules};
 ghost use Rattle.vm_ids.specs.declared.node_name.NodeName.TheVariants.{Live, Working};
 ghost use Rattle.local_cache.specs.Many.{IsPlain};
@@ -7,6 +7,7 @@ ghost use Rattle.local_cache.specs.ManyNodes.{next_if};
 ghost use Rattle.local_cache.specs.NodeCells.{hanging, inheriting, named, over, owning, renewed, tree_of, with_before, with_behind, with_child, with_ends, with_place};
 
 use crate::runs::pieces::next_if;
+use crate::runs::single::in_place;
 use crate::runs::{Change, ChangeEach, PlainState, Run, RunName, Single, plain};
 use crate::{Ends, OwnState};
 use vm_ids::{CacheId, NodeId, NodeName, PageNo};
@@ -204,7 +205,7 @@ impl ChangeEach for Exchange {
       instead = next_if c.instead by;
     } };
 
-    ghost lasts = { λ c by. (c.gone.0 + by < 2 ^ 64)
+    ghost lasts = { λ c by. (c.gone.0 + by < 2 ^ 64 - 1)
         × IfSome c.instead (λ n. n.0 + by < 2 ^ 64) };
 
     ghost has_names = { λ _ _. Unit {0} };
@@ -219,20 +220,12 @@ impl ChangeEach for Exchange {
     }
 
     fn of_run(self, run: Run) -> Run {
-        Run {
-            older: if run.older == Some(self.gone) {
-                self.instead
-            } else {
-                run.older
-            },
-            newer: if run.newer == Some(self.gone) {
-                self.instead
-            } else {
-                run.newer
-            },
+        let changed = Run {
+            older: in_place(self.gone, self.instead, run.older),
+            newer: in_place(self.gone, self.instead, run.newer),
             ..run
-        }
-        .ordered()
+        };
+        changed.ordered()
     }
 
     ghost laws = { record {

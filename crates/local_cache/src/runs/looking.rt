@@ -1,17 +1,20 @@
 // What is asked of several page nodes.
-ghost use Rattle.std.specs.Prelude.{◌≡◌, ℕ, ◌+◌, ◌<◌, ◌≤◌, ◌^◌, None, true, IfSome, IsSome, MatchOption, slice_get};
+ghost use Rattle.std.specs.Prelude.{◌≡◌, ◌↔◌, ℕ, ◌+◌, ◌<◌, ◌≤◌, ◌^◌, None, true, IfSome, IsSome, IsTrue, MatchOption, slice_get};
 ghost use Rattle.std.specs.FinMap as map;
 ghost use Rattle.stretches.specs.Stretches.{said};
+ghost use Rattle.vm_ids.specs.declared.node_name.NodeName.TheVariants.{Live};
 ghost use Rattle.local_cache.specs.Looking.{AreAllMembers, IsInRow, IsOnWay, IsOwner};
 ghost use Rattle.local_cache.specs.Many.{CanBeAlike};
 ghost use Rattle.local_cache.specs.NodeCells.{HasCell, cell_at, is_page};
-ghost use Rattle.local_cache.specs.NodeTable.{AreSaidAlike};
+ghost use Rattle.local_cache.specs.ManyNodes.{next_if};
+ghost use Rattle.local_cache.specs.NodeTable.{AreSaidAlike, IsSayable};
+ghost use Rattle.local_cache.specs.PageNodes.{name_behind};
 ghost use Rattle.local_cache.specs.Runs.{run};
 
-use crate::runs::pieces::{next_if, numbers_from};
-use crate::runs::{NodeTable, PlainState, Run};
+use crate::runs::pieces::numbers_from;
+use crate::runs::{NodeTable, PlainState, Run, Single};
 use stretches::Stretch;
-use vm_ids::{NodeId, NodeName};
+use vm_ids::{CacheId, NodeId, NodeName, PageNo};
 
 // How many nodes of one run are alike.
 fn alike_of(nodes: Stretch<Run>) -> u32
@@ -25,6 +28,15 @@ fn alike_of(nodes: Stretch<Run>) -> u32
     let parents = numbers_from(nodes.value.parent, nodes.count);
     let older = numbers_from(nodes.value.older, parents);
     numbers_from(nodes.value.newer, older)
+}
+
+// A node that stands alone is alike by itself, if a run can say all of it.
+#[inline(always)]
+fn alike_alone(single: &Single) -> u32
+    ensures none { result ≡ 0 → CanBeAlike single.now → ⊥ }
+    ensures one { 0 < result → (result ≡ 1) × IsSayable single.now }
+{
+    if single.is_alike() { 1 } else { 0 }
 }
 
 // Where a way up ends: at a node with an own page, or at the next one to be looked at.
@@ -44,6 +56,27 @@ struct Member {
     count: u32,
 }
 
+// Whether a name is that of the page so many behind one.
+fn is_page_behind(name: NodeName, cache: CacheId, page: PageNo, by: u32) -> bool
+    ensures { IsTrue result ↔ (name ≡ name_behind (Live cache page) by) }
+{
+    match name {
+        NodeName::Live(of, at) => of.0 == cache.0 && at.0 as u64 == page.0 as u64 + by as u64,
+        NodeName::Working(_) => false,
+    }
+}
+
+// Whether a node is the one so many behind another one; or neither is there.
+fn is_node_behind(node: Option<NodeId>, first: Option<NodeId>, by: u32) -> bool
+    ensures { IsTrue result ↔ (node ≡ next_if first by) }
+{
+    match (node, first) {
+        (Some(node), Some(first)) => node.0 >= first.0 && node.0 - first.0 == by as u64,
+        (None, None) => true,
+        _ => false,
+    }
+}
+
 impl NodeTable {
     // How many nodes from this one on are alike: one run says all of them, each a step further on
     // than the one before. There is none only where a run can't say all of this node.
@@ -54,7 +87,7 @@ impl NodeTable {
         ensures some { CanBeAlike (cell_at self.now.cells node) → 0 < result }
     {
         match self.nodes.recent(node) {
-            Some(single) => single.is_alike() as u32,
+            Some(single) => alike_alone(single),
             None => self.count_from(node),
         }
     }
@@ -67,7 +100,7 @@ impl NodeTable {
         ensures some { CanBeAlike (cell_at self.now.cells node) → 0 < result }
     {
         match self.nodes.lone(node) {
-            Some(single) => single.is_alike() as u32,
+            Some(single) => alike_alone(single),
             None => alike_of(self.run_from(node)),
         }
     }
@@ -87,11 +120,12 @@ impl NodeTable {
             }),
             None => {
                 let nodes = self.nodes.stretch_from(node)?;
+                let child = nodes.value.tree_child(0);
                 Some(Member {
                     name: nodes.value.name.first(),
-                    child: nodes.value.tree_child(0),
+                    child,
                     has_two: nodes.value.tree_child(1).is_some(),
-                    count: nodes.count,
+                    count: numbers_from(child, nodes.count),
                 })
             }
         }
@@ -101,7 +135,8 @@ impl NodeTable {
     // one another, and so do the pages that they are of and their only tree children, if they have
     // some. There is none where the first one has two tree children.
     pub(crate) fn row_from(&self, first: u64, most: u32) -> u32
-        requires { HasCell self.now.cells first }
+        requires held { HasCell self.now.cells first }
+        requires short { first + most < 2 ^ 64 }
         ensures row { (k : ℕ) → k < result → IsInRow self.now.cells first k }
         ensures within { result ≤ most }
         ensures some { 0 < most → is_page (cell_at self.now.cells first).name ≡ true
@@ -121,11 +156,10 @@ impl NodeTable {
             let Some(next) = self.member(first + count as u64) else {
                 return count;
             };
-            let is_next = match next.name {
-                NodeName::Live(of, at) => of.0 == cache.0 && at.0 == page.0 + count,
-                NodeName::Working(_) => false,
-            };
-            if !is_next || next.has_two || next.child != next_if(start.child, count) {
+            if next.has_two
+                || !is_page_behind(next.name, cache, page, count)
+                || !is_node_behind(next.child, start.child, count)
+            {
                 return count;
             }
             count += next.count.min(most - count);

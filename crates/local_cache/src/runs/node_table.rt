@@ -283,8 +283,10 @@ impl NodeTable {
     }
 
     // Takes a node, of which its run says this, out of it. Its place.
-    fn set_alone(&mut self, node: u64, run: Run) -> Place
-        requires { said run self.old.list node ≡ Some run }
+    fn set_alone(&mut self, node: u64, value: Run) -> Place
+        requires fit { IsFit run (record { first = node; count = 1; value = value }) }
+        requires as_said { said run self.old.list node ≡ Some value }
+        requires told { map.get self.old.cells node ≡ Some (run_cell value) }
         ensures same { SeesSame self.old self.new }
         ensures others { (n : ℕ) → n ≢ node → said run self.new.list n ≡ said run self.old.list n }
         ensures place { (result.number ≡ node) × IsPlace self.new.slots result }
@@ -292,9 +294,9 @@ impl NodeTable {
         self.remove_run(Stretch {
             first: node,
             count: 1,
-            value: run,
+            value,
         });
-        self.insert(node, Single::from_stretch(run))
+        self.insert(node, Single::from_stretch(value))
     }
 
     // Takes in a node of which this is said, by itself. Its place.
@@ -335,6 +337,7 @@ impl NodeTable {
 
     // Says something else of nodes of one run.
     pub(crate) fn put_run(&mut self, nodes: Stretch<Run>, value: Run)
+        requires was { IsFit run nodes }
         requires fit { IsFit run (record nodes { value = value }) }
         requires together { AreTogether self.old.list nodes.first nodes.count }
         requires told { Tells run run_cell self.old.cells nodes }
@@ -406,12 +409,16 @@ impl NodeTable {
 
     // Takes out nodes of one run.
     pub(crate) fn remove_run(&mut self, nodes: Stretch<Run>)
+        requires fit { IsFit run nodes }
         requires together { AreTogether self.old.list nodes.first nodes.count }
         requires told { Tells run run_cell self.old.cells nodes }
         ensures cells { self.new.cells ≡ without_stretch self.old.cells nodes }
+        ensures apart { (n : ℕ) → is_in nodes n ≡ true → map.get self.old.slots n ≡ None }
+        ensures free { HaveFreeNumbers self.new.cells nodes }
         ensures less { SayNoMore run self.old.list nodes self.new.list }
         ensures slots { self.new.slots ≡ self.old.slots }
         ensures count { self.new.count + nodes.count ≡ self.old.count }
+        ensures fits { self.new.count + nodes.count ≤ self.new.room }
         ensures room { self.new.room ≡ self.old.room }
     {
         self.thin.leave_run(nodes);

@@ -152,7 +152,7 @@ impl PageTable {
     {
         if count == 1 {
             self.nodes.set(page, PageNode { node });
-        } else {
+        } else if count > 1 {
             self.nodes.remove_range(page, count);
             self.enter(page, count, node);
         }
