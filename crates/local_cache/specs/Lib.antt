@@ -1,6 +1,5 @@
 pub mod Arena
 pub mod ArenaBy
---STAGE pub mod CacheList
 pub mod Changes
 pub mod Changing
 pub mod Codes
@@ -12,7 +11,6 @@ pub mod Many
 pub mod ManyNodes
 pub mod NodeCells
 pub mod NodeKeys
---STAGE pub mod NodeRuns
 pub mod NodeTable
 pub mod OnCells
 pub mod Own
@@ -23,7 +21,6 @@ pub mod Pages
 pub mod Placed
 pub mod Reading
 pub mod ReadingBy
---STAGE pub mod RowChanges
 pub mod Runs
 pub mod Singles
 pub mod Sound

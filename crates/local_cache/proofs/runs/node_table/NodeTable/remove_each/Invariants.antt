@@ -1,6 +1,6 @@
 use Rattle.std.proofs.Common.{◌≡◌, ◌+◌, ◌-◌, ◌≤◌}
 use Rattle.mixed_map.specs.Mixed.{without_range}
-use Rattle.local_cache.proofs.runs.pieces.NodeTable.remove_each.Given as goal
+use Rattle.local_cache.proofs.runs.node_table.NodeTable.remove_each.Given as goal
 
 abbrev pub invariant-loop-done : goal.invariant-loop-done
 invariant-loop-done l = record {

@@ -6,7 +6,7 @@ use Rattle.std.specs.FinMap as map
 use Rattle.mixed_map.specs.Mixed.{without_range}
 use Rattle.mixed_map.proofs.Maps.{range_behind, range_more}
 use Rattle.local_cache.specs.NodeCells.{Cells}
-use Rattle.local_cache.proofs.runs.pieces.NodeTable.remove_each.Goals as goal
+use Rattle.local_cache.proofs.runs.node_table.NodeTable.remove_each.Goals as goal
 
 pub remove_some-done-requires-clause-held : goal.remove_some-done-requires-clause-held
 remove_some-done-requires-clause-held c =

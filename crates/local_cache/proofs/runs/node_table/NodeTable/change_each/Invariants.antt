@@ -1,6 +1,6 @@
 use Rattle.std.proofs.Common.{◌≡◌, ◌-◌, ◌≤◌}
 use Rattle.local_cache.specs.NodeCells.{changed_each}
-use Rattle.local_cache.proofs.runs.pieces.NodeTable.change_each.Given as goal
+use Rattle.local_cache.proofs.runs.node_table.NodeTable.change_each.Given as goal
 
 abbrev pub invariant-loop-done : goal.invariant-loop-done
 invariant-loop-done g l = record {
