@@ -27,3 +27,5 @@ pub mod TableRight
 pub mod RunAfter
 -- Maps changed at many numbers.
 pub mod Stretched
+-- Singles.
+pub mod Packing

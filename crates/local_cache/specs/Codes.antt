@@ -169,11 +169,11 @@ plain_by zero = PlainAbsent
 plain_by (suc zero) = PlainZero
 plain_by (suc (suc _)) = PlainOnSegment
 
-name_back : (x : RunName) → name_by (name_key x) ≡ x
+pub name_back : (x : RunName) → name_by (name_key x) ≡ x
 name_back (Pages cache page) = refl
 name_back (Working k) = refl
 
-plain_back : (x : PlainState) → plain_by (plain_key x) ≡ x
+pub plain_back : (x : PlainState) → plain_by (plain_key x) ≡ x
 plain_back PlainAbsent = refl
 plain_back PlainZero = refl
 plain_back PlainOnSegment = refl
