@@ -1,5 +1,5 @@
 -- The nodes of a run further on, and what becomes of them when the run is changed.
-use Rattle.std.proofs.Common.{◌≡◌, ◌≢◌, ℕ, ◌+◌, ◌-◌, ◌<◌, ◌^◌, max, min, List, [], ◌∷◌, map as list_map, Bool, true, false, cond, Option, Some, None, refl, sym, ap, ◌∙◌, inl, inr, arith}
+use Rattle.std.proofs.Common.{◌≡◌, ◌≢◌, ℕ, ◌+◌, ◌-◌, ◌<◌, ◌^◌, max, min, List, [], ◌∷◌, map as list_map, Bool, true, false, cond, Option, Some, None, refl, sym, ap, subst, ◌∙◌, inl, inr, arith}
 use Rattle.std.specs.Prelude.{IfSome, option_and_then, option_map, ◌==◌, eqb}
 use Rattle.std.specs.List.{cons_option, filter_map}
 use Rattle.std.proofs.lemmas.Bool.{cases_eq, cond-true, cond-false, eq-eqb, ne_eqb}
@@ -124,3 +124,21 @@ tree_exchanged gone instead older newer k short numbers =
     ap (list_map (λ n. further n k)) (tree_each (in_place gone instead) older newer)
     ∙ filter_further (λ n. further n k) (in_place gone instead) (in_place (record { 0 = gone.0 + k }) (next_if instead k)) (place_further gone instead k short numbers) (tree_of older newer)
     ∙ ap (exchanged (record { 0 = gone.0 + k }) (next_if instead k)) (sym (tree_further older newer k))
+
+pub exchange_said : (r : Run) (gone : NodeId) (instead o n : Option NodeId) → o ≡ option_and_then (in_place gone instead) r.older → n ≡ option_and_then (in_place gone instead) r.newer
+    → (k : ℕ) → gone.0 + k < 2 ^ 64 - 1 → IfSome instead (λ m. m.0 + k < 2 ^ 64)
+    → run_cell (run_after (record r { older = o; newer = n }) k) ≡ with_child (record { 0 = gone.0 + k }) (next_if instead k) (run_cell (run_after r k))
+exchange_said r gone instead o n e f k short numbers =
+    let tree = tree_further o n k ∙ (λ i. list_map (λ m. further m k) (tree_of (e i) (f i))) ∙ tree_exchanged gone instead r.older r.newer k short numbers in
+    λ i. record {
+      name = first_name (name_after r.name k);
+      own = own_of_plain r.own;
+      links = record no_links { parent = further_if r.parent k };
+      tree = tree i;
+    }
+
+-- a run that says the same of the first node has as many names
+pub same_names : (a b : Run) → run_cell a ≡ run_cell b → (k : ℕ) → HasNames b.name k → HasNames a.name k
+same_names a b e k h =
+    let same : a.name ≡ b.name = first_name_same a.name b.name (ap (λ (c : Cell). c.name) e) in
+    let P : RunName → Type 0 = λ x. HasNames x k in subst P (sym same) h

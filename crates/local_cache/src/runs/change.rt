@@ -36,7 +36,7 @@ pub(crate) trait ChangeEach: Change {
     /// What becomes of nodes of which a run says this.
     fn of_run(self, run: Run) -> Run
         requires { is_plain self }
-        ensures { IsSaidAfter run result (λ k. cell (after self k)) (lasts self)
+        ensures { IsSaidAfter run result (λ k. Self.cell (after self k)) (lasts self)
             (has_names self) };
 
     ghost laws: { GoesOn after lasts has_names is_plain };
