@@ -29,3 +29,7 @@ pub mod RunAfter
 pub mod Stretched
 -- Singles.
 pub mod Packing
+-- The first of the thin nodes.
+pub mod ThinFirst
+-- Pages that follow one another.
+pub mod PageRanges

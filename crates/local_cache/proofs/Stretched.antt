@@ -15,6 +15,7 @@ use Rattle.local_cache.specs.Arena.{Cell, blank}
 use Rattle.local_cache.specs.ManyNodes.{each}
 use Rattle.local_cache.specs.NodeCells.{Cells, HasCell, cell_at, changed, changed_each}
 use Rattle.local_cache.proofs.Each.{each_more, each_same}
+use Rattle.local_cache.proofs.Singles.{len_insert_new, len_insert_old}
 
 module _ {V S : Type 0} (G : Ghosts V) (told : V → S) where
   -- numbers that go first come the same
@@ -29,6 +30,23 @@ module _ {V S : Type 0} (G : Ghosts V) (told : V → S) where
       → each (λ k p. map.insert p (r.first + k) (at k)) count m ≡ with_first G told m r count
   each_told m r at h zero = refl
   each_told m r at h (suc k) = λ i. map.insert (each_told m r at h k i) (r.first + k) (h k i)
+
+  first_behind : (m : FinMap nat_cmp S) (r : Stretch V) (k n : ℕ) → r.first + k ≤ n → map.get (with_first G told m r k) n ≡ map.get m n
+  first_behind m r zero n h = refl
+  first_behind m r (suc k) n h = insert_other (with_first G told m r k) (r.first + k) _ n (λ e. omega (arith, h, e)) ∙ first_behind m r k n (omega (arith, h))
+
+  -- numbers that come, and numbers that were there
+  pub len_come : (m : FinMap nat_cmp S) (r : Stretch V) (k : ℕ) → ((j : ℕ) → j < k → map.get m (r.first + j) ≡ None) → map.len (with_first G told m r k) ≡ map.len m + k
+  len_come m r zero none = omega arith
+  len_come m r (suc k) none =
+      let one = len_insert_new (with_first G told m r k) (r.first + k) (told (G.after r.value k)) (first_behind m r k (r.first + k) (omega arith) ∙ none k (omega arith)) in
+      omega (arith, one, len_come m r k (λ j less. none j (omega (arith, less))))
+
+  pub len_put : (m : FinMap nat_cmp S) (r : Stretch V) (k : ℕ) → ((j : ℕ) → j < k → IsSome (map.get m (r.first + j))) → map.len (with_first G told m r k) ≡ map.len m
+  len_put m r zero some = refl
+  len_put m r (suc k) some =
+      len_insert_old (with_first G told m r k) (r.first + k) (told (G.after r.value k)) (ap is_some (first_behind m r k (r.first + k) (omega arith)) ∙ some k (omega arith))
+      ∙ len_put m r k (λ j less. some j (omega (arith, less)))
 
 -- Cells
 

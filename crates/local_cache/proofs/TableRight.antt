@@ -10,7 +10,7 @@ use Rattle.stretches.specs.Stretch.{is_in}
 use Rattle.stretches.specs.declared.rising.Rising.{Rising}
 use Rattle.stretches.specs.declared.stretch.Stretch.{Stretch}
 use Rattle.stretches.proofs.Reading.Numbers.{high, low, within}
-use Rattle.mixed_map.specs.Mixed.{Tells, with_first, with_stretch, without_range, without_stretch}
+use Rattle.mixed_map.specs.Mixed.{Tells, with_stretch, without_range, without_stretch}
 use Rattle.mixed_map.proofs.Maps.{insert_other, insert_same, range_behind, remove_other, remove_same, same}
 use Rattle.mixed_map.proofs.Telling.{get_with, gone}
 use Rattle.local_cache.specs.Arena.{Cell}
@@ -26,6 +26,7 @@ use Rattle.local_cache.specs.Thin.{number_if, thin_number}
 use Rattle.local_cache.specs.ThinNodes.{Thin, changed_to, with_run, without_run}
 use Rattle.local_cache.proofs.NodeCells.{len_into}
 use Rattle.local_cache.proofs.Singles.{len_insert_new, len_insert_old, len_remove_old}
+use Rattle.local_cache.proofs.Stretched.{len_come}
 use Rattle.local_cache.proofs.Thinness.{one_kept, run_come, run_left, same_kept}
 use Rattle.vm_ids.specs.declared.node_name.NodeName.{NodeName}
 use Rattle.vm_ids.specs.declared.node_name.NodeName.TheVariants.{Live, Working as WorkingNode}
@@ -74,23 +75,6 @@ pub run_working : (r : Run) (by : ℕ) → working_number (run_cell (run_after r
 run_working r by = working_parts r.name r.own r.parent r.older r.newer by
 
 -- How many there are
-
-module _ (m : Cells) (r : Stretch Run) where
-  first_behind : (k n : ℕ) → r.first + k ≤ n → map.get (with_first run run_cell m r k) n ≡ map.get m n
-  first_behind zero n h = refl
-  first_behind (suc k) n h = insert_other (with_first run run_cell m r k) (r.first + k) _ n (λ e. omega (arith, h, e)) ∙ first_behind k n (omega (arith, h))
-
-  pub len_come : (k : ℕ) → ((j : ℕ) → j < k → map.get m (r.first + j) ≡ None) → map.len (with_first run run_cell m r k) ≡ map.len m + k
-  len_come zero none = omega arith
-  len_come (suc k) none =
-      let one = len_insert_new (with_first run run_cell m r k) (r.first + k) (run_cell (run_after r.value k)) (first_behind k (r.first + k) (omega arith) ∙ none k (omega arith)) in
-      omega (arith, one, len_come k (λ j less. none j (omega (arith, less))))
-
-  pub len_put : (k : ℕ) → ((j : ℕ) → j < k → HasCell m (r.first + j)) → map.len (with_first run run_cell m r k) ≡ map.len m
-  len_put zero some = refl
-  len_put (suc k) some =
-      len_insert_old (with_first run run_cell m r k) (r.first + k) (run_cell (run_after r.value k)) (ap is_some (first_behind k (r.first + k) (omega arith)) ∙ some k (omega arith))
-      ∙ len_put k (λ j less. some j (omega (arith, less)))
 
 pub len_range : {X : Type 0} (m : FinMap nat_cmp X) (first k : ℕ) → ((j : ℕ) → j < k → IsSome (map.get m (first + j))) → map.len (without_range m first k) + k ≡ map.len m
 len_range m first zero some = omega arith
@@ -369,7 +353,7 @@ module _ (t u : Table) (thin : Thin) (r : Stretch Run) (right : IsTableRight t t
     once = λ a b s e f. right.once a b s (was a s e) (was b s f);
     within = λ q s e. omega (arith, right.within q s (was q s e), room);
     held = λ q s e. ap (λ (m : Cells). is_some (map.get m q)) cells ∙ there q s (was q s e);
-    counted = omega (arith, count, right.counted, ap map.len cells, len_come t.cells r r.count (λ j less. empty (r.first + j) (within r (r.first + j) (omega arith) (omega (arith, less)))));
+    counted = omega (arith, count, right.counted, ap map.len cells, len_come run run_cell t.cells r r.count (λ j less. empty (r.first + j) (within r (r.first + j) (omega arith) (omega (arith, less)))));
     few = omega (arith, few, count, room);
     room = omega (arith, right.room, room);
   } where

@@ -12,7 +12,7 @@ use Rattle.stretches.specs.declared.rising.Rising.{Rising}
 use Rattle.stretches.specs.declared.stretch.Stretch.{Stretch}
 use Rattle.stretches.proofs.Reading.Numbers.{high, low, within}
 use Rattle.mixed_map.specs.Mixed.{Tells, with_stretch, without_stretch}
-use Rattle.mixed_map.proofs.Maps.{insert_other, insert_same, remove_other, remove_same}
+use Rattle.mixed_map.proofs.Maps.{insert_other, insert_removed, insert_same, remove_other, remove_same, same}
 use Rattle.mixed_map.proofs.Telling.{get_with, gone}
 use Rattle.local_cache.specs.Arena.{Cell}
 use Rattle.local_cache.specs.declared.runs.run.PlainState.{PlainState}
@@ -286,3 +286,11 @@ module _ (cells : Cells) (slots : FinMap nat_cmp ℕ) (thin : Thin) (r : Stretch
 
   pub run_come : AreThinKept come slots (record thin { among = with_run thin.among r })
   run_come = record { alone = come_alone; among = come_among (thin_number (run_cell r.value)) refl }
+
+-- the number of a slot is taken out and set
+pub changed_again : (m : FinMap nat_cmp ℕ) (slot : ℕ) (now : Option ℕ) → changed_to (map.remove m slot) slot now ≡ changed_to m slot now
+changed_again m slot None = same _ _ (λ q. elim (cases_eq q slot) [
+  | inl at ↦ remove_same (map.remove m slot) slot q at ∙ sym (remove_same m slot q at)
+  | inr other ↦ remove_other (map.remove m slot) slot q other
+])
+changed_again m slot (Some k) = insert_removed m slot k

@@ -1,10 +1,11 @@
 -- The thin nodes, by their working numbers.
-use Rattle.std.specs.Prelude.{◌≡◌, ℕ, ◌+◌, ◌≤◌, Option, Some, None, refl}
+use Rattle.std.specs.Prelude.{◌≡◌, ℕ, ◌+◌, ◌≤◌, cond, ltb, Option, Some, None, refl}
 use Rattle.std.specs.Ordering.{nat_cmp}
 use Rattle.std.specs.FinMap.{FinMap}
 use Rattle.std.specs.FinMap as map
 use Rattle.std.specs.Coded.{Coded, code_by, coded×, coded_ℕ}
 use Rattle.least_heap.specs.Heaps.{Numbers}
+use Rattle.least_heap.specs.declared.heap.Numbered.{Numbered}
 use Rattle.mixed_map.specs.Mixed.{without_range}
 use Rattle.stretches.specs.Cells.{cells, with_stretch}
 use Rattle.stretches.specs.Rising.{rising}
@@ -81,3 +82,17 @@ abbrev pub IsFirst : Thin → FirstThin → Type 0
 IsFirst t (Alone slot) = (k : ℕ) × (map.get t.alone slot ≡ Some k) × IsLeast t k
 IsFirst t (Among node) =
     (k : ℕ) × (map.get t.among k ≡ Some (record { 0 = node })) × IsLeast t k
+
+-- the first of the numbers of stretches, with what is said of it
+abbrev pub IsFirstOf : FinMap nat_cmp Rising → Stretch Rising → Type 0
+IsFirstOf m r =
+    (map.get m r.first ≡ Some r.value)
+    × ((j : ℕ) (v : Rising) → map.get m j ≡ Some v → r.first ≤ j)
+
+-- which of both has the lesser number
+abbrev pub lesser_of : Option (Stretch Rising) → Option Numbered → Option FirstThin
+lesser_of None None = None
+lesser_of (Some r) None = Some (Among r.value.0)
+lesser_of None (Some e) = Some (Alone e.place)
+lesser_of (Some r) (Some e) =
+    cond (ltb r.first e.number) (Some (Among r.value.0)) (Some (Alone e.place))

@@ -95,7 +95,8 @@ impl PageTable {
     // Enters so many pages, from one on, which have no nodes: the next one of these is that of the
     // next page.
     pub(crate) fn enter(&mut self, page: u64, count: u32, node: NodeId)
-        requires short { node.0 + count ≤ 2 ^ 64 }
+        requires short { page + count < 2 ^ 64 }
+        requires nodes { node.0 + count < 2 ^ 64 }
         requires vacant { (k : ℕ) → k < count → map.get self.old.nodes.cells (page + k) ≡ None }
         requires room { self.old.nodes.count + count ≤ self.old.nodes.room }
         ensures pages { self.new.nodes.cells ≡ pages_from self.old.nodes.cells page node count }
@@ -132,7 +133,7 @@ impl PageTable {
     pub(crate) fn set_named(&mut self, name: NodeName, count: u32, node: NodeId)
         requires held { HaveNodes self.old.nodes.cells name count }
         requires short { IsShortFor name count }
-        requires nodes { node.0 + count ≤ 2 ^ 64 }
+        requires nodes { node.0 + count < 2 ^ 64 }
         ensures pages { self.new.nodes.cells ≡ with_pages self.old.nodes.cells name node count }
         ensures count { self.new.nodes.count ≡ self.old.nodes.count }
         ensures room { self.new.nodes.room ≡ self.old.nodes.room }
@@ -145,7 +146,8 @@ impl PageTable {
     // So many pages, from one on, which have nodes, have other ones.
     fn set(&mut self, page: u64, count: u32, node: NodeId)
         requires held { (k : ℕ) → k < count → IsSome (map.get self.old.nodes.cells (page + k)) }
-        requires nodes { node.0 + count ≤ 2 ^ 64 }
+        requires short { page + count < 2 ^ 64 }
+        requires nodes { node.0 + count < 2 ^ 64 }
         ensures pages { self.new.nodes.cells ≡ pages_from self.old.nodes.cells page node count }
         ensures count { self.new.nodes.count ≡ self.old.nodes.count }
         ensures room { self.new.nodes.room ≡ self.old.nodes.room }

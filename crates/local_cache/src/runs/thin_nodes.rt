@@ -1,14 +1,16 @@
 // The working nodes with fewer than two children.
-ghost use Rattle.std.specs.Prelude.{◌≡◌, ℕ, ◌+◌, ◌<◌, ◌≤◌, None, max, IfSome, IsOk, MatchOption, OnErr, OnOk};
+ghost use Rattle.std.specs.Prelude.{◌≡◌, ◌↔◌, ℕ, ◌+◌, ◌<◌, ◌≤◌, None, max, IfSome, IsOk, IsTrue, MatchOption, OnErr, OnOk};
 ghost use Rattle.std.specs.FinMap as map;
+ghost use Rattle.stretches.specs.Cells.{cells};
+ghost use Rattle.stretches.specs.Rising.{rising};
 ghost use Rattle.stretches.specs.Stretch.{IsFit};
 ghost use Rattle.local_cache.specs.NodeCells.{run_cell};
 ghost use Rattle.local_cache.specs.Runs.{run, run_after};
 ghost use Rattle.local_cache.specs.Thin.{thin_number};
-ghost use Rattle.local_cache.specs.ThinNodes.{HasNone, IsFirst, changed_to, with_run, without_run};
+ghost use Rattle.local_cache.specs.ThinNodes.{HasNone, IsFirst, IsFirstOf, changed_to, lesser_of, with_run, without_run};
 
 use crate::runs::{Run, clear_many};
-use least_heap::LeastHeap;
+use least_heap::{LeastHeap, Numbered};
 use std::alloc::Global;
 use std::marker::Model;
 use stretches::{Rising, Stretch, StretchList};
@@ -43,6 +45,37 @@ pub(crate) enum FirstThin {
     Among(u64),
 }
 
+// The first of stretches.
+fn first_of(runs: &StretchList<Rising>) -> Option<Stretch<Rising>>
+    ensures { MatchOption result (cells rising runs.now.list ≡ map.empty)
+        (IsFirstOf (cells rising runs.now.list)) }
+{
+    if runs.len() > 0 {
+        runs.next_from(0)
+    } else {
+        None
+    }
+}
+
+// Which of both has the lesser number.
+fn lesser_of(run: Option<Stretch<Rising>>, alone: Option<Numbered>) -> Option<FirstThin>
+    ensures { result ≡ lesser_of run alone }
+{
+    match alone {
+        None => Some(FirstThin::Among(run?.value.0)),
+        Some(alone) => match run {
+            Some(run) if run.first < alone.number => Some(FirstThin::Among(run.value.0)),
+            _ => Some(FirstThin::Alone(alone.place)),
+        },
+    }
+}
+
+fn is_same_number(one: Option<u64>, other: Option<u64>) -> bool
+    ensures { IsTrue result ↔ (one ≡ other) }
+{
+    one == other
+}
+
 impl ThinNodes {
     // No node, and no memory for one.
     pub(crate) fn new(alloc: Global) -> Self
@@ -69,18 +102,9 @@ impl ThinNodes {
     pub(crate) fn first(&self) -> Option<FirstThin>
         ensures { MatchOption result (HasNone self.now) (IsFirst self.now) }
     {
-        let run = if self.runs.len() > 0 {
-            self.runs.next_from(0)
-        } else {
-            None
-        };
-        match self.alone.least() {
-            None => Some(FirstThin::Among(run?.value.0)),
-            Some(least) => match run {
-                Some(run) if run.first < least.number => Some(FirstThin::Among(run.value.0)),
-                _ => Some(FirstThin::Alone(least.place)),
-            },
-        }
+        let run = first_of(&self.runs);
+        let alone = self.alone.least();
+        lesser_of(run, alone)
     }
 
     // A node that stands alone, in this slot, had this number as a thin one, and has this one now.
@@ -90,7 +114,7 @@ impl ThinNodes {
         requires room { slot < self.old.room }
         ensures { self.new ≡ record self.old { alone = changed_to self.old.alone slot now } }
     {
-        if before != now {
+        if !is_same_number(before, now) {
             self.exchange(slot, before, now);
         }
     }
@@ -102,11 +126,30 @@ impl ThinNodes {
         requires room { slot < self.old.room }
         ensures { self.new ≡ record self.old { alone = changed_to self.old.alone slot now } }
     {
-        if before.is_some() {
-            self.alone.leave(slot);
+        self.leave(slot, before);
+        self.enter(slot, now);
+    }
+
+    // A node that stands alone, in this slot, had this number as a thin one, and isn't thin.
+    fn leave(&mut self, slot: u32, before: Option<u64>)
+        requires { map.get self.old.alone slot ≡ before }
+        ensures { self.new ≡ record self.old { alone = map.remove self.old.alone slot } }
+    {
+        match before {
+            Some(_) => self.alone.leave(slot),
+            None => {}
         }
-        if let Some(number) = now {
-            self.alone.enter(number, slot);
+    }
+
+    // A node that stands alone, in this slot, wasn't thin, and has this number now.
+    fn enter(&mut self, slot: u32, now: Option<u64>)
+        requires free { map.get self.old.alone slot ≡ None }
+        requires room { slot < self.old.room }
+        ensures { self.new ≡ record self.old { alone = changed_to self.old.alone slot now } }
+    {
+        match now {
+            Some(number) => self.alone.enter(number, slot),
+            None => {}
         }
     }
 
