@@ -132,8 +132,12 @@ told_thin cells r tells n h = ap (option_and_then thin_number) (tells n h) ∙ r
 abbrev pub numbers : Stretch Run → ℕ → Stretch Rising
 numbers r k = record { first = k; count = r.count; value = record { 0 = r.first } }
 
+abbrev node_number : Option Rising → ℕ
+node_number None = 0
+node_number (Some v) = v.0
+
 no_rising : (n m : ℕ) → ◌≡◌ {A = Option Rising} (Some (record { 0 = n })) (Some (record { 0 = m })) → n ≡ m
-no_rising n m e = cc
+no_rising n m e = ap node_number e
 
 -- nodes of a run go
 module _ (cells : Cells) (slots : FinMap nat_cmp ℕ) (thin : Thin) (r : Stretch Run)
@@ -294,3 +298,10 @@ changed_again m slot None = same _ _ (λ q. elim (cases_eq q slot) [
   | inr other ↦ remove_other (map.remove m slot) slot q other
 ])
 changed_again m slot (Some k) = insert_removed m slot k
+
+-- a slot keeps its number
+pub changed_same : (m : FinMap nat_cmp ℕ) (slot : ℕ) (now : Option ℕ) → map.get m slot ≡ now → changed_to m slot now ≡ m
+changed_same m slot now is = same _ _ (λ q. elim (cases_eq q slot) [
+  | inl at ↦ changed_here m slot now q at ∙ sym is ∙ ap (map.get m) (sym at)
+  | inr other ↦ changed_other m slot now q other
+])
