@@ -33,3 +33,7 @@ pub mod Packing
 pub mod ThinFirst
 -- Pages that follow one another.
 pub mod PageRanges
+-- Many nodes, piece by piece.
+pub mod Pieces
+-- Nodes that are alike.
+pub mod Alike

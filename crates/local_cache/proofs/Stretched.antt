@@ -9,7 +9,7 @@ use Rattle.stretches.specs.declared.says.Says.{Ghosts}
 use Rattle.stretches.specs.declared.stretch.Stretch.{Stretch}
 use Rattle.stretches.specs.Stretch.{is_in}
 use Rattle.mixed_map.specs.Mixed.{with_first, with_stretch, without_range, without_stretch}
-use Rattle.mixed_map.proofs.Maps.{insert_other, insert_same, same}
+use Rattle.mixed_map.proofs.Maps.{insert_other, insert_same, remove_other, same}
 use Rattle.mixed_map.proofs.Telling.{get_with, gone}
 use Rattle.local_cache.specs.Arena.{Cell, blank}
 use Rattle.local_cache.specs.ManyNodes.{each}
@@ -100,3 +100,18 @@ each_on m first a b f =
 -- the same changes come to the same cells
 pub each_like : (m : Cells) (first count : ℕ) (f g : ℕ → Cell → Cell) → ((k : ℕ) (c : Cell) → f k c ≡ g k c) → changed_each m first f count ≡ changed_each m first g count
 each_like m first count f g h = each_same (λ k cs. changed cs (first + k) (f k)) (λ k cs. changed cs (first + k) (g k)) count (λ k cs. ap (map.insert cs (first + k)) (h k (cell_at cs (first + k)))) m
+
+-- a stretch of one number
+pub one_told : {V S : Type 0} (G : Ghosts V) (told : V → S) → ((v : V) → G.after v 0 ≡ v) → (m : FinMap nat_cmp S) (r : Stretch V) (count : ℕ) → count ≡ 1 → with_first G told m r count ≡ map.insert m r.first (told r.value)
+one_told G told starts m r count one =
+    let at : r.first + 0 ≡ r.first = omega arith in
+    ap (with_first G told m r) one ∙ (λ i. map.insert m (at i) (told (starts r.value i)))
+
+-- a number taken out and set again
+pub reinserted : {X : Type 0} (m : FinMap nat_cmp X) (n : ℕ) (x : X) → map.get m n ≡ Some x → map.insert (without_range m n 1) n x ≡ m
+reinserted m n x is = same _ _ (λ q. elim (cases_eq q n) [
+  | inl at ↦ insert_same (without_range m n 1) n x q at ∙ sym (ap (map.get m) at ∙ is)
+  | inr other ↦
+      let zero_on : n + 0 ≡ n = omega arith in
+      insert_other (without_range m n 1) n x q other ∙ ap (λ (k : ℕ). map.get (map.remove m k) q) zero_on ∙ remove_other m n q other
+])

@@ -1,10 +1,10 @@
 -- What holds of the nodes and the thin ones among them, when nodes come, go or change.
-use Rattle.std.proofs.Common.{◌≡◌, ◌≢◌, ℕ, zero, suc, ◌+◌, ◌-◌, ◌<◌, ◌≤◌, Bool, true, false, cond, Option, Some, None, IsSome, refl, sym, ap, subst, ◌∙◌, inl, inr, arith}
+use Rattle.std.proofs.Common.{◌≡◌, ◌≢◌, ℕ, zero, suc, ◌+◌, ◌-◌, ◌<◌, ◌≤◌, Bool, true, false, cond, [], Option, Some, None, IsSome, refl, sym, ap, subst, ◌∙◌, inl, inr, arith}
 use Rattle.std.specs.Prelude.{◌↔◌, option_and_then, option_map, is_some, IfSome}
 use Rattle.std.proofs.lemmas.Bool.{cases_Bool, cases_eq, cond-true, cond-false, false≢true}
 use Rattle.std.proofs.lemmas.Option.{none-some, same_Some}
 use Rattle.std.specs.Ordering.{nat_cmp}
-use Rattle.std.specs.FinMap.{FinMap}
+use Rattle.std.specs.FinMap.{FinMap, get-empty, len-empty}
 use Rattle.std.specs.FinMap as map
 use Rattle.stretches.specs.Stretch.{is_in}
 use Rattle.stretches.specs.declared.rising.Rising.{Rising}
@@ -18,16 +18,17 @@ use Rattle.local_cache.specs.declared.runs.run.PlainState.{PlainState}
 use Rattle.local_cache.specs.declared.runs.run.Run.{Run}
 use Rattle.local_cache.specs.declared.runs.run.RunName.{RunName}
 use Rattle.local_cache.specs.declared.runs.run.RunName.TheVariants.{Pages, Working}
-use Rattle.local_cache.specs.NodeCells.{Cells, HasCell, run_cell}
+use Rattle.local_cache.specs.NodeCells.{Cells, HasCell, is_page, run_cell}
 use Rattle.local_cache.specs.NodeKeys.{key_at, number_of_name, working_number}
-use Rattle.local_cache.specs.NodeTable.{AreNumbersApart, AreThinKept, HasFreeNumber, HaveFreeNumbers, IsFree, IsTableRight, IsThin, Table}
+use Rattle.local_cache.specs.NodeTable.{AreNumbersApart, AreThinKept, HasFreeNumber, HaveFreeNumbers, IsFree, IsLeastThin, IsTableRight, IsThin, Table}
 use Rattle.local_cache.specs.Runs.{run, run_after}
 use Rattle.local_cache.specs.Thin.{number_if, thin_number}
-use Rattle.local_cache.specs.ThinNodes.{Thin, changed_to, with_run, without_run}
+use Rattle.local_cache.specs.ThinNodes.{HasNone, IsFirst, IsLeast, Thin, changed_to, with_run, without_run}
+use Rattle.local_cache.specs.declared.runs.thin_nodes.FirstThin.TheVariants.{Alone, Among}
 use Rattle.local_cache.proofs.NodeCells.{len_into}
 use Rattle.local_cache.proofs.Singles.{len_insert_new, len_insert_old, len_remove_old}
-use Rattle.local_cache.proofs.Stretched.{len_come}
-use Rattle.local_cache.proofs.Thinness.{one_kept, run_come, run_left, same_kept}
+use Rattle.local_cache.proofs.Stretched.{len_come, len_put, put_again}
+use Rattle.local_cache.proofs.Thinness.{one_kept, run_come, run_left, run_thin, same_kept, told_thin}
 use Rattle.vm_ids.specs.declared.node_name.NodeName.{NodeName}
 use Rattle.vm_ids.specs.declared.node_name.NodeName.TheVariants.{Live, Working as WorkingNode}
 use Rattle.vm_ids.specs.declared.numbers.NodeId.{NodeId}
@@ -293,7 +294,7 @@ Vacant slots r = (n : ℕ) → is_in r n ≡ true → map.get slots n ≡ None
 told_there : (cells : Cells) (r : Stretch Run) → Tells run run_cell cells r → (j : ℕ) → j < r.count → HasCell cells (r.first + j)
 told_there cells r tells j less = ap is_some (tells (r.first + j) (within r (r.first + j) (omega arith) (omega (arith, less))))
 
-left_number : (cells : Cells) (r : Stretch Run) (n k : ℕ) → key_at working_number (without_stretch cells r) n ≡ Some k → (is_in r n ≡ false) × (key_at working_number cells n ≡ Some k)
+pub left_number : (cells : Cells) (r : Stretch Run) (n k : ℕ) → key_at working_number (without_stretch cells r) n ≡ Some k → (is_in r n ≡ false) × (key_at working_number cells n ≡ Some k)
 left_number cells r n k e = elim (cases_Bool (is_in r n)) [
   | inl inside ↦ absurd (none-some k (sym (ap (option_and_then working_number) (gone cells r n ∙ cond-true _ _ _ inside)) ∙ e))
   | inr out ↦ (out, sym (ap (option_and_then working_number) (gone cells r n ∙ cond-false _ _ _ out)) ∙ e)
@@ -391,3 +392,194 @@ right_as t u a b e f right =
     let P : Thin → Type 0 = λ x. IsTableRight u x in
     let Q : Table → Type 0 = λ x. IsTableRight x a in
     subst P (sym f) (subst Q (sym e) right)
+
+-- Nodes of one run are said otherwise
+module _ (t u : Table) (thin : Thin) (r : Stretch Run) (v : Run) (right : IsTableRight t thin) (tells : Tells run run_cell t.cells r)
+    (vacant : Vacant t.slots r) (free : HaveFreeNumbers (without_stretch t.cells r) (record r { value = v }))
+    (cells : u.cells ≡ with_stretch run run_cell t.cells (record r { value = v })) (slots : u.slots ≡ t.slots)
+    (count : u.count ≡ t.count) (room : u.room ≡ t.room) where
+  abbrev again : Stretch Run
+  again = record r { value = v }
+
+  abbrev gone_first : Cells
+  gone_first = without_stretch t.cells r
+
+  abbrev thin_left : Thin
+  thin_left = record thin { among = without_run thin.among r }
+
+  left_kept : AreThinKept gone_first t.slots thin_left
+  left_kept = run_left t.cells t.slots thin r right.kept tells vacant
+
+  left_empty : (n : ℕ) → is_in r n ≡ true → map.get gone_first n ≡ None
+  left_empty n inside = gone t.cells r n ∙ cond-true _ _ _ inside
+
+  left_apart : AreNumbersApart gone_first
+  left_apart = apart_less t.cells gone_first right.apart (λ n k e. (left_number t.cells r n k e).1)
+
+  put_apart : AreNumbersApart u.cells
+  put_apart =
+      let P : Cells → Type 0 = λ c. AreNumbersApart c in
+      subst P (put_again run run_cell t.cells again ∙ sym cells) (apart_come gone_first again left_apart free)
+
+  put_held : (q s : ℕ) → map.get u.slots q ≡ Some s → HasCell u.cells q
+  put_held q s e =
+      let was : map.get t.slots q ≡ Some s = sym (ap (λ (m : FinMap nat_cmp ℕ). map.get m q) slots) ∙ e in
+      ap (λ (m : Cells). is_some (map.get m q)) cells ∙ elim (cases_Bool (is_in r q)) [
+        | inl inside ↦ absurd (none-some s (sym (vacant q inside) ∙ was))
+        | inr out ↦ ap is_some (get_with run run_cell t.cells again q ∙ cond-false _ _ _ out) ∙ right.held q s was
+      ]
+
+  put_right : (x : Thin) → AreThinKept u.cells u.slots x → x.room ≡ thin.room → IsTableRight u x
+  put_right x kept same_room = record {
+    kept = kept;
+    apart = put_apart;
+    once = λ a b s e f. right.once a b s (was a s e) (was b s f);
+    within = λ q s e. omega (arith, right.within q s (was q s e), room);
+    held = put_held;
+    counted = omega (arith, count, right.counted, ap map.len cells, len_put run run_cell t.cells again r.count (told_there t.cells r tells));
+    few = omega (arith, right.few, count, room);
+    room = omega (arith, right.room, room, same_room);
+  } where
+    was : (q s : ℕ) → map.get u.slots q ≡ Some s → map.get t.slots q ≡ Some s
+    was q s e = sym (ap (λ (m : FinMap nat_cmp ℕ). map.get m q) slots) ∙ e
+
+  -- under the same numbers
+  pub put_same : thin_number (run_cell v) ≡ thin_number (run_cell r.value) → IsTableRight u thin
+  put_same same_number = put_right thin (kept_as _ u.cells t.slots u.slots thin cells slots (same_kept t.cells _ t.slots thin right.kept number)) refl where
+    number : (n : ℕ) → key_at thin_number (with_stretch run run_cell t.cells again) n ≡ key_at thin_number t.cells n
+    number n = elim (cases_Bool (is_in r n)) [
+      | inl inside ↦
+          ap (option_and_then thin_number) (get_with run run_cell t.cells again n ∙ cond-true _ _ _ inside)
+          ∙ run_thin v (n - r.first) ∙ ap (option_map (λ k. k + (n - r.first))) same_number ∙ sym (told_thin t.cells r tells n inside)
+      | inr out ↦ ap (option_and_then thin_number) (get_with run run_cell t.cells again n ∙ cond-false _ _ _ out)
+    ]
+
+  -- or under others
+  pub put_other : IsTableRight u (record thin_left { among = with_run thin_left.among again })
+  put_other = put_right _ (kept_as _ u.cells t.slots u.slots _ (cells ∙ sym (put_again run run_cell t.cells again)) slots
+      (run_come gone_first t.slots thin_left again left_kept left_empty vacant
+      (λ k n i less is h. free_at gone_first _ k n (free i less) (number_of_thin _ _ k is) (thin_working gone_first n k h)))) refl
+
+-- while they are taken out, their new numbers are vacant, and there is room
+module _ (t : Table) (thin : Thin) (r : Stretch Run) (v : Run) (right : IsTableRight t thin) (tells : Tells run run_cell t.cells r) (vacant : Vacant t.slots r) where
+  pub put_vacant : HaveFreeNumbers (without_stretch t.cells r) (record r { value = v }) → (k : ℕ) → k < r.count
+      → IfSome (thin_number (run_cell (run_after v k))) (λ n. map.get (without_run thin.among r) n ≡ None)
+  put_vacant free k less = vacant_among (without_stretch t.cells r) t.slots (record thin { among = without_run thin.among r }) (record r { value = v }) (run_left t.cells t.slots thin r right.kept tells vacant) free k less
+
+  pub put_room : map.len (without_run thin.among r) + r.count ≤ thin.room
+  put_room =
+      let few = few_among (without_stretch t.cells r) t.slots (record thin { among = without_run thin.among r }) (run_left t.cells t.slots thin r right.kept tells vacant) in
+      omega (arith, few, len_range t.cells r.first r.count (told_there t.cells r tells), right.counted, right.few, right.room)
+
+-- Nodes of pages that stand alone come into a run
+page_no_number : (x : NodeName) (b : Bool) → is_page x ≡ true → number_if x b ≡ None
+page_no_number (Live cache page) b h = refl
+page_no_number (WorkingNode k) b h = absurd (false≢true h)
+
+pub page_not_thin : (cells : Cells) (n : ℕ) (c : Cell) → map.get cells n ≡ Some c → is_page c.name ≡ true → key_at thin_number cells n ≡ None
+page_not_thin cells n c is page = ap (option_and_then thin_number) is ∙ page_no_number c.name _ page
+
+module _ (t u : Table) (thin : Thin) (r : Stretch Run) (right : IsTableRight t thin) (plain : (n : ℕ) → is_in r n ≡ true → key_at thin_number t.cells n ≡ None)
+    (cells : u.cells ≡ t.cells) (slots : u.slots ≡ without_stretch t.slots r) (count : u.count ≡ t.count) (room : u.room ≡ t.room) where
+  alone_still : (q s : ℕ) → map.get (without_stretch t.slots r) q ≡ Some s → (is_in r q ≡ false) × (map.get t.slots q ≡ Some s)
+  alone_still q s e = elim (cases_Bool (is_in r q)) [
+    | inl inside ↦ absurd (none-some s (sym (gone t.slots r q ∙ cond-true _ _ _ inside) ∙ e))
+    | inr out ↦ (out, sym (gone t.slots r q ∙ cond-false _ _ _ out) ∙ e)
+  ]
+
+  thin_out : (n k : ℕ) → IsThin t.cells n k → is_in r n ≡ false
+  thin_out n k h = elim (cases_Bool (is_in r n)) [ inl inside ↦ absurd (none-some k (sym (plain n inside) ∙ h)) | inr out ↦ out ]
+
+  gathered_kept : AreThinKept t.cells (without_stretch t.slots r) thin
+  gathered_kept = record {
+    alone = λ slot k. (
+      (λ h. (let w = (right.kept.alone slot k).0 h in (w.0, gone t.slots r w.0 ∙ cond-false _ _ _ (thin_out w.0 k w.2) ∙ w.1, w.2))),
+      (λ w. (right.kept.alone slot k).1 (w.0, (alone_still w.0 slot w.1).1, w.2)),
+    );
+    among = λ k n. (
+      (λ h. (let w = (right.kept.among k n).0 h in (gone t.slots r n ∙ cond-false _ _ _ (thin_out n k w.1) ∙ w.0, w.1))),
+      (λ w. (right.kept.among k n).1 (sym (gone t.slots r n ∙ cond-false _ _ _ (thin_out n k w.1)) ∙ w.0, w.1)),
+    );
+  }
+
+  pub table_gathered : IsTableRight u thin
+  table_gathered = record {
+    kept = kept_as t.cells u.cells (without_stretch t.slots r) u.slots thin cells slots gathered_kept;
+    apart = (let P : Cells → Type 0 = λ c. AreNumbersApart c in subst P (sym cells) right.apart);
+    once = λ a b s e f. right.once a b s (was a s e) (was b s f);
+    within = λ q s e. omega (arith, right.within q s (was q s e), room);
+    held = λ q s e. ap (λ (m : Cells). is_some (map.get m q)) cells ∙ right.held q s (was q s e);
+    counted = omega (arith, count, right.counted, ap map.len cells);
+    few = omega (arith, right.few, count, room);
+    room = omega (arith, right.room, room);
+  } where
+    was : (q s : ℕ) → map.get u.slots q ≡ Some s → map.get t.slots q ≡ Some s
+    was q s e = (alone_still q s (sym (ap (λ (m : FinMap nat_cmp ℕ). map.get m q) slots) ∙ e)).1
+
+-- No node, and more room
+
+abbrev pub no_table : Table
+no_table = record { cells = map.empty; slots = map.empty; list = []; count = 0; room = 0 }
+
+abbrev pub no_thin : Thin
+no_thin = record { alone = map.empty; among = map.empty; room = 0 }
+
+none_there : {X : Type 0} (n : ℕ) (x : X) → map.get {R = nat_cmp} map.empty n ≡ Some x → ⊥
+none_there n x e = none-some x (sym (get-empty nat_cmp n) ∙ e)
+
+none_key : (key : Cell → Option ℕ) (n k : ℕ) → key_at key map.empty n ≡ Some k → ⊥
+none_key key n k e = none-some k (sym (ap (option_and_then key) (get-empty nat_cmp n)) ∙ e)
+
+pub none_right : IsTableRight no_table no_thin
+none_right = record {
+  kept = record {
+    alone = λ slot k. ((λ h. absurd (none_there slot k h)), (λ w. absurd (none_key thin_number w.0 k w.2)));
+    among = λ k n. ((λ h. absurd (none_there k _ h)), (λ w. absurd (none_key thin_number n k w.1)));
+  };
+  apart = λ a b k e f. absurd (none_key working_number a k e);
+  once = λ a b s e f. absurd (none_there a s e);
+  within = λ q s e. absurd (none_there q s e);
+  held = λ q s e. absurd (none_there q s e);
+  counted = sym (len-empty nat_cmp Cell);
+  few = omega arith;
+  room = omega arith;
+}
+
+pub more_room : (t : Table) (thin : Thin) (R S : ℕ) → IsTableRight t thin → t.room ≤ R → R ≤ S → IsTableRight (record t { room = R }) (record thin { room = S })
+more_room t thin R S right more less = record {
+  kept = record { alone = right.kept.alone; among = right.kept.among };
+  apart = right.apart;
+  once = right.once;
+  within = λ q s e. omega (arith, right.within q s e, more);
+  held = right.held;
+  counted = right.counted;
+  few = omega (arith, right.few, more);
+  room = less;
+}
+
+-- The first of the thin nodes
+
+pub least_thin : (t : Table) (thin : Thin) (k : ℕ) → IsTableRight t thin → IsLeast thin k → (other j : ℕ) → IsThin t.cells other j → k ≤ j
+least_thin t thin k right least other j is = by_slot (map.get t.slots other) refl where
+  by_slot : (o : Option ℕ) → map.get t.slots other ≡ o → k ≤ j
+  by_slot (Some slot) e = least.0 slot j ((right.kept.alone slot j).1 (other, e, is))
+  by_slot None e = least.1 j _ ((right.kept.among j other).1 (e, is))
+
+pub first_none : (t : Table) (thin : Thin) → IsTableRight t thin → HasNone thin → IsLeastThin t.cells None
+first_none t thin right none n k is = by_slot (map.get t.slots n) refl where
+  by_slot : (o : Option ℕ) → map.get t.slots n ≡ o → ⊥
+  by_slot (Some slot) e = none_there slot k (sym (ap (λ (m : FinMap nat_cmp ℕ). map.get m slot) none.0) ∙ (right.kept.alone slot k).1 (n, e, is))
+  by_slot None e = none_there k _ (sym (ap (λ (m : FinMap nat_cmp Rising). map.get m k) none.1) ∙ (right.kept.among k n).1 (e, is))
+
+pub first_alone : (t : Table) (thin : Thin) (slot n : ℕ) → IsTableRight t thin → IsFirst thin (Alone slot) → map.get t.slots n ≡ Some slot → IsLeastThin t.cells (Some (record { 0 = n }))
+first_alone t thin slot n right first at =
+    let w = (right.kept.alone slot first.0).0 first.1 in
+    let here = right.once w.0 n slot w.1 at in
+    (first.0, sym (ap (key_at thin_number t.cells) (sym here)) ∙ w.2, least_thin t thin first.0 right first.2)
+
+pub first_among : (t : Table) (thin : Thin) (n : ℕ) → IsTableRight t thin → IsFirst thin (Among n) → IsLeastThin t.cells (Some (record { 0 = n }))
+first_among t thin n right first = (first.0, ((right.kept.among first.0 n).0 first.1).1, least_thin t thin first.0 right first.2)
+
+-- there is a place in the slot of the first
+pub first_there : (t : Table) (thin : Thin) (slot : ℕ) → IsTableRight t thin → IsFirst thin (Alone slot) → (n : ℕ) × (map.get t.slots n ≡ Some slot)
+first_there t thin slot right first = (let w = (right.kept.alone slot first.0).0 first.1 in (w.0, w.1))

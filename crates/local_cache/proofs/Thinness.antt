@@ -124,7 +124,7 @@ thin_parts (Working k) own parent (Some n) (Some m) by = refl
 pub run_thin : (r : Run) (by : ℕ) → thin_number (run_cell (run_after r by)) ≡ option_map (λ k. k + by) (thin_number (run_cell r))
 run_thin r by = thin_parts r.name r.own r.parent r.older r.newer by
 
-told_thin : (cells : Cells) (r : Stretch Run) → Tells run run_cell cells r → (n : ℕ) → is_in r n ≡ true
+pub told_thin : (cells : Cells) (r : Stretch Run) → Tells run run_cell cells r → (n : ℕ) → is_in r n ≡ true
     → key_at thin_number cells n ≡ option_map (λ k. k + (n - r.first)) (thin_number (run_cell r.value))
 told_thin cells r tells n h = ap (option_and_then thin_number) (tells n h) ∙ run_thin r.value (n - r.first)
 

@@ -44,7 +44,10 @@ impl NodeTable {
     fn run_alone(&self, node: u64) -> Option<Run>
         ensures { IfSome result (IsStandingAs self.now node) }
     {
-        self.nodes.lone(node)?.as_run()
+        match self.nodes.lone(node) {
+            Some(single) => single.as_run(),
+            None => None,
+        }
     }
 
     // How many nodes that stand by themselves this run can say, as far as so many.

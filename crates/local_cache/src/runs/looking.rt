@@ -1,11 +1,11 @@
 // What is asked of several page nodes.
-ghost use Rattle.std.specs.Prelude.{◌≡◌, ◌↔◌, ℕ, ◌+◌, ◌<◌, ◌≤◌, ◌^◌, None, true, IfSome, IsSome, IsTrue, MatchOption, slice_get};
+ghost use Rattle.std.specs.Prelude.{◌≡◌, ◌↔◌, ℕ, ◌+◌, ◌<◌, ◌≤◌, ◌^◌, None, true, is_some, IfSome, IsSome, IsTrue, MatchOption, slice_get};
 ghost use Rattle.std.specs.FinMap as map;
 ghost use Rattle.stretches.specs.Stretches.{said};
 ghost use Rattle.vm_ids.specs.declared.node_name.NodeName.TheVariants.{Live};
 ghost use Rattle.local_cache.specs.Looking.{AreAllMembers, IsInRow, IsOnWay, IsOwner};
 ghost use Rattle.local_cache.specs.Many.{CanBeAlike};
-ghost use Rattle.local_cache.specs.NodeCells.{HasCell, cell_at, is_page};
+ghost use Rattle.local_cache.specs.NodeCells.{HasCell, cell_at, is_page, run_cell};
 ghost use Rattle.local_cache.specs.ManyNodes.{next_if};
 ghost use Rattle.local_cache.specs.NodeTable.{AreSaidAlike, IsSayable};
 ghost use Rattle.local_cache.specs.PageNodes.{name_behind};
@@ -56,6 +56,40 @@ struct Member {
     count: u32,
 }
 
+// What is asked of a node that stands alone.
+fn member_alone(single: &Single) -> Member
+    ensures one { result.count ≡ 1 }
+    ensures name { result.name ≡ single.now.name }
+    ensures child { result.child ≡ slice_get single.now.tree 0 }
+    ensures two { result.has_two ≡ is_some (slice_get single.now.tree 1) }
+{
+    Member {
+        name: single.name(),
+        child: single.older(),
+        has_two: single.newer().is_some(),
+        count: 1,
+    }
+}
+
+// What is asked of the nodes of one run, as far as there are numbers behind the first tree child.
+fn member_of(nodes: Stretch<Run>) -> Member
+    requires { 0 < nodes.count }
+    ensures some { 0 < result.count }
+    ensures within { result.count ≤ nodes.count }
+    ensures short { IfSome result.child (λ n. n.0 + result.count ≤ 2 ^ 64) }
+    ensures name { result.name ≡ (run_cell nodes.value).name }
+    ensures child { result.child ≡ slice_get (run_cell nodes.value).tree 0 }
+    ensures two { result.has_two ≡ is_some (slice_get (run_cell nodes.value).tree 1) }
+{
+    let child = nodes.value.tree_child(0);
+    Member {
+        name: nodes.value.name.first(),
+        child,
+        has_two: nodes.value.tree_child(1).is_some(),
+        count: numbers_from(child, nodes.count),
+    }
+}
+
 // Whether a name is that of the page so many behind one.
 fn is_page_behind(name: NodeName, cache: CacheId, page: PageNo, by: u32) -> bool
     ensures { IsTrue result ↔ (name ≡ name_behind (Live cache page) by) }
@@ -99,8 +133,8 @@ impl NodeTable {
         ensures alike { AreSaidAlike self.now.cells node result }
         ensures some { CanBeAlike (cell_at self.now.cells node) → 0 < result }
     {
-        match self.nodes.lone(node) {
-            Some(single) => alike_alone(single),
+        match self.nodes.place(node) {
+            Some(place) => alike_alone(self.nodes.at(place)),
             None => alike_of(self.run_from(node)),
         }
     }
@@ -111,23 +145,22 @@ impl NodeTable {
         ensures { MatchOption result (map.get self.now.cells node ≡ None)
             (AreAllMembers self.now.cells node) }
     {
-        match self.nodes.lone(node) {
-            Some(single) => Some(Member {
-                name: single.name(),
-                child: single.older(),
-                has_two: single.newer().is_some(),
-                count: 1,
-            }),
-            None => {
-                let nodes = self.nodes.stretch_from(node)?;
-                let child = nodes.value.tree_child(0);
-                Some(Member {
-                    name: nodes.value.name.first(),
-                    child,
-                    has_two: nodes.value.tree_child(1).is_some(),
-                    count: numbers_from(child, nodes.count),
-                })
-            }
+        match self.nodes.place(node) {
+            Some(place) => Some(member_alone(self.nodes.at(place))),
+            None => self.member_told(node),
+        }
+    }
+
+    // The same of a node that doesn't stand alone.
+    fn member_told(&self, node: u64) -> Option<Member>
+        requires { IsSome (map.get self.now.cells node)
+            → IsSome (said run self.now.list node) }
+        ensures { MatchOption result (map.get self.now.cells node ≡ None)
+            (AreAllMembers self.now.cells node) }
+    {
+        match self.nodes.stretch_from(node) {
+            Some(nodes) => Some(member_of(nodes)),
+            None => None,
         }
     }
 

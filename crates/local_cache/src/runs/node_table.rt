@@ -10,7 +10,7 @@ ghost use Rattle.local_cache.specs.NodeCells.{HasCell, cell_at, changed, ends_of
 ghost use Rattle.local_cache.specs.NodeTable.{HasFreeNumber, HaveFreeNumbers, IsLeastThin, SeesSame};
 ghost use Rattle.local_cache.specs.Runs.{run};
 
-use crate::runs::thin_nodes::FirstThin;
+use crate::runs::thin_nodes::{FirstThin, is_same_number};
 use crate::runs::{Change, Run, Single, ThinNodes};
 use crate::{Ends, Links, Neighbours, OwnState};
 use mixed_map::{Alone, MixedMap, Place};
@@ -80,8 +80,8 @@ impl NodeTable {
         requires { HasCell self.now.cells node }
         ensures { result ≡ cell_at self.now.cells node }
     {
-        match self.nodes.lone(node) {
-            Some(single) => *single,
+        match self.nodes.place(node) {
+            Some(place) => *self.nodes.at(place),
             None => Single::from_stretch(self.run_from(node).value),
         }
     }
@@ -227,9 +227,10 @@ impl NodeTable {
     pub(crate) fn thin(&self) -> Option<NodeId>
         ensures { IsLeastThin self.now.cells result }
     {
-        match self.thin.first()? {
-            FirstThin::Alone(slot) => Some(NodeId(self.nodes.place_of(slot).number)),
-            FirstThin::Among(node) => Some(NodeId(node)),
+        match self.thin.first() {
+            None => None,
+            Some(FirstThin::Alone(slot)) => Some(NodeId(self.nodes.place_of(slot).number)),
+            Some(FirstThin::Among(node)) => Some(NodeId(node)),
         }
     }
 
@@ -350,7 +351,7 @@ impl NodeTable {
         ensures room { self.new.room ≡ self.old.room }
     {
         let now = Stretch { value, ..nodes };
-        if value.thin_number() == nodes.value.thin_number() {
+        if is_same_number(value.thin_number(), nodes.value.thin_number()) {
             self.nodes.put_stretch(now);
         } else {
             self.thin.leave_run(nodes);

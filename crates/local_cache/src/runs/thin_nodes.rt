@@ -70,7 +70,7 @@ fn lesser_of(run: Option<Stretch<Rising>>, alone: Option<Numbered>) -> Option<Fi
     }
 }
 
-fn is_same_number(one: Option<u64>, other: Option<u64>) -> bool
+pub(crate) fn is_same_number(one: Option<u64>, other: Option<u64>) -> bool
     ensures { IsTrue result ↔ (one ≡ other) }
 {
     one == other

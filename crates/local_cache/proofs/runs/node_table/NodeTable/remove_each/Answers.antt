@@ -13,7 +13,7 @@ remove_some-done-requires-clause-held c =
     let first = c.args.first in
     let done = c.loop-done.done in
     let left = ap (λ (m : Cells). map.get m (first + done)) c.loop-done.invariant.cells ∙ range_behind c.args.self.now.cells first done (first + done) (omega arith) in
-    subst IsSome (sym left) (c.requires done (omega (arith, c.loop-done-test.true)))
+    subst IsSome (sym left) (c.requires.held done (omega (arith, c.loop-done-test.true)))
 
 pub loop-done-preserved : goal.loop-done-preserved
 loop-done-preserved c =
