@@ -1,6 +1,7 @@
 -- Nodes that a run says.
-use Rattle.std.proofs.Common.{◌≡◌, ℕ, zero, suc, ◌+◌, ◌-◌, ◌<◌, ◌≤◌, ◌^◌, true, false, Bool, map as list_map, Option, Some, None, IsSome, refl, sym, ap, subst, ◌∙◌, arith}
+use Rattle.std.proofs.Common.{◌≡◌, ℕ, zero, suc, ◌+◌, ◌-◌, ◌<◌, ◌≤◌, ◌^◌, true, false, Bool, map as list_map, Option, Some, None, IsSome, refl, sym, ap, subst, ◌∙◌, inl, inr, arith}
 use Rattle.std.specs.Prelude.{IfSome, is_some, option_map, slice_get, unwrap_or}
+use Rattle.std.proofs.lemmas.Bool.{cases_eq}
 use Rattle.std.proofs.lemmas.Option.{slice_get-map}
 use Rattle.std.specs.FinMap as map
 use Rattle.stretches.specs.Stretch.{is_in}
@@ -15,7 +16,7 @@ use Rattle.local_cache.specs.GoingOn.{run_goes_on}
 use Rattle.local_cache.specs.Looking.{AreAllMembers, IsMember}
 use Rattle.local_cache.specs.ManyNodes.{next_if}
 use Rattle.local_cache.specs.NodeCells.{Cells, cell_at, is_page, run_cell}
-use Rattle.local_cache.specs.NodeTable.{AreSaidAlike, HasNumber, IsSayable, IsStandingAs, Table}
+use Rattle.local_cache.specs.NodeTable.{AreSaidAlike, AreSaidBy, HasNumber, IsSayable, IsStandingAs, Table}
 use Rattle.local_cache.specs.PageNodes.{name_behind}
 use Rattle.local_cache.specs.Runs.{HasNames, further, further_if, run, run_after}
 use Rattle.local_cache.specs.declared.runs.looking.Member.{Member}
@@ -91,11 +92,11 @@ standing t n c (Some r) is alone says page = record {
 
 -- Members of a row
 
-name_here : (x : NodeName) → name_behind x 0 ≡ x
+pub name_here : (x : NodeName) → name_behind x 0 ≡ x
 name_here (Live cache page) = (let e : page.0 + 0 ≡ page.0 = omega arith in λ i. Live cache (record { 0 = e i }))
 name_here (WorkingNode k) = (let e : k + 0 ≡ k = omega arith in ap WorkingNode e)
 
-node_here : (o : Option NodeId) → next_if o 0 ≡ o
+pub node_here : (o : Option NodeId) → next_if o 0 ≡ o
 node_here None = refl
 node_here (Some n) = (let e : n.0 + 0 ≡ n.0 = omega arith in λ i. Some (record { 0 = e i }))
 
@@ -146,3 +147,19 @@ member_run m n r first begins tells some few short name child two =
 pub names_less : (x : RunName) (a b : ℕ) → a ≤ b → HasNames x b → HasNames x a
 names_less (Pages cache page) a b le h = omega (arith, le, h)
 names_less (Working k) a b le h = omega (arith, le, h)
+
+-- one more node that stands alone
+pub said_first : (t : Table) (n : ℕ) (r : Run) → IsStandingAs t n r → AreSaidBy t n r 1
+said_first t n r one k less =
+    let zero_on : k ≡ 0 = omega (arith, less) in
+    let here : n ≡ n + k = omega (arith, less) in
+    let P : Run → Type 0 = λ x. IsStandingAs t n x in
+    let Q : ℕ → Type 0 = λ j. IsStandingAs t n (run_after r j) in
+    let R : ℕ → Type 0 = λ q. IsStandingAs t q (run_after r k) in
+    subst R here (subst Q (sym zero_on) (subst P (sym (run_goes_on.starts r)) one))
+
+pub said_more : (t : Table) (n : ℕ) (r : Run) (k : ℕ) → AreSaidBy t n r k → IsStandingAs t (n + k) (run_after r k) → AreSaidBy t n r (k + 1)
+said_more t n r k before one j less = elim (cases_eq j k) [
+  | inl same ↦ (let P : ℕ → Type 0 = λ i. IsStandingAs t (n + i) (run_after r i) in subst P (sym same) one)
+  | inr other ↦ before j (omega (arith, less, other))
+]

@@ -37,3 +37,5 @@ pub mod PageRanges
 pub mod Pieces
 -- Nodes that are alike.
 pub mod Alike
+-- Nodes in a row.
+pub mod InRow

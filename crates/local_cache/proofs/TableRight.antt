@@ -575,7 +575,7 @@ pub first_alone : (t : Table) (thin : Thin) (slot n : ℕ) → IsTableRight t th
 first_alone t thin slot n right first at =
     let w = (right.kept.alone slot first.0).0 first.1 in
     let here = right.once w.0 n slot w.1 at in
-    (first.0, sym (ap (key_at thin_number t.cells) (sym here)) ∙ w.2, least_thin t thin first.0 right first.2)
+    (first.0, ap (key_at thin_number t.cells) (sym here) ∙ w.2, least_thin t thin first.0 right first.2)
 
 pub first_among : (t : Table) (thin : Thin) (n : ℕ) → IsTableRight t thin → IsFirst thin (Among n) → IsLeastThin t.cells (Some (record { 0 = n }))
 first_among t thin n right first = (first.0, ((right.kept.among first.0 n).0 first.1).1, least_thin t thin first.0 right first.2)

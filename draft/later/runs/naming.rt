@@ -19,6 +19,7 @@ use vm_ids::{CacheId, NodeId, NodeName, PageNo};
 // The pages that so many nodes are of, from one on, have no nodes any more. How many they are.
 fn leave_pages(nodes: &NodeTable, pages: &mut PageTable, first: u64, count: u32) -> u32
     requires held { HaveCells nodes.now.cells first count }
+    requires short { first + count ≤ 2 ^ 64 }
     requires paged { ArePaged nodes.now.cells pages.old.nodes.cells }
     ensures pages { pages.new.nodes.cells
         ≡ without_names pages.old.nodes.cells nodes.now.cells first count }
@@ -48,6 +49,7 @@ fn first_name(nodes: &NodeTable, first: u64, most: u32) -> Names
     requires some { 0 < most }
     ensures some { 0 < result.count }
     ensures within { result.count ≤ most }
+    ensures short { IsShortFor result.name result.count }
     ensures names { (k : ℕ) → k < result.count
         → (cell_at nodes.now.cells (first + k)).name ≡ name_behind result.name k }
 {
@@ -195,6 +197,7 @@ impl NodeTable {
     // working name changes nothing.
     fn rename(&mut self, node: u64, count: u32, name: NodeName)
         requires held { HaveCells self.old.cells node count }
+        requires short { node + count ≤ 2 ^ 64 }
         requires names { IsShortFor name count }
         requires page { is_page name ≡ true }
         ensures cells { self.new.cells ≡ renamed_each self.old.cells node name count }
