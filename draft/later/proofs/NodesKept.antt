@@ -1,5 +1,5 @@
 -- What holds of nodes, pages and counters, where nodes change and keep their names.
-use Rattle.std.proofs.Common.{◌≡◌, ◌≢◌, ℕ, zero, suc, ◌+◌, ◌-◌, ◌<◌, ◌≤◌, Option, Some, None, IsSome, refl, sym, ap, subst, ◌∙◌, inl, inr, arith}
+use Rattle.std.proofs.Common.{◌≡◌, ◌≢◌, ℕ, zero, suc, ◌+◌, ◌-◌, ◌*◌, ◌^◌, ◌<◌, ◌≤◌, Option, Some, None, IsSome, refl, sym, ap, subst, ◌∙◌, inl, inr, arith}
 use Rattle.std.specs.Prelude.{◌↔◌, is_some, option_and_then, option_map, unwrap_or}
 use Rattle.std.proofs.lemmas.Bool.{cases_eq, false≢true}
 use Rattle.std.proofs.lemmas.Option.{none-some}
@@ -130,3 +130,18 @@ keeps_free m x c n f numbered same keeps held =
 pub keeps_free_each : (m : Cells) (c : Counters) (first count : ℕ) (f : ℕ → Cell → Cell) → AreNumbered m c → ((k : ℕ) → KeepsNames (f k)) → HaveCells m first count → AreFreeNumbers m first count f
 keeps_free_each m c first count f numbered keeps held k less =
     keeps_free m (changed_each m first f k) c (first + k) (f k) numbered (names_each m first f keeps k (λ j under. held j (omega (arith, under, less)))) (keeps k) (held k less)
+
+-- Numbers of nodes are far below the greatest number
+
+pub given_below : (m : Cells) (c : Counters) → AreNumbered m c → (n : ℕ) → HasCell m n → n < 2 ^ 63 + 3 * 2 ^ 61
+given_below m c numbered n held = elim (numbered.given n held) [
+  | inl first ↦ omega (arith, first)
+  | inr later ↦ elim later [
+    | inl fresh ↦ omega (arith, fresh.1, numbered.fresh, numbered.made)
+    | inr working ↦ omega (arith, working.1, numbered.working, numbered.made)
+  ]
+]
+
+pub many_short : (m : Cells) (c : Counters) → AreNumbered m c → (first count : ℕ) → first < 2 ^ 64 → HaveCells m first count → first + count ≤ 2 ^ 64
+many_short m c numbered first zero fits held = omega (arith, fits)
+many_short m c numbered first (suc k) fits held = omega (arith, given_below m c numbered (first + k) (held k (omega arith)))
