@@ -1,22 +1,23 @@
 -- What holds of nodes, pages and counters, where nodes change and keep their names.
 use Rattle.std.proofs.Common.{◌≡◌, ◌≢◌, ℕ, zero, suc, ◌+◌, ◌-◌, ◌*◌, ◌^◌, ◌<◌, ◌≤◌, Option, Some, None, IsSome, refl, sym, ap, subst, ◌∙◌, inl, inr, arith}
-use Rattle.std.specs.Prelude.{◌↔◌, is_some, option_and_then, option_map, unwrap_or}
-use Rattle.std.proofs.lemmas.Bool.{cases_eq, false≢true}
-use Rattle.std.proofs.lemmas.Option.{none-some}
+use Rattle.std.specs.Prelude.{◌↔◌, ◌⊎◌, is_some, option_and_then, option_map, unwrap_or}
+use Rattle.std.proofs.lemmas.Bool.{cases_eq, cases_lt, false≢true}
+use Rattle.std.proofs.lemmas.Option.{none-some, same_Some}
 use Rattle.std.specs.FinMap as map
 use Rattle.mixed_map.proofs.Maps.{remove_other, remove_same}
 use Rattle.vm_ids.specs.declared.node_name.NodeName.{NodeName}
+use Rattle.vm_ids.specs.declared.node_name.NodeName.TheVariants.{Working as WorkingNode}
 use Rattle.local_cache.specs.Arena.{Cell, blank}
-use Rattle.local_cache.specs.NodeCells.{Cells, HasCell, HaveCells, cell_at, changed, changed_each}
+use Rattle.local_cache.specs.NodeCells.{Cells, HasCell, HaveCells, cell_at, changed, changed_each, named}
 use Rattle.local_cache.specs.NodeKeys.{key_at, number_of_name, page_key, page_of_name, working_number}
-use Rattle.local_cache.specs.NodeRuns.{AreNodesRight, AreNumbered}
+use Rattle.local_cache.specs.NodeRuns.{AreNodesRight, AreNumbered, IsGiven}
 use Rattle.local_cache.specs.NodeTable.{AreFreeNumbers, HasFreeNumber, Table}
 use Rattle.local_cache.specs.PageNodes.{ArePaged, KeepsNames}
 use Rattle.local_cache.specs.Pages.{Pages}
 use Rattle.local_cache.specs.declared.runs.counters.Counters.{Counters}
 use Rattle.local_cache.specs.declared.runs.page_table.PageTable.{PageTable}
 use Rattle.local_cache.proofs.Singles.{len_insert_old}
-use Rattle.local_cache.proofs.Stretched.{changed_here, changed_other, each_behind}
+use Rattle.local_cache.proofs.Stretched.{changed_here, changed_other, each_at, each_before, each_behind}
 use Rattle.local_cache.proofs.TableRight.{has_key, is_free}
 
 abbrev name_of : Option Cell → Option NodeName
@@ -145,3 +146,81 @@ given_below m c numbered n held = elim (numbered.given n held) [
 pub many_short : (m : Cells) (c : Counters) → AreNumbered m c → (first count : ℕ) → first < 2 ^ 64 → HaveCells m first count → first + count ≤ 2 ^ 64
 many_short m c numbered first zero fits held = omega (arith, fits)
 many_short m c numbered first (suc k) fits held = omega (arith, given_below m c numbered (first + k) (held k (omega arith)))
+
+-- Counters further on
+
+given_on : (c d : Counters) (n : ℕ) → c.fresh ≤ d.fresh → c.working ≤ d.working → IsGiven c n → IsGiven d n
+given_on c d n fresh working given = elim given [
+  | inl first ↦ inl first
+  | inr later ↦ elim later [
+    | inl a ↦ inr (inl (a.0, omega (arith, a.1, fresh)))
+    | inr b ↦ inr (inr (b.0, omega (arith, b.1, working)))
+  ]
+]
+
+-- where nodes go
+pub numbered_less : (m new : Cells) (c : Counters) → AreNumbered m c → ((n : ℕ) → HasCell new n → HasCell m n) → ((n k : ℕ) → key_at working_number new n ≡ Some k → key_at working_number m n ≡ Some k) → AreNumbered new c
+numbered_less m new c numbered held was = record {
+  given = λ n h. numbered.given n (held n h);
+  named = λ n k h. numbered.named n k (was n k h);
+  apart = λ n o k h i. numbered.apart n o k (was n k h) (was o k i);
+  fresh = numbered.fresh;
+  working = numbered.working;
+  made = numbered.made;
+}
+
+-- where nodes get the next working names
+module _ (m : Cells) (c d : Counters) (first count : ℕ) (numbered : AreNumbered m c) (fresh : d.fresh ≡ c.fresh) (working : d.working ≡ c.working)
+    (made : d.made ≡ c.made + count) (few : c.made + count ≤ 3 * 2 ^ 61) (held : HaveCells m first count) where
+  abbrev renamed : Cells
+  renamed = changed_each m first (λ k. named (WorkingNode (c.made + 1 + k))) count
+
+  abbrev IsNext : ℕ → ℕ → Type 0
+  IsNext n j = (k : ℕ) × (k < count) × (n ≡ first + k) × (j ≡ c.made + 1 + k)
+
+  next_or_old : (n j : ℕ) → key_at working_number renamed n ≡ Some j → IsNext n j ⊎ (key_at working_number m n ≡ Some j)
+  next_or_old n j e = elim (cases_lt n first) [
+    | inl low ↦ inr (sym (ap (option_and_then working_number) (each_before m first (λ k. named (WorkingNode (c.made + 1 + k))) count n low)) ∙ e)
+    | inr from ↦ elim (cases_lt n (first + count)) [
+      | inl to ↦
+          let at : n ≡ first + (n - first) = omega (arith, from) in
+          let less : n - first < count = omega (arith, from, to) in
+          let number : c.made + 1 + (n - first) ≡ j = same_Some _ _
+            (sym (ap (key_at working_number renamed) at ∙ ap (option_and_then working_number) (each_at m first (λ k. named (WorkingNode (c.made + 1 + k))) count (n - first) less)) ∙ e) in
+          inl (n - first, less, at, sym number)
+      | inr past ↦ inr (sym (ap (option_and_then working_number) (each_behind m first (λ k. named (WorkingNode (c.made + 1 + k))) count n past)) ∙ e)
+    ]
+  ]
+
+  still_there : (n : ℕ) → HasCell renamed n → HasCell m n
+  still_there n h = elim (cases_lt n first) [
+    | inl low ↦ sym (ap is_some (each_before m first (λ k. named (WorkingNode (c.made + 1 + k))) count n low)) ∙ h
+    | inr from ↦ elim (cases_lt n (first + count)) [
+      | inl to ↦
+          let at : n ≡ first + (n - first) = omega (arith, from) in
+          ap (λ (q : ℕ). is_some (map.get m q)) at ∙ held (n - first) (omega (arith, from, to))
+      | inr past ↦ sym (ap is_some (each_behind m first (λ k. named (WorkingNode (c.made + 1 + k))) count n past)) ∙ h
+    ]
+  ]
+
+  pub numbered_renamed : AreNumbered renamed d
+  numbered_renamed = record {
+    given = λ n h. given_on c d n (omega (arith, fresh)) (omega (arith, working)) (numbered.given n (still_there n h));
+    named = λ n j h. elim (next_or_old n j h) [
+      | inl next ↦ omega (arith, next.1, next.3, made)
+      | inr old ↦ omega (arith, numbered.named n j old, made)
+    ];
+    apart = λ n o j h i. elim (next_or_old n j h) [
+      | inl next ↦ elim (next_or_old o j i) [
+        | inl also ↦ omega (arith, next.2, next.3, also.2, also.3)
+        | inr old ↦ absurd (omega (arith, next.3, numbered.named o j old))
+      ]
+      | inr old ↦ elim (next_or_old o j i) [
+        | inl next ↦ absurd (omega (arith, next.3, numbered.named n j old))
+        | inr also ↦ numbered.apart n o j old also
+      ]
+    ];
+    fresh = omega (arith, fresh, made, numbered.fresh);
+    working = omega (arith, working, made, numbered.working);
+    made = omega (arith, made, few);
+  }
