@@ -5,7 +5,7 @@ use Rattle.std.proofs.lemmas.Bool.{cases_eq, false≢true}
 use Rattle.std.proofs.lemmas.Option.{none-some, same_Some}
 use Rattle.std.specs.FinMap as map
 use Rattle.mixed_map.specs.Mixed.{without_range}
-use Rattle.mixed_map.proofs.Maps.{range_behind, remove_other, remove_same}
+use Rattle.mixed_map.proofs.Maps.{insert_other, insert_same, range_behind, remove_other, remove_same}
 use Rattle.vm_ids.specs.declared.node_name.NodeName.{NodeName}
 use Rattle.vm_ids.specs.declared.node_name.NodeName.TheVariants.{Live, Working}
 use Rattle.vm_ids.specs.declared.numbers.NodeId.{NodeId}
@@ -174,3 +174,28 @@ names_there pages cells first zero q other = refl
 names_there pages cells first (suc k) q other =
     page_stays (without_names pages cells first k) (cell_at cells (first + k)).name q (other k (omega arith))
     ∙ names_there pages cells first k q (λ i less. other i (omega (arith, less)))
+
+-- A node that comes for a page that has none
+pub paged_come : (cells new : Cells) (pages : Pages) (n page : ℕ) → ArePaged cells pages → map.get pages page ≡ None
+    → ((k : ℕ) → key_at page_key cells n ≡ Some k → ⊥) → key_at page_key new n ≡ Some page → ((q : ℕ) → q ≢ n → key_at page_key new q ≡ key_at page_key cells q)
+    → ArePaged new (map.insert pages page (record { 0 = n }))
+paged_come cells new pages n page paged free none is others k q = elim (cases_eq k page) [
+  | inl here ↦ (
+    (λ h.
+      let same : n ≡ q = same_node n q (sym (insert_same pages page (record { 0 = n }) k here) ∙ h) in
+      ap (key_at page_key new) (sym same) ∙ is ∙ ap Some (sym here)),
+    (λ h. elim (cases_eq q n) [
+      | inl same ↦ insert_same pages page (record { 0 = n }) k here ∙ (λ i. Some (record { 0 = sym same i }))
+      | inr other ↦ absurd (none-some _ (sym free ∙ ap (map.get pages) (sym here) ∙ (paged k q).1 (sym (others q other) ∙ h)))
+    ]),
+  )
+  | inr far ↦ (
+    (λ h.
+      let was = (paged k q).0 (sym (insert_other pages page (record { 0 = n }) k far) ∙ h) in
+      let other : q ≢ n = λ e. none k (ap (key_at page_key cells) (sym e) ∙ was) in
+      others q other ∙ was),
+    (λ h.
+      let other : q ≢ n = λ e. far (sym (same_Some _ _ (sym is ∙ ap (key_at page_key new) (sym e) ∙ h))) in
+      insert_other pages page (record { 0 = n }) k far ∙ (paged k q).1 (sym (others q other) ∙ h)),
+  )
+]
