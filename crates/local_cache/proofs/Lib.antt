@@ -39,3 +39,5 @@ pub mod Pieces
 pub mod Alike
 -- Nodes in a row.
 pub mod InRow
+-- Nodes that keep their names.
+pub mod NodesKept

@@ -11,6 +11,7 @@ pub mod Many
 pub mod ManyNodes
 pub mod NodeCells
 pub mod NodeKeys
+pub mod NodeRuns
 pub mod NodeTable
 pub mod OnCells
 pub mod Own

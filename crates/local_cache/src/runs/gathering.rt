@@ -1,13 +1,13 @@
 // Nodes of pages that stand by themselves and are alike, put into one run.
 ghost use Rattle.std.specs.Prelude.{◌≡◌, ◌+◌, ◌<◌, ◌≤◌, ◌^◌, IfSome};
 ghost use Rattle.local_cache.specs.NodeTable.{AreSaidBy, IsStandingAs, SeesSameCells};
-//STAGE ghost use Rattle.local_cache.specs.PageNodes.{HasNode};
+ghost use Rattle.local_cache.specs.PageNodes.{HasNode};
 ghost use Rattle.local_cache.specs.Runs.{HasNames, run};
 
-//STAGE use crate::runs::NodeRuns;
+use crate::runs::NodeRuns;
 use crate::runs::{NodeTable, Run, RunName};
 use stretches::{Says, Stretch};
-//STAGE use vm_ids::NodeId;
+use vm_ids::NodeId;
 
 // Fewer aren't worth a run.
 const FEWEST: u32 = 8;
@@ -86,12 +86,12 @@ impl NodeTable {
     }
 }
 
-//STAGE impl NodeRuns {
-//STAGE     // The same of the nodes of pages.
-//STAGE     pub(crate) fn gather(&mut self, node: NodeId, most: u32)
-//STAGE         requires { HasNode self.old node }
-//STAGE         ensures { self.new ≡ self.old }
-//STAGE     {
-//STAGE         self.table.gather_from(node.0, most);
-//STAGE     }
-//STAGE }
+impl NodeRuns {
+    // The same of the nodes of pages.
+    pub(crate) fn gather(&mut self, node: NodeId, most: u32)
+        requires { HasNode self.old node }
+        ensures { self.new ≡ self.old }
+    {
+        self.table.gather_from(node.0, most);
+    }
+}

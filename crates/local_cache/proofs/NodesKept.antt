@@ -20,7 +20,7 @@ use Rattle.local_cache.proofs.Singles.{len_insert_old}
 use Rattle.local_cache.proofs.Stretched.{changed_here, changed_other, each_at, each_before, each_behind}
 use Rattle.local_cache.proofs.TableRight.{has_key, is_free}
 
-abbrev name_of : Option Cell → Option NodeName
+abbrev pub name_of : Option Cell → Option NodeName
 name_of o = option_map (λ (c : Cell). c.name) o
 
 -- each number has the name that it had, if it had one
