@@ -1,0 +1,74 @@
+-- What a call of the segment manager may answer: what its machine answers, a mapper fault with its
+-- cause, want of memory, or that there are too many caches or pages.
+use Rattle.std.specs.Prelude.{◌≡◌, ◌⊎◌, ◌<◌, ℕ, Option, None, Ok, Err}
+use Rattle.vm_ids.specs.Counting.{MapperCounts}
+use Rattle.vm_ids.specs.Held.{Segments}
+use Rattle.vm_ids.specs.declared.command.Command.TheVariants.{MakeTemp, OpenSegment}
+use Rattle.vm_ids.specs.declared.command.KeepCommand.{KeepCommand}
+use Rattle.vm_ids.specs.declared.command.KeepCommand.TheVariants as commands
+use Rattle.vm_ids.specs.declared.refusal.Refusal.TheVariants.{NoSegment, TooMany}
+use Rattle.vm_ids.specs.declared.reply.FaultAt.{FaultAt}
+use Rattle.vm_ids.specs.declared.reply.FaultAt.TheVariants as faults
+use Rattle.vm_ids.specs.declared.reply.Trouble.TheVariants as troubles
+use Rattle.vm_model.specs.Answering.{Answer}
+use Rattle.vm_model.specs.Outcome as plain
+use Rattle.vm_model.specs.Outcome.{IsNotRefused, NotRefusedButFor}
+use Rattle.vm_model.specs.PageForest.{PageForest}
+use Rattle.seg_manager.specs.Answering.{MayHave, answer_of}
+use Rattle.seg_manager.specs.ReferenceMachine.{ReferenceMachine, number_named}
+
+-- Which faults a call may answer, at which page, and which of the mapper's counts rose with it
+-- beside its faults. Where there is no room for a new cache, one that nothing refers to any more is
+-- destroyed first, which may fail at any of its pages.
+abbrev pub MayFault : ReferenceMachine → Option PageForest → KeepCommand → Segments → FaultAt
+    → MapperCounts → Type 0
+MayFault m f (commands.Plain (OpenSegment seg)) h faults.Opening rises =
+    number_named m seg.0 ≡ None
+MayFault m f (commands.Plain (OpenSegment seg)) h (faults.Page p) rises =
+    number_named m seg.0 ≡ None
+MayFault m f (commands.Plain (OpenSegment seg)) h (faults.Save done) rises =
+    number_named m seg.0 ≡ None
+MayFault m f (commands.Plain (MakeTemp pages)) h (faults.Page p) rises = Unit {0}
+MayFault m f (commands.Plain (MakeTemp pages)) h (faults.Save done) rises = Unit {0}
+MayFault m f (commands.Plain command) h at rises = plain.MayFault m.memory f command h at rises
+MayFault m f (commands.Close seg) h at rises = ⊥
+
+-- The machine would refuse nothing, as far as is known at this fault: that there is no such
+-- segment may be hidden by it.
+abbrev pub GoesOn : FaultAt → KeepCommand → Answer → Type 0
+GoesOn at (commands.Plain (OpenSegment seg)) (Err (troubles.Refused NoSegment)) = Unit {0}
+GoesOn at command answer = NotRefusedButFor at answer
+
+-- the calls that take memory
+abbrev pub MayLack : KeepCommand → Type 0
+MayLack (commands.Plain command) = plain.MayLackMemory command
+MayLack (commands.Close seg) = ⊥
+
+-- the calls for which there may be too many caches or pages: those that make a cache
+abbrev pub MayExceed : ReferenceMachine → KeepCommand → Type 0
+MayExceed m (commands.Plain (OpenSegment seg)) = number_named m seg.0 ≡ None
+MayExceed m (commands.Plain (MakeTemp pages)) = Unit {0}
+MayExceed m command = ⊥
+
+-- The machine answers so, and its next is this one. A new cache has this number.
+abbrev pub Gives : ReferenceMachine → KeepCommand → Segments → ℕ → Answer → ReferenceMachine
+    → Type 0
+Gives m command h number answer next =
+    answer_of m command h number ≡ record { answer = answer; next = next }
+
+-- The answer and the next machine are those of the machine; or it is a fault that has a cause, want
+-- of memory or too many, and the machine stays.
+abbrev pub Outcome : ReferenceMachine → Option PageForest → KeepCommand → Segments → ℕ → Answer
+    → ReferenceMachine → MapperCounts → Type 0
+Outcome m f command h number (Err (troubles.Mapper at)) next rises =
+    (next ≡ m) × (0 < rises.faults) × MayFault m f command h at rises
+    × GoesOn at command (answer_of m command h number).answer
+Outcome m f command h number (Err troubles.Memory) next rises =
+    (next ≡ m) × MayLack command × IsNotRefused (answer_of m command h number).answer
+Outcome m f command h number (Err (troubles.Refused TooMany)) next rises =
+    ((next ≡ m) × MayExceed m command)
+    ⊎ Gives m command h number (Err (troubles.Refused TooMany)) next
+Outcome m f command h number (Err (troubles.Refused r)) next rises =
+    Gives m command h number (Err (troubles.Refused r)) next
+Outcome m f command h number (Ok r) next rises =
+    MayHave m command number × Gives m command h number (Ok r) next

@@ -1,0 +1,98 @@
+-- Segments that are opened again and again, over plain caches. There is no manager here, and no
+-- cache that nothing refers to.
+use Rattle.std.specs.Prelude.{◌==◌, ℕ, ◌+◌, ◌-◌, ◌||◌, not, nat_le, Bool, false, List, [], ◌∷◌, ◌++◌, length, replicate, Option, Some, None, slice_set, if◌then◌else◌}
+use Rattle.std.specs.FinMap.{FinMap, insert}
+use Rattle.std.specs.List.{list_any}
+use Rattle.std.specs.Option.{option_map_or}
+use Rattle.std.specs.Ordering.{nat_cmp}
+use Rattle.vm_model.specs.Answering.{is_mapped}
+use Rattle.vm_model.specs.Machine as plain
+use Rattle.vm_model.specs.Machine.{Cache, Machine, Page, is_named_by}
+
+-- The plain machine of actors, caches and regions, in which a named cache lives while an opening or
+-- a region refers to it; the pages that each segment has where no cache lives for it; and the
+-- segment of each opening that wasn't taken back, the last one first.
+pub record ReferenceMachine : Type 0 where
+  pub memory : Machine
+  pub stored : FinMap nat_cmp (List Page)
+  pub openings : List ℕ
+
+-- how a run begins over segments of these pages
+abbrev pub start : ℕ → ℕ → FinMap nat_cmp (List Page) → ReferenceMachine
+start frames page_bytes pages =
+    record { memory = plain.start frames page_bytes; stored = pages; openings = [] }
+
+-- the number of the live cache of a segment; the first of these caches has this number
+abbrev pub number_in : ℕ → List (Option Cache) → ℕ → Option ℕ
+number_in number [] seg = None
+number_in number (c ∷ cs) seg =
+    if is_named_by seg c then Some number else number_in (number + 1) cs seg
+
+abbrev pub number_named : ReferenceMachine → ℕ → Option ℕ
+number_named m seg = number_in 1 m.memory.caches seg
+
+-- an opening of the segment wasn't taken back
+abbrev pub is_open : ReferenceMachine → ℕ → Bool
+is_open m seg = list_any (λ s. s == seg) m.openings
+
+-- the last opening of the segment is taken back
+abbrev pub without_one : ℕ → List ℕ → List ℕ
+without_one seg [] = []
+without_one seg (s ∷ ss) = if s == seg then ss else s ∷ without_one seg ss
+
+abbrev pub close_one : ℕ → ReferenceMachine → ReferenceMachine
+close_one seg m = record m { openings = without_one seg m.openings }
+
+abbrev pub open_one : ℕ → ReferenceMachine → ReferenceMachine
+open_one seg m = record m { openings = seg ∷ m.openings }
+
+-- nothing refers to the cache with this number, of this segment
+abbrev pub is_unused : ReferenceMachine → ℕ → ℕ → Bool
+is_unused m number seg = not (is_open m seg || is_mapped m.memory number)
+
+-- the same of a cache, and never of a temporary one
+abbrev pub goes : ReferenceMachine → ℕ → Cache → Bool
+goes m number c = option_map_or (is_unused m number) c.segment false
+
+abbrev pub used_at : ReferenceMachine → ℕ → Option Cache → Option Cache
+used_at m number None = None
+used_at m number (Some c) = if goes m number c then None else Some c
+
+-- these caches, the first of which has this number, but for those that nothing refers to
+abbrev pub used : ReferenceMachine → ℕ → List (Option Cache) → List (Option Cache)
+used m number [] = []
+used m number (c ∷ cs) = used_at m number c ∷ used m (number + 1) cs
+
+abbrev pub put_pages_of : Option ℕ → List Page → FinMap nat_cmp (List Page)
+    → FinMap nat_cmp (List Page)
+put_pages_of None pages stored = stored
+put_pages_of (Some seg) pages stored = insert stored seg pages
+
+abbrev pub stored_at : ReferenceMachine → ℕ → Option Cache → FinMap nat_cmp (List Page)
+    → FinMap nat_cmp (List Page)
+stored_at m number None stored = stored
+stored_at m number (Some c) stored =
+    if goes m number c then put_pages_of c.segment c.pages stored else stored
+
+-- what is stored, once those of these caches went that nothing refers to
+abbrev pub stored_from : ReferenceMachine → ℕ → List (Option Cache) → FinMap nat_cmp (List Page)
+stored_from m number [] = m.stored
+stored_from m number (c ∷ cs) = stored_at m number c (stored_from m (number + 1) cs)
+
+-- Each named cache that nothing refers to goes, and its pages are those of its segment from then on.
+abbrev pub let_go : ReferenceMachine → ReferenceMachine
+let_go m = record m {
+  memory = record m.memory { caches = used m 1 m.memory.caches };
+  stored = stored_from m 1 m.memory.caches;
+}
+
+-- These caches with one more under this number, which no live one has; the numbers that were passed
+-- over are those of no cache.
+abbrev pub with_cache : List (Option Cache) → ℕ → Cache → List (Option Cache)
+with_cache caches number c =
+    if nat_le number (length caches) then slice_set caches (number - 1) (Some c)
+    else caches ++ replicate (number - 1 - length caches) None ++ Some c ∷ []
+
+abbrev pub add_cache : ReferenceMachine → ℕ → Cache → ReferenceMachine
+add_cache m number c =
+    record m { memory = record m.memory { caches = with_cache m.memory.caches number c } }
