@@ -1,15 +1,12 @@
 -- Which cache a segment names, where the caches change, and what is stored when caches go.
 use Rattle.std.proofs.Common.{◌≡◌, ◌==◌, ℕ, zero, suc, ◌+◌, ◌-◌, ◌<◌, ◌≤◌, Bool, true, false, cond, List, [], ◌∷◌, ◌++◌, length, Option, Some, None, refl, sym, ap, ◌∙◌, arith}
 use Rattle.std.specs.Prelude.{is_some, nat_le, option_and_then, replicate, slice_get, slice_set}
-use Rattle.std.specs.Cmp.{nat_cmp_total, unsigned_tied}
-use Rattle.std.specs.FinMap.{FinMap, get, get-insert, insert}
 use Rattle.std.specs.Option.{option_map_or}
-use Rattle.std.specs.Ordering.{nat_cmp}
-use Rattle.std.proofs.lemmas.Bool.{cond-false, cond-true, eq-eqb, eqb-true}
+use Rattle.std.proofs.lemmas.Bool.{eq-eqb, eqb-true}
 use Rattle.std.proofs.lemmas.Bool.Decides.{nat_tests}
 use Rattle.vm_model.specs.Machine.{Cache, Page, cache_named, is_named_by, numbered}
 use Rattle.vm_model.proofs.Parts.ListParts.{at_some}
-use Rattle.seg_manager.specs.ReferenceMachine.{ReferenceMachine, goes, put_pages_of, stored_at, stored_from, used, used_at, with_cache}
+use Rattle.seg_manager.specs.ReferenceMachine.{ReferenceMachine, Stored, goes, put_stored, stored_at, stored_from, used, used_at, with_cache}
 
 -- a segment names one of these caches
 abbrev pub has_named : ℕ → List (Option Cache) → Bool
@@ -37,15 +34,16 @@ module _ (seg : ℕ) where
       ∙ ap (cond (is_named_by seg x) true) (set_named cs i o c there e)
       ∙ sym (head_named x (cache_named cs seg))
 
+  free_rest : (x : Option Cache) (cs : List (Option Cache)) → is_named_by seg x ≡ false → has_named seg (x ∷ cs) ≡ false → has_named seg cs ≡ false
+  free_rest x cs e free = sym (ap (λ (b : Bool). cond b true (has_named seg cs)) e) ∙ sym (head_named x (cache_named cs seg)) ∙ free
+
   pub append_named : (cs ds : List (Option Cache)) → has_named seg cs ≡ false → cache_named (cs ++ ds) seg ≡ cache_named ds seg
   append_named [] ds free = refl
-  append_named (x ∷ cs) ds free = by (is_named_by seg x) refl
+  append_named (x ∷ cs) ds free = by (is_named_by seg x) refl (λ e. append_named cs ds (free_rest x cs e free))
     where
-      by : (b : Bool) → is_named_by seg x ≡ b → cache_named (x ∷ cs ++ ds) seg ≡ cache_named ds seg
-      by true e = let some : has_named seg (x ∷ cs) ≡ true = head_named x (cache_named cs seg) ∙ ap (λ (b : Bool). cond b true (has_named seg cs)) e in absurd (cc (free, some))
-      by false e =
-          ap (λ (b : Bool). cond b x (cache_named (cs ++ ds) seg)) e
-          ∙ append_named cs ds (sym (ap (λ (b : Bool). cond b true (has_named seg cs)) e) ∙ sym (head_named x (cache_named cs seg)) ∙ free)
+      by : (b : Bool) → is_named_by seg x ≡ b → (is_named_by seg x ≡ false → cache_named (cs ++ ds) seg ≡ cache_named ds seg) → cache_named (x ∷ cs ++ ds) seg ≡ cache_named ds seg
+      by true e rest = let some : has_named seg (x ∷ cs) ≡ true = head_named x (cache_named cs seg) ∙ ap (λ (b : Bool). cond b true (has_named seg cs)) e in absurd (cc (free, some))
+      by false e rest = ap (λ (b : Bool). cond b x (cache_named (cs ++ ds) seg)) e ∙ rest e
 
   append_has : (cs ds : List (Option Cache)) → has_named seg (cs ++ ds) ≡ cond (has_named seg cs) true (has_named seg ds)
   append_has [] ds = refl
@@ -75,7 +73,8 @@ module _ (seg : ℕ) where
     where
       there : number ≤ length cs → slice_get cs (number - 1) ≡ Some None
       there h = free_at cs (number - 1) (omega (arith, some, h)) (sym (at_some cs number some) ∙ free)
-      by : (b : Bool) → nat_le number (length cs) ≡ b → has_named seg (cond b (slice_set cs (number - 1) (Some c)) (cs ++ replicate (number - 1 - length cs) None ++ Some c ∷ [])) ≡ has_named seg cs
+
+      by : (b : Bool) → nat_le number (length cs) ≡ b → has_named seg (cond b (slice_set cs (number - 1) (Some c)) (cs ++ (replicate (number - 1 - length cs) None ++ Some c ∷ []))) ≡ has_named seg cs
       by true e = set_named cs (number - 1) None (Some c) (there (grind (arith, nat_tests))) (sym other)
       by false e =
           append_has cs (replicate (number - 1 - length cs) None ++ Some c ∷ [])
@@ -89,19 +88,17 @@ module _ (seg : ℕ) where
   set_own : (cs : List (Option Cache)) (i : ℕ) (c : Cache) → i < length cs → has_named seg cs ≡ false → is_named_by seg (Some c) ≡ true → cache_named (slice_set cs i (Some c)) seg ≡ Some c
   set_own [] i c h free own = absurd (omega (arith, h))
   set_own (x ∷ cs) zero c h free own = ap (λ (b : Bool). cond b (Some c) (cache_named cs seg)) own
-  set_own (x ∷ cs) (suc i) c h free own = by (is_named_by seg x) refl
+  set_own (x ∷ cs) (suc i) c h free own = by (is_named_by seg x) refl (λ e. set_own cs i c (omega (arith, h)) (free_rest x cs e free) own)
     where
-      by : (b : Bool) → is_named_by seg x ≡ b → cache_named (x ∷ slice_set cs i (Some c)) seg ≡ Some c
-      by true e = let some : has_named seg (x ∷ cs) ≡ true = head_named x (cache_named cs seg) ∙ ap (λ (b : Bool). cond b true (has_named seg cs)) e in absurd (cc (free, some))
-      by false e =
-          ap (λ (b : Bool). cond b x (cache_named (slice_set cs i (Some c)) seg)) e
-          ∙ set_own cs i c (omega (arith, h)) (sym (ap (λ (b : Bool). cond b true (has_named seg cs)) e) ∙ sym (head_named x (cache_named cs seg)) ∙ free) own
+      by : (b : Bool) → is_named_by seg x ≡ b → (is_named_by seg x ≡ false → cache_named (slice_set cs i (Some c)) seg ≡ Some c) → cache_named (x ∷ slice_set cs i (Some c)) seg ≡ Some c
+      by true e rest = let some : has_named seg (x ∷ cs) ≡ true = head_named x (cache_named cs seg) ∙ ap (λ (b : Bool). cond b true (has_named seg cs)) e in absurd (cc (free, some))
+      by false e rest = ap (λ (b : Bool). cond b x (cache_named (slice_set cs i (Some c)) seg)) e ∙ rest e
 
   -- a new cache that the segment names, where it named none
   pub with_own : (cs : List (Option Cache)) (number : ℕ) (c : Cache) → 1 ≤ number → has_named seg cs ≡ false → is_named_by seg (Some c) ≡ true → cache_named (with_cache cs number c) seg ≡ Some c
   with_own cs number c some free own = by (nat_le number (length cs)) refl
     where
-      by : (b : Bool) → nat_le number (length cs) ≡ b → cache_named (cond b (slice_set cs (number - 1) (Some c)) (cs ++ replicate (number - 1 - length cs) None ++ Some c ∷ [])) seg ≡ Some c
+      by : (b : Bool) → nat_le number (length cs) ≡ b → cache_named (cond b (slice_set cs (number - 1) (Some c)) (cs ++ (replicate (number - 1 - length cs) None ++ Some c ∷ []))) seg ≡ Some c
       by true e = set_own cs (number - 1) c (let h : number ≤ length cs = grind (arith, nat_tests) in omega (arith, some, h)) free own
       by false e =
           append_named cs (replicate (number - 1 - length cs) None ++ Some c ∷ []) free
@@ -114,24 +111,24 @@ module _ (seg : ℕ) where
   named_seg None e = absurd (cc e)
   named_seg (Some s) e = ap (λ (n : ℕ). Some n) (eqb-true s seg e)
 
-  put_own : (o : Option ℕ) (pages : List Page) (stored : FinMap nat_cmp (List Page)) → option_map_or (λ s. s == seg) o false ≡ true → get (put_pages_of o pages stored) seg ≡ Some pages
+  put_own : (o : Option ℕ) (pages : List Page) (stored : Stored) → option_map_or (λ s. s == seg) o false ≡ true → put_stored o pages stored seg ≡ Some pages
   put_own o pages stored e =
-      ap (λ (x : Option ℕ). get (put_pages_of x pages stored) seg) (named_seg o e)
-      ∙ get-insert nat_cmp_total stored seg pages seg ∙ cond-true _ _ _ (unsigned_tied seg seg ∙ eq-eqb seg seg refl)
+      ap (λ (x : Option ℕ). put_stored x pages stored seg) (named_seg o e)
+      ∙ ap (λ (b : Bool). cond b (Some pages) (stored seg)) (eq-eqb seg seg refl)
 
-  put_other : (o : Option ℕ) (pages : List Page) (stored : FinMap nat_cmp (List Page)) → option_map_or (λ s. s == seg) o false ≡ false → get (put_pages_of o pages stored) seg ≡ get stored seg
+  put_other : (o : Option ℕ) (pages : List Page) (stored : Stored) → option_map_or (λ s. s == seg) o false ≡ false → put_stored o pages stored seg ≡ stored seg
   put_other None pages stored e = refl
   put_other (Some s) pages stored e =
-      get-insert nat_cmp_total stored s pages seg ∙ cond-false _ _ _ (unsigned_tied seg s ∙ other)
+      ap (λ (b : Bool). cond b (Some pages) (stored seg)) other
     where
       other : (seg == s) ≡ false
       other = grind (arith, nat_tests)
 
   module _ (m : ReferenceMachine) where
-    stored_other : (k : ℕ) (c : Cache) (stored : FinMap nat_cmp (List Page)) → is_named_by seg (Some c) ≡ false → get (stored_at m k (Some c) stored) seg ≡ get stored seg
+    stored_other : (k : ℕ) (c : Cache) (stored : Stored) → is_named_by seg (Some c) ≡ false → stored_at m k (Some c) stored seg ≡ stored seg
     stored_other k c stored e = by (goes m k c)
       where
-        by : (b : Bool) → get (cond b (put_pages_of c.segment c.pages stored) stored) seg ≡ get stored seg
+        by : (b : Bool) → cond b (put_stored c.segment c.pages stored) stored seg ≡ stored seg
         by true = put_other c.segment c.pages stored e
         by false = refl
 
@@ -143,37 +140,38 @@ module _ (seg : ℕ) where
         by false = ap (λ (b : Bool). is_some (cond b (Some c) rest)) e
 
     -- the cache of a segment that is gone stands in what is stored for it
-    pub gone_stored : (k : ℕ) (cs : List (Option Cache)) (was : Cache) → cache_named cs seg ≡ Some was → has_named seg (used m k cs) ≡ false → get (stored_from m k cs) seg ≡ Some was.pages
+    pub gone_stored : (k : ℕ) (cs : List (Option Cache)) (was : Cache) → cache_named cs seg ≡ Some was → has_named seg (used m k cs) ≡ false → stored_from m k cs seg ≡ Some was.pages
     gone_stored k [] was e gone = absurd (cc e)
     gone_stored k (None ∷ cs) was e gone = gone_stored (k + 1) cs was e gone
-    gone_stored k (Some c ∷ cs) was e gone = by (is_named_by seg (Some c)) refl (goes m k c) refl
+    gone_stored k (Some c ∷ cs) was e gone =
+        by (is_named_by seg (Some c)) refl (goes m k c) refl (λ n.
+        gone_stored (k + 1) cs was (sym (ap (λ (b : Bool). cond b (Some c) (cache_named cs seg)) n) ∙ e)
+        (sym (used_other k c (cache_named (used m (k + 1) cs) seg) n) ∙ gone))
       where
-        rest : FinMap nat_cmp (List Page)
+        rest : Stored
         rest = stored_from m (k + 1) cs
-        by : (b : Bool) → is_named_by seg (Some c) ≡ b → (g : Bool) → goes m k c ≡ g → get (stored_at m k (Some c) rest) seg ≡ Some was.pages
-        by true n true g =
+
+        by : (b : Bool) → is_named_by seg (Some c) ≡ b → (g : Bool) → goes m k c ≡ g → (is_named_by seg (Some c) ≡ false → rest seg ≡ Some was.pages) → stored_at m k (Some c) rest seg ≡ Some was.pages
+        by true n true g later =
             let same : c ≡ was = (let s : Some c ≡ Some was = sym (ap (λ (b : Bool). cond b (Some c) (cache_named cs seg)) n) ∙ e in cc s) in
-            ap (λ (b : Bool). get (cond b (put_pages_of c.segment c.pages rest) rest) seg) g
+            ap (λ (b : Bool). cond b (put_stored c.segment c.pages rest) rest seg) g
             ∙ put_own c.segment c.pages rest n ∙ ap (λ (x : Cache). Some x.pages) same
-        by true n false g =
+        by true n false g later =
             let some : has_named seg (used m k (Some c ∷ cs)) ≡ true =
-                ap (λ (b : Bool). is_some (cond (is_named_by seg (cond b None (Some c))) (cond b None (Some c)) (cache_named (used m (k + 1) cs) seg))) g
-                ∙ ap (λ (b : Bool). is_some (cond b (Some c) (cache_named (used m (k + 1) cs) seg))) n in
+            ap (λ (b : Bool). is_some (cond (is_named_by seg (cond b None (Some c))) (cond b None (Some c)) (cache_named (used m (k + 1) cs) seg))) g
+            ∙ ap (λ (b : Bool). is_some (cond b (Some c) (cache_named (used m (k + 1) cs) seg))) n in
             absurd (cc (gone, some))
-        by false n g q =
-            stored_other k c rest n
-            ∙ gone_stored (k + 1) cs was (sym (ap (λ (b : Bool). cond b (Some c) (cache_named cs seg)) n) ∙ e)
-            (sym (used_other k c (cache_named (used m (k + 1) cs) seg) n) ∙ gone)
+        by false n g q later = stored_other k c rest n ∙ later n
 
     -- where the segment names no cache, none is that goes
-    pub none_goes : (k : ℕ) (cs : List (Option Cache)) → has_named seg cs ≡ false → (has_named seg (used m k cs) ≡ false) × (get (stored_from m k cs) seg ≡ get m.stored seg)
+    pub none_goes : (k : ℕ) (cs : List (Option Cache)) → has_named seg cs ≡ false → (has_named seg (used m k cs) ≡ false) × (stored_from m k cs seg ≡ m.stored seg)
     none_goes k [] free = (refl, refl)
     none_goes k (None ∷ cs) free = none_goes (k + 1) cs free
-    none_goes k (Some c ∷ cs) free = by (is_named_by seg (Some c)) refl
+    none_goes k (Some c ∷ cs) free = by (is_named_by seg (Some c)) refl (λ n. none_goes (k + 1) cs (free_rest (Some c) cs n free))
       where
-        by : (b : Bool) → is_named_by seg (Some c) ≡ b → (has_named seg (used m k (Some c ∷ cs)) ≡ false) × (get (stored_from m k (Some c ∷ cs)) seg ≡ get m.stored seg)
-        by true n = let some : has_named seg (Some c ∷ cs) ≡ true = ap (λ (b : Bool). is_some (cond b (Some c) (cache_named cs seg))) n in absurd (cc (free, some))
-        by false n =
-            let later = none_goes (k + 1) cs (sym (ap (λ (b : Bool). is_some (cond b (Some c) (cache_named cs seg))) n) ∙ free) in
-            (used_other k c (cache_named (used m (k + 1) cs) seg) n ∙ later.0,
-            stored_other k c (stored_from m (k + 1) cs) n ∙ later.1)
+        by : (b : Bool) → is_named_by seg (Some c) ≡ b → (is_named_by seg (Some c) ≡ false → (has_named seg (used m (k + 1) cs) ≡ false) × (stored_from m (k + 1) cs seg ≡ m.stored seg)) → (has_named seg (used m k (Some c ∷ cs)) ≡ false) × (stored_from m k (Some c ∷ cs) seg ≡ m.stored seg)
+        by true n later = let some : has_named seg (Some c ∷ cs) ≡ true = ap (λ (b : Bool). is_some (cond b (Some c) (cache_named cs seg))) n in absurd (cc (free, some))
+        by false n later = (
+          used_other k c (cache_named (used m (k + 1) cs) seg) n ∙ (later n).0,
+          stored_other k c (stored_from m (k + 1) cs) n ∙ (later n).1,
+        )

@@ -1,14 +1,11 @@
 -- What an opening finds is what the cache of the segment held when its last reference went.
-use Rattle.std.proofs.Common.{◌≡◌, ◌==◌, ◌⊎◌, inl, inr, ℕ, zero, suc, ◌+◌, ◌-◌, ◌<◌, ◌≤◌, Bool, true, false, cond, List, [], ◌∷◌, ◌++◌, length, Option, Some, None, refl, sym, ap, subst, ◌∙◌, arith}
+use Rattle.std.proofs.Common.{◌≡◌, ◌==◌, ◌⊎◌, inl, inr, ℕ, zero, suc, ◌+◌, ◌-◌, ◌<◌, ◌≤◌, Bool, true, false, cond, List, [], ◌∷◌, length, Option, Some, None, refl, sym, ap, subst, ◌∙◌, arith}
 use Rattle.std.specs.Prelude.{Ok, Err, is_some, option_and_then, slice_get}
-use Rattle.std.specs.FinMap.{get}
 use Rattle.std.specs.List.{AllByRecursion}
 use Rattle.std.specs.Option.{option_map_or}
 use Rattle.std.proofs.lemmas.Bool.{eq-eqb, eqb-true}
-use Rattle.std.proofs.lemmas.Bool.Decides.{nat_tests}
 use Rattle.vm_ids.specs.Counting.{MapperCounts}
 use Rattle.vm_ids.specs.Held.{Segments}
-use Rattle.vm_ids.specs.declared.command.Command.{Command}
 use Rattle.vm_ids.specs.declared.command.Command.TheVariants as plain_commands
 use Rattle.vm_ids.specs.declared.command.KeepCommand.{KeepCommand}
 use Rattle.vm_ids.specs.declared.command.KeepCommand.TheVariants as commands
@@ -22,15 +19,14 @@ use Rattle.vm_ids.specs.declared.reply.Trouble.TheVariants as troubles
 use Rattle.vm_model.specs.Answering as plain
 use Rattle.vm_model.specs.Answering.{Answer, opened, overwrite, page_at, put_cache, put_page, temporary}
 use Rattle.vm_model.specs.Machine.{Cache, Machine, Page, cache_named, cache_of, is_named_by, numbered}
-use Rattle.vm_model.specs.Place.{Place}
 use Rattle.vm_model.specs.PageForest.{PageForest}
 use Rattle.vm_model.proofs.Outcomes.Rows.{each_ok, each_some, each_unless}
 use Rattle.vm_model.proofs.Parts.ListParts.{at_some}
 use Rattle.vm_model.proofs.Parts.Lists.{at_number}
-use Rattle.seg_manager.specs.Answering.{Answered, MayHave, answer_of, close_of, leaving, make_temp_of, open_anew, open_by, open_of, plain_of, refuse, reply}
-use Rattle.seg_manager.specs.Laws.{Chain, Leads, ReopensAsItWas, Step, cache_for, opens}
-use Rattle.seg_manager.specs.Outcome.{Gives, Outcome}
-use Rattle.seg_manager.specs.ReferenceMachine.{ReferenceMachine, close_one, is_open, let_go, number_in, number_named}
+use Rattle.seg_manager.specs.Answering.{Answered, MayHave, answer_of, close_of, leaving, make_temp_of, open_anew, open_by, open_of, refuse, reply}
+use Rattle.seg_manager.specs.Laws.{Chain, ReopensAsItWas, Step, cache_for, opens}
+use Rattle.seg_manager.specs.Outcome.{Outcome}
+use Rattle.seg_manager.specs.ReferenceMachine.{ReferenceMachine, Stored, close_one, is_open, let_go, number_in, number_named}
 use Rattle.seg_manager.proofs.Naming.{gone_stored, has_named, none_goes, set_named, with_other, with_own}
 
 -- Rows of the plain machine
@@ -141,13 +137,12 @@ past cs n h = at_some cs n (omega (arith, h)) ∙ ap (option_and_then (λ x. x))
 -- a segment whose cache has no number names none
 no_number : (seg k : ℕ) (cs : List (Option Cache)) → number_in k cs seg ≡ None → has_named seg cs ≡ false
 no_number seg k [] e = refl
-no_number seg k (c ∷ cs) e = by (is_named_by seg c) refl
+no_number seg k (c ∷ cs) e =
+    by (is_named_by seg c) refl (λ n. no_number seg (k + 1) cs (sym (ap (λ (b : Bool). cond b (Some k) (number_in (k + 1) cs seg)) n) ∙ e))
   where
-    by : (b : Bool) → is_named_by seg c ≡ b → has_named seg (c ∷ cs) ≡ false
-    by true n = absurd (let found : number_in k (c ∷ cs) seg ≡ Some k = ap (λ (b : Bool). cond b (Some k) (number_in (k + 1) cs seg)) n in cc (e, found))
-    by false n =
-        ap (λ (b : Bool). is_some (cond b c (cache_named cs seg))) n
-        ∙ no_number seg (k + 1) cs (sym (ap (λ (b : Bool). cond b (Some k) (number_in (k + 1) cs seg)) n) ∙ e)
+    by : (b : Bool) → is_named_by seg c ≡ b → (is_named_by seg c ≡ false → has_named seg cs ≡ false) → has_named seg (c ∷ cs) ≡ false
+    by true n rest = absurd (let found : number_in k (c ∷ cs) seg ≡ Some k = ap (λ (b : Bool). cond b (Some k) (number_in (k + 1) cs seg)) n in cc (e, found))
+    by false n rest = ap (λ (b : Bool). is_some (cond b c (cache_named cs seg))) n ∙ rest n
 
 module _ (seg : ℕ) (m : ReferenceMachine) (number : ℕ) where
   -- Refused, the machine stays; else it changes so.
@@ -180,7 +175,7 @@ module _ (seg : ℕ) (m : ReferenceMachine) (number : ℕ) where
   opened_by : (other : SegId) (o : Option ℕ) → number_named m other.0 ≡ o → (opens seg (commands.Plain (plain_commands.OpenSegment other)) ≡ true → has_named seg m.memory.caches ≡ true)
       → F (commands.Plain (plain_commands.OpenSegment other)) (open_by m other.0 number o)
   opened_by other (Some there) e lives = λ may. inl (record { named = refl; stored = refl })
-  opened_by other None e lives = opened_anew other (get m.stored other.0) e lives
+  opened_by other None e lives = opened_anew other (m.stored other.0) e lives
 
   closed_at : (command : KeepCommand) (other : ℕ) (b : Bool) → F command (cond b (reply replies.Done (let_go (close_one other m))) (refuse m refusals.NotOpen))
   closed_at command other true = λ may. inr (record { by = close_one other m; caches = refl; stored = refl; is = refl })
@@ -189,18 +184,18 @@ module _ (seg : ℕ) (m : ReferenceMachine) (number : ℕ) where
   row_follows : (command : KeepCommand) (h : Segments) → (opens seg command ≡ true → has_named seg m.memory.caches ≡ true) → F command (answer_of m command h number)
   unfolding open_of make_temp_of close_of
   row_follows (commands.Close other) h lives = closed_at (commands.Close other) other.0 (is_open m other.0)
-  row_follows (commands.Plain plain_commands.MakeActor) h lives = within_at _ _ _ (actor_stays seg m.memory)
+  row_follows (commands.Plain plain_commands.MakeActor) h lives = within_at (commands.Plain plain_commands.MakeActor) _ _ (actor_stays seg m.memory)
   row_follows (commands.Plain (plain_commands.ExitActor actor)) h lives =
-      leaving_at _ (plain.exit_actor_of m.memory actor.0) _ refl (exit_keeps seg m.memory actor.0)
+      leaving_at (commands.Plain (plain_commands.ExitActor actor)) (plain.exit_actor_of m.memory actor.0) _ refl (exit_keeps seg m.memory actor.0)
   row_follows (commands.Plain (plain_commands.MakeTemp pages)) h lives = λ may.
       inl (record { named = with_other seg m.memory.caches number (temporary m.memory.page_bytes pages) (omega (arith, may)) (past m.memory.caches number may) refl; stored = refl })
   row_follows (commands.Plain (plain_commands.OpenSegment other)) h lives = opened_by other (number_named m other.0) refl lives
-  row_follows (commands.Plain (plain_commands.Copy span)) h lives = within_at _ _ _ (copy_stays seg m.memory span h)
-  row_follows (commands.Plain (plain_commands.Map actor mapping)) h lives = within_at _ _ _ (map_stays seg m.memory actor.0 mapping)
+  row_follows (commands.Plain (plain_commands.Copy span)) h lives = within_at (commands.Plain (plain_commands.Copy span)) _ _ (copy_stays seg m.memory span h)
+  row_follows (commands.Plain (plain_commands.Map actor mapping)) h lives = within_at (commands.Plain (plain_commands.Map actor mapping)) _ _ (map_stays seg m.memory actor.0 mapping)
   row_follows (commands.Plain (plain_commands.Unmap region)) h lives =
-      leaving_at _ (plain.unmap_of m.memory region.0) _ refl (unmap_keeps seg m.memory region.0)
-  row_follows (commands.Plain (plain_commands.Load actor address bytes)) h lives = within_at _ _ _ (load_stays seg m.memory actor.0 address bytes)
-  row_follows (commands.Plain (plain_commands.Store actor address piece)) h lives = within_at _ _ _ (store_stays seg m.memory actor.0 address piece h)
+      leaving_at (commands.Plain (plain_commands.Unmap region)) (plain.unmap_of m.memory region.0) _ refl (unmap_keeps seg m.memory region.0)
+  row_follows (commands.Plain (plain_commands.Load actor address bytes)) h lives = within_at (commands.Plain (plain_commands.Load actor address bytes)) _ _ (load_stays seg m.memory actor.0 address bytes)
+  row_follows (commands.Plain (plain_commands.Store actor address piece)) h lives = within_at (commands.Plain (plain_commands.Store actor address piece)) _ _ (store_stays seg m.memory actor.0 address piece h)
   row_follows (commands.Plain (plain_commands.PageOut count)) h lives = λ may. inl (record { named = refl; stored = refl })
   row_follows (commands.Plain command) h lives = refl
 
@@ -218,15 +213,15 @@ module _ (seg : ℕ) (m : ReferenceMachine) (number : ℕ) where
 -- the segment names no cache, and these pages are stored for it
 pub record IsLeft (seg : ℕ) (pages : List Page) (m : ReferenceMachine) : Type 0 where
   pub free : has_named seg m.memory.caches ≡ false
-  pub stored : get m.stored seg ≡ Some pages
+  pub stored : m.stored seg ≡ Some pages
 
 stays_left : (seg : ℕ) (pages : List Page) (m next : ReferenceMachine) → IsLeft seg pages m → Changes seg m next → IsLeft seg pages next
-stays_left seg pages m next is (inl s) = record { free = s.named ∙ is.free; stored = ap (λ st. get st seg) s.stored ∙ is.stored }
+stays_left seg pages m next is (inl s) = record { free = s.named ∙ is.free; stored = ap (λ (st : Stored). st seg) s.stored ∙ is.stored }
 stays_left seg pages m next is (inr l) =
     let gone = none_goes seg l.by 1 l.by.memory.caches (ap (has_named seg) l.caches ∙ is.free) in
     record {
       free = ap (λ (x : ReferenceMachine). has_named seg x.memory.caches) l.is ∙ gone.0;
-      stored = ap (λ (x : ReferenceMachine). get x.stored seg) l.is ∙ gone.1 ∙ ap (λ st. get st seg) l.stored ∙ is.stored;
+      stored = ap (λ (x : ReferenceMachine). x.stored seg) l.is ∙ gone.1 ∙ ap (λ (st : Stored). st seg) l.stored ∙ is.stored;
     }
 
 is_left : (seg : ℕ) (was : Cache) (m gone : ReferenceMachine) → cache_for m seg ≡ Some was → cache_for gone seg ≡ None → Changes seg m gone → IsLeft seg was.pages gone
@@ -238,7 +233,7 @@ is_left seg was m gone there none (inr l) =
     let free : has_named seg (let_go l.by).memory.caches ≡ false = sym (ap (λ (x : ReferenceMachine). has_named seg x.memory.caches) l.is) ∙ ap is_some none in
     record {
       free = ap is_some none;
-      stored = ap (λ (x : ReferenceMachine). get x.stored seg) l.is
+      stored = ap (λ (x : ReferenceMachine). x.stored seg) l.is
           ∙ gone_stored seg l.by 1 l.by.memory.caches was (ap (λ cs. cache_named cs seg) l.caches ∙ there) free;
     }
 
@@ -252,13 +247,12 @@ left_on seg pages m after (s ∷ steps) is apart chain =
 no_named : (seg k : ℕ) (cs : List (Option Cache)) → has_named seg cs ≡ false → number_in k cs seg ≡ None
 no_named seg k [] free = refl
 no_named seg k (None ∷ cs) free = no_named seg (k + 1) cs free
-no_named seg k (Some c ∷ cs) free = by (is_named_by seg (Some c)) refl
+no_named seg k (Some c ∷ cs) free =
+    by (is_named_by seg (Some c)) refl (λ n. no_named seg (k + 1) cs (sym (ap (λ (b : Bool). is_some (cond b (Some c) (cache_named cs seg))) n) ∙ free))
   where
-    by : (b : Bool) → is_named_by seg (Some c) ≡ b → number_in k (Some c ∷ cs) seg ≡ None
-    by true n = let some : has_named seg (Some c ∷ cs) ≡ true = ap (λ (b : Bool). is_some (cond b (Some c) (cache_named cs seg))) n in absurd (cc (free, some))
-    by false n =
-        ap (λ (b : Bool). cond b (Some k) (number_in (k + 1) cs seg)) n
-        ∙ no_named seg (k + 1) cs (sym (ap (λ (b : Bool). is_some (cond b (Some c) (cache_named cs seg))) n) ∙ free)
+    by : (b : Bool) → is_named_by seg (Some c) ≡ b → (is_named_by seg (Some c) ≡ false → number_in (k + 1) cs seg ≡ None) → number_in k (Some c ∷ cs) seg ≡ None
+    by true n rest = let some : has_named seg (Some c ∷ cs) ≡ true = ap (λ (b : Bool). is_some (cond b (Some c) (cache_named cs seg))) n in absurd (cc (free, some))
+    by false n rest = ap (λ (b : Bool). cond b (Some k) (number_in (k + 1) cs seg)) n ∙ rest n
 
 -- opened where no cache lives, with what is stored
 found_anew : (seg : ℕ) (pages : List Page) (m : ReferenceMachine) (number : ℕ) → IsLeft seg pages m → 1 ≤ number → cache_for (open_of m seg number).next seg ≡ Some (opened seg pages)
@@ -280,7 +274,7 @@ opened_so seg pages m after f command h number rises r is e o = absurd (cc e)
 pub reopens_as_it_was : ReopensAsItWas
 reopens_as_it_was m gone before after last reopening between seg was r there leads none apart chain opening reopened ok =
     let left = is_left seg was m gone there none
-        (outcome_follows seg m last.number last.forest last.command last.segments last.answer gone last.rises (λ e. ap is_some there) leads) in
+    (outcome_follows seg m last.number last.forest last.command last.segments last.answer gone last.rises (λ e. ap is_some there) leads) in
     opened_so seg was.pages before after reopening.forest reopening.command reopening.segments reopening.number reopening.rises r
     (left_on seg was.pages gone before between left apart chain) opening
     (subst (λ (a : Answer). Outcome before reopening.forest reopening.command reopening.segments reopening.number a after reopening.rises) ok reopened)

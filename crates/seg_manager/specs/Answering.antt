@@ -1,7 +1,6 @@
 -- The answer to each command of a script of segments, row by row: the first refusal that holds, or
 -- else the reply and the change. The number that a new cache gets is handed in.
-use Rattle.std.specs.Prelude.{◌≡◌, ◌≤◌, ◌<◌, ℕ, length, Option, Some, None, Ok, Err, if◌then◌else◌}
-use Rattle.std.specs.FinMap.{get}
+use Rattle.std.specs.Prelude.{◌≡◌, ◌≤◌, ◌<◌, ℕ, List, length, Option, Some, None, Ok, Err, if◌then◌else◌}
 use Rattle.vm_ids.specs.Held.{Segments}
 use Rattle.vm_ids.specs.declared.command.Command.{Command}
 use Rattle.vm_ids.specs.declared.command.Command.TheVariants as plain_commands
@@ -44,7 +43,7 @@ open_anew m seg number (Some pages) =
 
 abbrev pub open_by : ReferenceMachine → ℕ → ℕ → Option ℕ → Answered
 open_by m seg number (Some there) = open_again m seg there
-open_by m seg number None = open_anew m seg number (get m.stored seg)
+open_by m seg number None = open_anew m seg number (m.stored seg)
 
 -- open: a reference more to the cache of the segment, which is made where there is none
 unfoldable pub open_of : ReferenceMachine → ℕ → ℕ → Answered

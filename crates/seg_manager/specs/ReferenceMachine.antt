@@ -1,26 +1,28 @@
 -- Segments that are opened again and again, over plain caches. There is no manager here, and no
 -- cache that nothing refers to.
 use Rattle.std.specs.Prelude.{◌==◌, ℕ, ◌+◌, ◌-◌, ◌||◌, not, nat_le, Bool, false, List, [], ◌∷◌, ◌++◌, length, replicate, Option, Some, None, slice_set, if◌then◌else◌}
-use Rattle.std.specs.FinMap.{FinMap, insert}
 use Rattle.std.specs.List.{list_any}
 use Rattle.std.specs.Option.{option_map_or}
-use Rattle.std.specs.Ordering.{nat_cmp}
 use Rattle.vm_model.specs.Answering.{is_mapped}
 use Rattle.vm_model.specs.Machine as plain
 use Rattle.vm_model.specs.Machine.{Cache, Machine, Page, is_named_by}
 
+-- The pages of each segment, where there is one with this number.
+abbrev pub Stored : Type 0
+Stored = ℕ → Option (List Page)
+
 -- The plain machine of actors, caches and regions, in which a named cache lives while an opening or
--- a region refers to it; the pages that each segment has where no cache lives for it; and the
--- segment of each opening that wasn't taken back, the last one first.
+-- a region refers to it; the pages that are stored for each segment, of which its next cache is
+-- made; and the segment of each opening that wasn't taken back, the last one first.
 pub record ReferenceMachine : Type 0 where
   pub memory : Machine
-  pub stored : FinMap nat_cmp (List Page)
+  pub stored : Stored
   pub openings : List ℕ
 
 -- how a run begins over segments of these pages
-abbrev pub start : ℕ → ℕ → FinMap nat_cmp (List Page) → ReferenceMachine
-start frames page_bytes pages =
-    record { memory = plain.start frames page_bytes; stored = pages; openings = [] }
+abbrev pub start : ℕ → ℕ → Stored → ReferenceMachine
+start frames page_bytes stored =
+    record { memory = plain.start frames page_bytes; stored = stored; openings = [] }
 
 -- the number of the live cache of a segment; the first of these caches has this number
 abbrev pub number_in : ℕ → List (Option Cache) → ℕ → Option ℕ
@@ -63,19 +65,18 @@ abbrev pub used : ReferenceMachine → ℕ → List (Option Cache) → List (Opt
 used m number [] = []
 used m number (c ∷ cs) = used_at m number c ∷ used m (number + 1) cs
 
-abbrev pub put_pages_of : Option ℕ → List Page → FinMap nat_cmp (List Page)
-    → FinMap nat_cmp (List Page)
-put_pages_of None pages stored = stored
-put_pages_of (Some seg) pages stored = insert stored seg pages
+-- these pages are stored for a segment; a temporary cache has none
+abbrev pub put_stored : Option ℕ → List Page → Stored → Stored
+put_stored None pages stored = stored
+put_stored (Some seg) pages stored = λ other. if other == seg then Some pages else stored other
 
-abbrev pub stored_at : ReferenceMachine → ℕ → Option Cache → FinMap nat_cmp (List Page)
-    → FinMap nat_cmp (List Page)
+abbrev pub stored_at : ReferenceMachine → ℕ → Option Cache → Stored → Stored
 stored_at m number None stored = stored
 stored_at m number (Some c) stored =
-    if goes m number c then put_pages_of c.segment c.pages stored else stored
+    if goes m number c then put_stored c.segment c.pages stored else stored
 
 -- what is stored, once those of these caches went that nothing refers to
-abbrev pub stored_from : ReferenceMachine → ℕ → List (Option Cache) → FinMap nat_cmp (List Page)
+abbrev pub stored_from : ReferenceMachine → ℕ → List (Option Cache) → Stored
 stored_from m number [] = m.stored
 stored_from m number (c ∷ cs) = stored_at m number c (stored_from m (number + 1) cs)
 
@@ -91,7 +92,7 @@ let_go m = record m {
 abbrev pub with_cache : List (Option Cache) → ℕ → Cache → List (Option Cache)
 with_cache caches number c =
     if nat_le number (length caches) then slice_set caches (number - 1) (Some c)
-    else caches ++ replicate (number - 1 - length caches) None ++ Some c ∷ []
+    else caches ++ (replicate (number - 1 - length caches) None ++ Some c ∷ [])
 
 abbrev pub add_cache : ReferenceMachine → ℕ → Cache → ReferenceMachine
 add_cache m number c =

@@ -1,7 +1,6 @@
 -- Worked scripts, computed by the definitions: what each command answers over a segment of one page
 -- of two bytes, where a new cache gets the number that stands beside the command.
-use Rattle.std.specs.Prelude.{◌≡◌, ℕ, List, [], ◌∷◌, ◌++◌, Option}
-use Rattle.std.specs.FinMap.{get}
+use Rattle.std.specs.Prelude.{◌≡◌, ◌==◌, ℕ, List, [], ◌∷◌, ◌++◌, Option, Some, None, if◌then◌else◌}
 use Rattle.vm_ids.specs.declared.command.Command.{Command}
 use Rattle.vm_ids.specs.declared.command.Command.TheVariants.{MakeActor}
 use Rattle.vm_ids.specs.declared.command.KeepCommand.{KeepCommand}
@@ -9,9 +8,9 @@ use Rattle.vm_ids.specs.declared.command.KeepCommand.TheVariants as commands
 use Rattle.vm_ids.specs.declared.refusal.Refusal.TheVariants as refusals
 use Rattle.vm_model.specs.Answering.{Answer}
 use Rattle.vm_model.specs.Machine.{Page}
-use Rattle.vm_model.specs.Rows.{copy, load, map_, no, ok, ok_a, ok_byte, ok_c, ok_r, one_segment, open_, store, temp, unmap}
+use Rattle.vm_model.specs.Rows.{copy, load, map_, no, no_segments, ok, ok_a, ok_byte, ok_c, ok_r, open_, store, temp, unmap}
 use Rattle.seg_manager.specs.Answering.{Answered, answer_of}
-use Rattle.seg_manager.specs.ReferenceMachine.{ReferenceMachine, start}
+use Rattle.seg_manager.specs.ReferenceMachine.{ReferenceMachine, Stored, start}
 
 -- A run: the answers, and what they leave.
 pub record Played : Type 0 where
@@ -32,18 +31,21 @@ played_on rest a = played_first a.answer (rest a.next)
 abbrev pub the_page : Page
 the_page = 0x41 ∷ 0 ∷ []
 
--- the commands, the first one first
+-- the commands, the first one first; no page is denied for writing
 abbrev pub play_from : List Asked → ReferenceMachine → Played
 play_from [] m = record { answers = []; machine = m }
-play_from (c ∷ cs) m =
-    played_on (play_from cs) (answer_of m c.0 (one_segment (the_page ∷ [])) c.1)
+play_from (c ∷ cs) m = played_on (play_from cs) (answer_of m c.0 no_segments c.1)
+
+-- segment 1 alone
+abbrev pub one_stored : Stored
+one_stored seg = if seg == 1 then Some (the_page ∷ []) else None
 
 abbrev pub play : List Asked → Played
-play script = play_from script (start 4 2 (one_segment (the_page ∷ [])).pages)
+play script = play_from script (start 4 2 one_stored)
 
 -- the pages that are stored for the segment at the end
 abbrev pub left_of : Played → Option (List Page)
-left_of p = get p.machine.stored 1
+left_of p = p.machine.stored 1
 
 -- Commands in short
 
@@ -79,4 +81,4 @@ pub record KeptCacheComesAgain : Type 0 where
 pub record NothingIsKept : Type 0 where
   pub answers : (play (opened_twice ++ giving 3 (open_ 1) ∷ plain (copy 1 0 2 0 1) ∷ [])).answers
       ≡ opened_twice_answers ++ ok_c 3 ∷ no refusals.NoCache ∷ []
-  pub stored : left_of (play opened_twice) ≡ Option.Some ((0x58 ∷ 0 ∷ []) ∷ [])
+  pub stored : left_of (play opened_twice) ≡ Some ((0x58 ∷ 0 ∷ []) ∷ [])
