@@ -10,3 +10,9 @@
 #![tactic(auto)]
 
 pub mod laws;
+mod manager;
+mod tables;
+#[cfg(test)]
+mod tests;
+
+pub use manager::SegManager;

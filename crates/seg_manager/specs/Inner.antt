@@ -1,0 +1,53 @@
+-- What the inner calls say.
+use Rattle.std.specs.Prelude.{◌≡◌, ◌==◌, ◌||◌, ◌&&◌, nat_lt, ℕ, ◌+◌, option_map, Bool, false, List, [], ◌∷◌, Option, Some, None, slice_get, if◌then◌else◌}
+use Rattle.std.specs.List.{list_any}
+use Rattle.vm_ids.specs.declared.command.Mapping.{Mapping}
+use Rattle.vm_ids.specs.declared.command.Span.{Span}
+use Rattle.vm_ids.specs.declared.numbers.CacheId.{CacheId}
+use Rattle.seg_manager.specs.Seen.{is_kept}
+use Rattle.seg_manager.specs.declared.tables.Kept.{Kept}
+use Rattle.seg_manager.specs.declared.tables.Leaving.{Leaving}
+use Rattle.seg_manager.specs.declared.tables.Leaving.TheVariants as leavings
+use Rattle.seg_manager.specs.declared.tables.Mapped.{Mapped}
+use Rattle.seg_manager.specs.declared.tables.Named.{Named}
+
+-- a test on what names the segment, and on the cache itself
+abbrev pub first_of : ℕ → Named → Bool
+first_of seg c = c.seg.0 == seg
+
+abbrev pub first_with : ℕ → Named → Bool
+first_with cache c = c.cache.0 == cache
+
+-- the place of the first that passes a test
+abbrev pub place_in : {A : Type 0} → (A → Bool) → List A → Option ℕ
+place_in test [] = None
+place_in test (x ∷ xs) = if test x then Some 0 else option_map (λ i. i + 1) (place_in test xs)
+
+-- the first that passes the test stands there
+abbrev pub StandsAt : {A : Type 0} → List A → (A → Bool) → Option ℕ → Type 0
+StandsAt xs test place = place ≡ place_in test xs
+
+-- the region goes
+abbrev pub leaves : Leaving → Mapped → Bool
+leaves (leavings.Actor actor) x = x.actor.0 == actor.0
+leaves (leavings.Region region) x = x.region.0 == region.0
+
+-- it stands before the other
+abbrev pub comes_before : Mapped → Mapped → Bool
+comes_before x y =
+    nat_lt x.actor.0 y.actor.0 || (x.actor.0 == y.actor.0 && nat_lt x.address y.address)
+
+abbrev pub insert_mapped : Mapped → List Mapped → List Mapped
+insert_mapped x [] = x ∷ []
+insert_mapped x (y ∷ ys) = if comes_before x y then x ∷ y ∷ ys else y ∷ insert_mapped x ys
+
+-- the cache as a command finds it: none where it is kept
+abbrev pub shown : List Kept → CacheId → CacheId
+shown kept cache = if is_kept kept cache.0 then record { 0 = 0 } else cache
+
+abbrev pub mapping_shown : List Kept → Mapping → Mapping
+mapping_shown kept mapping =
+    record mapping { extent = record mapping.extent { cache = shown kept mapping.extent.cache } }
+
+abbrev pub span_shown : List Kept → Span → Span
+span_shown kept s = record s { from = shown kept s.from; to = shown kept s.to }
