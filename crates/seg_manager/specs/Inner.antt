@@ -1,6 +1,6 @@
 -- What the inner calls say.
-use Rattle.std.specs.Prelude.{◌≡◌, ◌==◌, ◌||◌, ◌&&◌, nat_lt, ℕ, ◌+◌, option_map, Bool, false, List, [], ◌∷◌, Option, Some, None, slice_get, if◌then◌else◌}
-use Rattle.std.specs.List.{list_any}
+use Rattle.std.specs.Prelude.{◌≡◌, ◌==◌, ◌||◌, ◌&&◌, nat_lt, ℕ, ◌+◌, Bool, List, [], ◌∷◌, Option, if◌then◌else◌}
+use Rattle.std.specs.List.{position_from}
 use Rattle.vm_ids.specs.declared.command.Mapping.{Mapping}
 use Rattle.vm_ids.specs.declared.command.Span.{Span}
 use Rattle.vm_ids.specs.declared.numbers.CacheId.{CacheId}
@@ -18,14 +18,9 @@ first_of seg c = c.seg.0 == seg
 abbrev pub first_with : ℕ → Named → Bool
 first_with cache c = c.cache.0 == cache
 
--- the place of the first that passes a test
-abbrev pub place_in : {A : Type 0} → (A → Bool) → List A → Option ℕ
-place_in test [] = None
-place_in test (x ∷ xs) = if test x then Some 0 else option_map (λ i. i + 1) (place_in test xs)
-
 -- the first that passes the test stands there
 abbrev pub StandsAt : {A : Type 0} → List A → (A → Bool) → Option ℕ → Type 0
-StandsAt xs test place = place ≡ place_in test xs
+StandsAt xs test place = place ≡ position_from test 0 xs
 
 -- the region goes
 abbrev pub leaves : Leaving → Mapped → Bool
@@ -37,9 +32,10 @@ abbrev pub comes_before : Mapped → Mapped → Bool
 comes_before x y =
     nat_lt x.actor.0 y.actor.0 || (x.actor.0 == y.actor.0 && nat_lt x.address y.address)
 
-abbrev pub insert_mapped : Mapped → List Mapped → List Mapped
-insert_mapped x [] = x ∷ []
-insert_mapped x (y ∷ ys) = if comes_before x y then x ∷ y ∷ ys else y ∷ insert_mapped x ys
+-- the place of a region among these, the first of which stands there
+abbrev pub place_from : Mapped → ℕ → List Mapped → ℕ
+place_from x i [] = i
+place_from x i (y ∷ ys) = if comes_before x y then i else place_from x (i + 1) ys
 
 -- the cache as a command finds it: none where it is kept
 abbrev pub shown : List Kept → CacheId → CacheId

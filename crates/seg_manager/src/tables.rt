@@ -1,7 +1,7 @@
 // What is noted of the caches that segments name, and of all regions.
-ghost use Rattle.std.specs.Prelude.{◌≡◌, ◌++◌, ◌∷◌, ℕ, List, None, Some, drop, filter, insert, length, not, slice_get, take, IfNone, IfSome};
+ghost use Rattle.std.specs.Prelude.{◌≡◌, ◌≤◌, length};
 ghost use Rattle.std.specs.List.{list_any};
-ghost use Rattle.seg_manager.specs.Inner.{StandsAt, first_of, first_with, insert_mapped, leaves};
+ghost use Rattle.seg_manager.specs.Inner.{StandsAt, first_of, first_with, leaves, place_from};
 ghost use Rattle.seg_manager.specs.Seen.{is_kept, maps};
 
 use std::collections::VecDeque;
@@ -114,7 +114,7 @@ pub(crate) fn first_leaving(regions: &[Mapped], leaving: Leaving) -> Option<usiz
 // actors in order of their numbers.
 pub(crate) fn place_for(regions: &[Mapped], mapped: &Mapped) -> usize
     ensures within { result ≤ length regions.now }
-    ensures place { insert_mapped mapped.now regions.now ≡ insert regions.now result mapped.now }
+    ensures place { result ≡ place_from mapped.now 0 regions.now }
 {
     for (place, other) in regions.iter().enumerate() {
         if mapped.actor.0 < other.actor.0
