@@ -1,12 +1,13 @@
 -- How what is noted of segments is tied to the machine that the manager stands for.
-use Rattle.std.specs.Prelude.{◌≡◌, ◌≤◌, ℕ, ◌+◌, Bool, false, List, [], ◌∷◌, ◌++◌, length, map, Option, Some, None, slice_get, IfNone, IfSome, if◌then◌else◌}
-use Rattle.std.specs.FinMap.{get}
+use Rattle.std.specs.Prelude.{◌≡◌, ◌≤◌, ℕ, ◌+◌, Bool, false, List, [], ◌∷◌, ◌++◌, length, map, Option, Some, None, IfNone, IfSome}
+use Rattle.std.specs.List.{AllByRecursion}
 use Rattle.std.specs.Option.{option_map_or}
 use Rattle.std.specs.VecDeque.{deque_capacity}
 use Rattle.vm_ids.specs.Held.{Held, Segments, segments_of}
-use Rattle.vm_model.specs.Machine.{Actor, Cache, Machine, Page, Region, cache_of, live_pages, segment_of}
+use Rattle.vm_model.specs.Machine.{Actor, Cache, Machine, Region, cache_of, live_pages, segment_of}
 use Rattle.vm_model.specs.Outcome.{blank}
 use Rattle.vm_model.specs.declared.limits.TheConstants.{LIVE_PAGES, MOST_MADE}
+use Rattle.gmi_calls.specs.Backing.{AreBacked}
 use Rattle.gmi_calls.specs.Calling.{Fits}
 use Rattle.gmi_calls.specs.declared.gmi.Gmi.{Ghosts as GhostsOfGmi}
 use Rattle.seg_manager.specs.ReferenceMachine.{ReferenceMachine, goes}
@@ -62,27 +63,24 @@ noted_regions actor (a ∷ actors) = noted_at actor a ++ noted_regions (actor + 
 abbrev pub is_unreferenced : ReferenceMachine → ℕ → Bool
 is_unreferenced m n = option_map_or (goes m n) (cache_of m.memory n) false
 
--- The pages that a segment holds are as many as its cache has.
-pub record HasPages (h : Segments) (seg : ℕ) (c : Cache) : Type 0 where
-  pub pages : List Page
-  pub held : get h.pages seg ≡ Some pages
-  pub many : length pages ≡ length c.pages
+-- no cache is kept twice
+abbrev pub AreOnce : List Kept → Type 0
+AreOnce [] = Unit {0}
+AreOnce (k ∷ ks) = (is_kept ks k.cache.0 ≡ false) × AreOnce ks
 
 -- Each cache that a segment names is noted, and each region. No two caches are of one segment. Those
--- to which nothing refers are kept, each once, and there is room to keep all.
+-- to which nothing refers are kept, each once, and there is room to keep all. Where the mapper tells
+-- what it holds, the segments back their caches.
 pub record AreTied (m : Machine) (told : Option Segments) (caches : List Named)
     (kept : List Kept) (room : ℕ) (regions : List Mapped) : Type 0 where
   pub caches : map naming_of caches ≡ namings 1 m.caches
   pub regions : map noted_of regions ≡ noted_regions 1 m.actors
   pub apart : (i j seg : ℕ) → segment_of m i ≡ Some seg → segment_of m j ≡ Some seg → i ≡ j
   pub kept : (n : ℕ) → is_kept kept n ≡ is_unreferenced (whole_of m told caches) n
-  pub named : (i : ℕ) (k : Kept) → slice_get kept i ≡ Some k
-      → segment_of m k.cache.0 ≡ Some k.seg.0
-  pub once : (i j : ℕ) (k l : Kept) → slice_get kept i ≡ Some k
-      → slice_get kept j ≡ Some l → k.cache.0 ≡ l.cache.0 → i ≡ j
-  pub room : length caches ≤ room
-  pub held : IfSome told (λ h. (n seg : ℕ) (c : Cache) → cache_of m n ≡ Some c
-      → c.segment ≡ Some seg → HasPages h seg c)
+  pub named : AllByRecursion (λ (k : Kept). segment_of m k.cache.0 ≡ Some k.seg.0) kept
+  pub once : AreOnce kept
+  pub fits : length caches ≤ room
+  pub backed : IfSome told (λ h. AreBacked m.caches h)
 
 -- where nothing is told, the machine has no bytes
 abbrev pub IsUntoldBlank : Option Held → Machine → Type 0
