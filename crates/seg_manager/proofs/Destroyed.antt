@@ -101,7 +101,7 @@ module _ (m : Machine) (told : Option Segments) (caches : List Named) (first : K
   seg = first.seg.0
 
   -- a segment names it
-  there : (c : Cache) × (cache_of m n ≡ Some c) × (c.segment ≡ Some seg)
+  pub there : (c : Cache) × (cache_of m n ≡ Some c) × (c.segment ≡ Some seg)
   there = segment_cache m n seg t.named.0
 
   pub first_there : cache_of m n ≡ Some there.0

@@ -5,3 +5,6 @@ pub mod Going
 pub mod Pushed
 pub mod Entries
 pub mod Destroyed
+pub mod Answered
+pub mod Calls
+pub mod Thinned

@@ -18,6 +18,9 @@ first_of seg c = c.seg.0 == seg
 abbrev pub first_with : ℕ → Named → Bool
 first_with cache c = c.cache.0 == cache
 
+abbrev pub is_of : ℕ → Kept → Bool
+is_of cache k = k.cache.0 == cache
+
 -- the first that passes the test stands there
 abbrev pub StandsAt : {A : Type 0} → List A → (A → Bool) → Option ℕ → Type 0
 StandsAt xs test place = place ≡ position_from test 0 xs

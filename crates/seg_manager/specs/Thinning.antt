@@ -17,6 +17,12 @@ use Rattle.seg_manager.specs.Seen.{references_seen}
 use Rattle.seg_manager.specs.Tying.{CanCall}
 use Rattle.seg_manager.specs.declared.manager.SegManager.{SegManager}
 
+-- a cache couldn't be pushed to its segment, or couldn't save what was copied from it
+abbrev pub IsDestroyFault : Trouble → Type 0
+IsDestroyFault (Mapper (faults.Page p)) = Unit {0}
+IsDestroyFault (Mapper (faults.Save done)) = Unit {0}
+IsDestroyFault trouble = ⊥
+
 module _ {Manager Mapper Chooser : Type 0} (M : GhostsOfMapper Mapper)
     (G : GhostsOfGmi Manager Mapper Chooser) where
   -- the machine below
@@ -53,12 +59,6 @@ module _ {Manager Mapper Chooser : Type 0} (M : GhostsOfMapper Mapper)
     pub credit : credit new after ≤ credit old before
     pub rises : MapperCounts
     pub rose : Rise (M.counts before) (M.counts after) rises
-
-  -- a cache couldn't be pushed to its segment, or couldn't save what was copied from it
-  abbrev pub IsDestroyFault : Trouble → Type 0
-  IsDestroyFault (Mapper (faults.Page p)) = Unit {0}
-  IsDestroyFault (Mapper (faults.Save done)) = Unit {0}
-  IsDestroyFault trouble = ⊥
 
   -- The least recently used couldn't be destroyed, and all is as before.
   pub record Fails (before : Mapper) (old : SegManager Manager) (trouble : Trouble)

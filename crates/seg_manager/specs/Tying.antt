@@ -71,15 +71,15 @@ AreOnce (k ∷ ks) = (is_kept ks k.cache.0 ≡ false) × AreOnce ks
 -- Each cache that a segment names is noted, and each region. No two caches are of one segment. Those
 -- to which nothing refers are kept, each once, and there is room to keep all. Where the mapper tells
 -- what it holds, the segments back their caches.
-pub record AreTied (m : Machine) (told : Option Segments) (caches : List Named)
-    (kept : List Kept) (room : ℕ) (regions : List Mapped) : Type 0 where
-  pub caches : map naming_of caches ≡ namings 1 m.caches
-  pub regions : map noted_of regions ≡ noted_regions 1 m.actors
+pub record AreTied (m : Machine) (told : Option Segments) (cs : List Named) (ks : List Kept)
+    (room : ℕ) (rs : List Mapped) : Type 0 where
+  pub caches : map naming_of cs ≡ namings 1 m.caches
+  pub regions : map noted_of rs ≡ noted_regions 1 m.actors
   pub apart : (i j seg : ℕ) → segment_of m i ≡ Some seg → segment_of m j ≡ Some seg → i ≡ j
-  pub kept : (n : ℕ) → is_kept kept n ≡ is_unreferenced (whole_of m told caches) n
-  pub named : AllByRecursion (λ (k : Kept). segment_of m k.cache.0 ≡ Some k.seg.0) kept
-  pub once : AreOnce kept
-  pub fits : length caches ≤ room
+  pub kept : (n : ℕ) → is_kept ks n ≡ is_unreferenced (whole_of m told cs) n
+  pub named : AllByRecursion (λ (k : Kept). segment_of m k.cache.0 ≡ Some k.seg.0) ks
+  pub once : AreOnce ks
+  pub fits : length cs ≤ room
   pub backed : IfSome told (λ h. AreBacked m.caches h)
 
 -- where nothing is told, the machine has no bytes

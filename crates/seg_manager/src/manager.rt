@@ -9,11 +9,12 @@ ghost use Rattle.gmi_calls.specs.Managing.{meanings_of};
 ghost use Rattle.seg_manager.specs.Calling.{Acquires, AnswersKept, IsServed, Releases, SegmentCall, beginning, made_by};
 ghost use Rattle.seg_manager.specs.Inner.{mapping_shown, shown, span_shown};
 ghost use Rattle.seg_manager.specs.Seen.{is_kept, state_of};
+ghost use Rattle.seg_manager.specs.Thinning.{IsDestroyed};
 ghost use Rattle.seg_manager.specs.Tying.{CanCall, IsBare};
 
 use crate::tables::{
-    Kept, Leaving, Mapped, Named, first_leaving, is_kept, is_mapped, place_for, place_of,
-    place_with,
+    Kept, Leaving, Mapped, Named, drop_kept, drop_named, first_leaving, is_kept, is_mapped,
+    place_for, place_of, place_with,
 };
 use gmi_calls::Gmi;
 use std::alloc::Global;
@@ -187,7 +188,7 @@ impl<G> SegManager<G> {
         };
         named.openings = openings;
         let cache = named.cache;
-        self.kept.retain(|kept| kept.cache != cache);
+        drop_kept(&mut self.kept, cache);
         Ok(cache)
     }
 
@@ -276,7 +277,7 @@ impl<G> SegManager<G> {
         self.destroy_first(mapper, chooser)
     }
 
-    // Destroys the least recently used of the caches that are kept, where there is one.
+    // Destroys the least recently used of the caches that are kept.
     fn destroy_first<M: Mapper, C: Chooser>(
         &mut self,
         mapper: &mut M,
@@ -284,14 +285,21 @@ impl<G> SegManager<G> {
     ) -> Result<(), Trouble>
     where
         G: Gmi<M, C>,
+        requires some { 1 ≤ length self.old.kept.items }
+        requires can { CanCall G.Gmi self.old (M.held mapper.old) (M.page_bytes mapper.old) }
+        requires made { G.made self.old.gmi ≤ 2 ^ 62 }
+        ensures { IsDestroyed M.Mapper G.Gmi mapper.old self.old result mapper.new self.new }
     {
-        let Some(first) = self.kept.front() else {
-            return Ok(());
+        let cache = match self.kept.front() {
+            Some(first) => first.cache,
+            None => unreachable!(),
         };
-        let cache = first.cache;
-        self.gmi.destroy(cache, mapper, chooser)?;
+        match self.gmi.destroy(cache, mapper, chooser) {
+            Ok(()) => {}
+            Err(trouble) => return Err(trouble),
+        }
         let _ = self.kept.pop_front();
-        self.caches.retain(|named| named.cache != cache);
+        drop_named(&mut self.caches, cache);
         Ok(())
     }
 

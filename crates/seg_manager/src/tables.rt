@@ -1,7 +1,9 @@
 // What is noted of the caches that segments name, and of all regions.
-ghost use Rattle.std.specs.Prelude.{◌≡◌, ◌≤◌, length};
+ghost use Rattle.std.specs.Prelude.{◌≡◌, ◌≤◌, filter, length, not};
+ghost use Rattle.std.specs.Vec.{vec_capacity};
+ghost use Rattle.std.specs.VecDeque.{deque_capacity};
 ghost use Rattle.std.specs.List.{list_any};
-ghost use Rattle.seg_manager.specs.Inner.{StandsAt, first_of, first_with, leaves, place_from};
+ghost use Rattle.seg_manager.specs.Inner.{StandsAt, first_of, first_with, is_of, leaves, place_from};
 ghost use Rattle.seg_manager.specs.Seen.{is_kept, maps};
 
 use std::collections::VecDeque;
@@ -124,4 +126,20 @@ pub(crate) fn place_for(regions: &[Mapped], mapped: &Mapped) -> usize
         }
     }
     regions.len()
+}
+
+// A cache is noted no longer.
+pub(crate) fn drop_named(caches: &mut Vec<Named>, cache: CacheId)
+    ensures items { caches.new.items ≡ filter (λ c. not (first_with cache.0 c)) caches.old.items }
+    ensures capacity { vec_capacity caches.new ≡ vec_capacity caches.old }
+{
+    caches.retain(|named| named.cache.0 != cache.0);
+}
+
+// A cache is kept no longer.
+pub(crate) fn drop_kept(kept: &mut VecDeque<Kept>, cache: CacheId)
+    ensures items { kept.new.items ≡ filter (λ k. not (is_of cache.0 k)) kept.old.items }
+    ensures capacity { deque_capacity kept.new ≡ deque_capacity kept.old }
+{
+    kept.retain(|kept| kept.cache.0 != cache.0);
 }

@@ -1,5 +1,5 @@
 use Rattle.seg_manager.proofs.Reopening.{reopens_as_it_was}
-use Rattle.seg_manager.proofs.Destroyed.{tied_without}
+use Rattle.seg_manager.proofs.Thinned.{thins_then}
 use Rattle.seg_manager.proofs.laws.reopening.Goals as goal
 
 pub returns : goal.returns
