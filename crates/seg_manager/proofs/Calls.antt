@@ -1,5 +1,5 @@
 -- After a call of the manager below its caller can call it again.
-use Rattle.std.proofs.Common.{◌≡◌, ℕ, ◌+◌, ◌*◌, ◌≤◌, true, List, length, map, Option, Some, None, refl, sym, ap, subst, ◌∙◌, arith}
+use Rattle.std.proofs.Common.{◌≡◌, ℕ, ◌+◌, ◌*◌, ◌≤◌, true, List, [], ◌∷◌, length, map, Option, Some, None, refl, sym, ap, subst, ◌∙◌, arith}
 use Rattle.std.specs.Prelude.{is_some, option_map, IfNone, IfSome, Ok, Err}
 use Rattle.std.specs.VecDeque.{deque_capacity}
 use Rattle.vm_ids.specs.Counting.{MapperCounts}

@@ -10,7 +10,7 @@ use Rattle.vm_ids.specs.Held.{Segments}
 use Rattle.vm_model.specs.Answering.{is_mapped}
 use Rattle.vm_model.specs.Machine.{Cache, Machine, Page, cache_named, cache_of, is_named_by, numbered, segment_of}
 use Rattle.vm_model.proofs.Parts.Lists.{numbered_place}
-use Rattle.vm_model.proofs.Parts.ListParts.{numbered_set, numbered_set_other}
+use Rattle.vm_model.proofs.Parts.ListParts.{at_some, numbered_set, numbered_set_other}
 use Rattle.vm_model.proofs.Parts.Naming.{segment_cache}
 use Rattle.vm_model.proofs.Parts.Pairs.{each_both, each_by}
 use Rattle.gmi_calls.specs.Backing.{AreBacked}
@@ -164,7 +164,7 @@ module _ (m : Machine) (told : Option Segments) (caches : List Named) (first : K
       omega (arith, same)
     where
       there_at : (j : ℕ) (d : Cache) → slice_get m.caches j ≡ Some (Some d) → cache_of m (suc j) ≡ Some d
-      there_at j d e = ap (option_and_then (λ (c : Option Cache). c)) (ap (slice_get m.caches) (let k : suc j - 1 ≡ j = omega arith in k) ∙ e)
+      there_at j d e = at_some m.caches (suc j) (omega arith) ∙ ap (option_and_then (λ (c : Option Cache). c)) (ap (slice_get m.caches) (let k : suc j - 1 ≡ j = omega arith in k) ∙ e)
 
   -- its segment has no cache then
   nobody : has_named seg (set m.caches (n - 1) None) ≡ false

@@ -8,3 +8,7 @@ pub mod Destroyed
 pub mod Answered
 pub mod Calls
 pub mod Thinned
+pub mod Trimmed
+pub mod Storing
+pub mod Steps
+pub mod Unused

@@ -36,8 +36,11 @@ use Rattle.seg_manager.proofs.Pushed.{all_pushed}
 
 drop_drop : {A : Type 0} (i j : ℕ) (xs : List A) → drop j (drop i xs) ≡ drop (i + j) xs
 drop_drop zero j xs = ap (λ (n : ℕ). drop n xs) (let s : j ≡ 0 + j = omega arith in s)
-drop_drop (suc i) zero [] = refl
-drop_drop (suc i) (suc j) [] = refl
+drop_drop (suc i) j [] = nil j ∙ sym (nil (suc i + j))
+  where
+    nil : {A : Type 0} (n : ℕ) → drop n (let xs : List A = [] in xs) ≡ []
+    nil zero = refl
+    nil (suc n) = refl
 drop_drop (suc i) j (x ∷ xs) = drop_drop i j xs ∙ ap (λ (n : ℕ). drop n (x ∷ xs)) (let s : suc (i + j) ≡ suc i + j = omega arith in s)
 
 less_credit : (p live then kept made made_then raised : ℕ) → then + p ≡ live + 0 → raised ≡ then - live → made_then ≤ made + 8 * (p + raised) + 8 → made_then + 8 * then + 8 * kept ≤ made + 8 * live + 8 * suc kept
@@ -113,7 +116,7 @@ module _ {Manager X Chooser : Type 0} (M : GhostsOfMapper X) (G : GhostsOfGmi Ma
     abbrev room : ℕ
     room = deque_capacity manager.kept
 
-    tied : AreTied m was caches (first ∷ rest) room regions
+    abbrev tied : AreTied m was caches (first ∷ rest) room regions
     tied = subst (λ (ks : List Kept). AreTied m was caches ks room regions) at can.tied
 
     abbrev it : (c : Cache) × (cache_of m first.cache.0 ≡ Some c) × (c.segment ≡ Some first.seg.0)
@@ -183,7 +186,7 @@ module _ {Manager X Chooser : Type 0} (M : GhostsOfMapper X) (G : GhostsOfGmi Ma
       same = refl;
       caches = ap (λ (x : Machine). length x.caches) g.same;
       made = made_after M G manager gmi before after (commands.Destroy first.cache) a can call;
-      trouble = g.fault;
+      fault = g.fault;
       rises = (call_is M G manager gmi before after (commands.Destroy first.cache) a can call).rises;
       rose = (call_is M G manager gmi before after (commands.Destroy first.cache) a can call).rose;
       failed = g.failed;

@@ -1,10 +1,13 @@
 -- What the inner calls say.
-use Rattle.std.specs.Prelude.{◌≡◌, ◌==◌, ◌||◌, ◌&&◌, nat_lt, ℕ, ◌+◌, Bool, List, [], ◌∷◌, Option, if◌then◌else◌}
-use Rattle.std.specs.List.{position_from}
+use Rattle.std.specs.Prelude.{◌≡◌, ◌==◌, ◌||◌, ◌&&◌, ◌≤◌, nat_lt, not, ℕ, ◌+◌, ◌-◌, Bool, List, [], ◌∷◌, Option, Some, None, Result, Ok, Err, slice_get, slice_set, if◌then◌else◌}
+use Rattle.std.specs.List.{list_any, position_from}
 use Rattle.vm_ids.specs.declared.command.Mapping.{Mapping}
 use Rattle.vm_ids.specs.declared.command.Span.{Span}
 use Rattle.vm_ids.specs.declared.numbers.CacheId.{CacheId}
-use Rattle.seg_manager.specs.Seen.{is_kept}
+use Rattle.vm_ids.specs.declared.numbers.SegId.{SegId}
+use Rattle.vm_ids.specs.declared.refusal.Refusal.{Refusal}
+use Rattle.vm_ids.specs.declared.refusal.Refusal.TheVariants.{NotOpen}
+use Rattle.seg_manager.specs.Seen.{is_kept, maps, openings_in}
 use Rattle.seg_manager.specs.declared.tables.Kept.{Kept}
 use Rattle.seg_manager.specs.declared.tables.Leaving.{Leaving}
 use Rattle.seg_manager.specs.declared.tables.Leaving.TheVariants as leavings
@@ -50,3 +53,35 @@ mapping_shown kept mapping =
 
 abbrev pub span_shown : List Kept → Span → Span
 span_shown kept s = record s { from = shown kept s.from; to = shown kept s.to }
+
+-- the cache with this number, as it is noted
+abbrev pub named_with : ℕ → List Named → Option Named
+named_with cache [] = None
+named_with cache (c ∷ cs) = if c.cache.0 == cache then Some c else named_with cache cs
+
+-- a cache as one that is kept, where nothing refers to it
+abbrev pub kept_by : List Mapped → CacheId → Option Named → List Kept
+kept_by regions cache None = []
+kept_by regions cache (Some c) =
+    if c.openings == 0 && not (list_any (maps cache.0) regions)
+    then record { seg = c.seg; cache = cache } ∷ [] else []
+
+abbrev pub unused_in : List Named → List Mapped → CacheId → List Kept
+unused_in caches regions cache = kept_by regions cache (named_with cache.0 caches)
+
+-- An opening of the segment of this cache is taken back.
+pub record Closes (caches : List Named) (seg : SegId) (cache : CacheId) (now : List Named)
+    : Type 0 where
+  pub place : ℕ
+  pub named : Named
+  pub first : Some place ≡ position_from (first_of seg.0) 0 caches
+  pub there : slice_get caches place ≡ Some named
+  pub some : 1 ≤ named.openings
+  pub is : cache ≡ named.cache
+  pub then_is : now ≡ slice_set caches place (record named { openings = named.openings - 1 })
+
+-- An opening is taken back, or none is left.
+abbrev pub IsClosed : List Named → SegId → Result CacheId Refusal → List Named → Type 0
+IsClosed caches seg (Ok cache) now = Closes caches seg cache now
+IsClosed caches seg (Err NotOpen) now = (now ≡ caches) × (openings_in caches seg.0 ≡ 0)
+IsClosed caches seg (Err r) now = ⊥

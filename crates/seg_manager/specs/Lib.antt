@@ -7,6 +7,6 @@ pub mod Stepping
 pub mod Seen
 pub mod Tying
 pub mod Inner
-pub mod Thinning
 pub mod Keeping
+pub mod Thinning
 pub mod Calling

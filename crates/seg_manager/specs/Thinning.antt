@@ -12,8 +12,9 @@ use Rattle.vm_model.specs.Machine.{Machine, live_pages}
 use Rattle.vm_model.specs.declared.limits.TheConstants.{LIVE_PAGES}
 use Rattle.vm_port.specs.declared.traits.mapper.Mapper.{Ghosts as GhostsOfMapper}
 use Rattle.gmi_calls.specs.declared.gmi.Gmi.{Ghosts as GhostsOfGmi}
+use Rattle.seg_manager.specs.Keeping.{AreLast}
 use Rattle.seg_manager.specs.ReferenceMachine.{ReferenceMachine}
-use Rattle.seg_manager.specs.Seen.{references_seen}
+use Rattle.seg_manager.specs.Seen.{kept_segments, references_seen}
 use Rattle.seg_manager.specs.Tying.{CanCall}
 use Rattle.seg_manager.specs.declared.manager.SegManager.{SegManager}
 
@@ -69,7 +70,7 @@ module _ {Manager Mapper Chooser : Type 0} (M : GhostsOfMapper Mapper)
     pub same : new ≡ record old { gmi = new.gmi }
     pub caches : length (machine_at new after).caches ≡ length (machine_at old before).caches
     pub made : G.made new.gmi ≤ G.made old.gmi + 32 * LIVE_PAGES + 8
-    pub trouble : IsDestroyFault trouble
+    pub fault : IsDestroyFault trouble
     pub rises : MapperCounts
     pub rose : Rise (M.counts before) (M.counts after) rises
     pub failed : 0 < rises.faults
@@ -80,3 +81,18 @@ module _ {Manager Mapper Chooser : Type 0} (M : GhostsOfMapper Mapper)
   IsDestroyed before old (Ok u) after new =
       Thins before old after new × (new.kept.items ≡ drop 1 old.kept.items)
   IsDestroyed before old (Err trouble) after new = Fails before old trouble after new
+
+  -- Of the caches that are kept the last ones stay, as many as may be; or more, where the mapper
+  -- failed. What is seen is as before.
+  pub record Trims (before : Mapper) (old : SegManager Manager) (after : Mapper)
+      (new : SegManager Manager) : Type 0 where
+    pub can : CanCall G new (M.held after) (M.page_bytes after)
+    pub seen : seen_with new after ≡ seen_with old before
+    pub denied : denied_by after ≡ denied_by before
+    pub limit : new.limit ≡ old.limit
+    pub regions : new.regions ≡ old.regions
+    pub kept : AreLast old.limit (M.counts before).faults (M.counts after).faults
+        (kept_segments old.kept.items) (kept_segments new.kept.items)
+    pub made : G.made new.gmi ≤ credit old before + 32 * LIVE_PAGES + 8
+    pub rises : MapperCounts
+    pub rose : Rise (M.counts before) (M.counts after) rises

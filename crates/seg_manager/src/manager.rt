@@ -1,5 +1,6 @@
 // The manager of segments, and the calls of it.
-ghost use Rattle.std.specs.Prelude.{◌≡◌, ◌≤◌, ◌<◌, ◌+◌, ◌^◌, ℕ, Option, Some, None, filter, length, not, slice_get, IfErr, IfOk, OnErr, OnOk};
+ghost use Rattle.std.specs.Prelude.{◌≡◌, ◌≤◌, ◌<◌, ◌+◌, ◌++◌, ◌^◌, ℕ, Option, Some, None, filter, length, not, slice_get, IfErr, IfOk, OnErr, OnOk};
+ghost use Rattle.std.specs.VecDeque.{deque_capacity};
 ghost use Rattle.vm_ids.specs.declared.refusal.Refusal.TheVariants.{NotOpen};
 ghost use Rattle.vm_ids.specs.Held.{Held, segments_of};
 ghost use Rattle.vm_model.specs.Answering.{answer_by};
@@ -7,14 +8,14 @@ ghost use Rattle.vm_model.specs.Asking.{IsWellFormed};
 ghost use Rattle.gmi_calls.specs.Calling.{CallDone, Fits, MapperCall, done_by};
 ghost use Rattle.gmi_calls.specs.Managing.{meanings_of};
 ghost use Rattle.seg_manager.specs.Calling.{Acquires, AnswersKept, IsServed, Releases, SegmentCall, beginning, made_by};
-ghost use Rattle.seg_manager.specs.Inner.{mapping_shown, shown, span_shown};
+ghost use Rattle.seg_manager.specs.Inner.{IsClosed, mapping_shown, shown, span_shown, unused_in};
 ghost use Rattle.seg_manager.specs.Seen.{is_kept, state_of};
-ghost use Rattle.seg_manager.specs.Thinning.{IsDestroyed};
+ghost use Rattle.seg_manager.specs.Thinning.{IsDestroyed, Trims, credit};
 ghost use Rattle.seg_manager.specs.Tying.{CanCall, IsBare};
 
 use crate::tables::{
     Kept, Leaving, Mapped, Named, drop_kept, drop_named, first_leaving, is_kept, is_mapped,
-    place_for, place_of, place_with,
+    named_with, place_for, place_of,
 };
 use gmi_calls::Gmi;
 use std::alloc::Global;
@@ -108,9 +109,14 @@ impl<G> SegManager<G> {
         requires made { G.made self.old.gmi ≤ 2 ^ 61 }
         ensures { Releases M.Mapper G.Gmi mapper.old self.old seg result mapper.new self.new }
     {
-        self.close(seg)?;
-        self.trim(mapper, chooser);
-        Ok(())
+        match self.close(seg) {
+            Ok(cache) => {
+                self.keep_unused(cache);
+                self.trim(mapper, chooser);
+                Ok(())
+            }
+            Err(refusal) => Err(Trouble::Refused(refusal)),
+        }
     }
 
     /// Carries a command of the manager's own out. It finds no cache that is hidden. A region refers
@@ -308,36 +314,48 @@ impl<G> SegManager<G> {
     fn trim<M: Mapper, C: Chooser>(&mut self, mapper: &mut M, chooser: &mut C)
     where
         G: Gmi<M, C>,
+        requires can { CanCall G.Gmi self.old (M.held mapper.old) (M.page_bytes mapper.old) }
+        requires made { credit M.Mapper G.Gmi self.old mapper.old ≤ 2 ^ 62 }
+        ensures { Trims M.Mapper G.Gmi mapper.old self.old mapper.new self.new }
     {
         while self.kept.len() > self.limit as usize {
-            if self.destroy_first(mapper, chooser).is_err() {
-                return;
+            match self.destroy_first(mapper, chooser) {
+                Ok(()) => {}
+                Err(_) => return,
             }
         }
     }
 
-    // Takes an opening of a segment back, whose cache is kept if nothing refers to it then.
-    fn close(&mut self, seg: SegId) -> Result<(), Refusal> {
+    // Takes an opening of a segment back, and gives its cache.
+    fn close(&mut self, seg: SegId) -> Result<CacheId, Refusal>
+        ensures closed { IsClosed self.old.caches.items seg result self.new.caches.items }
+        ensures same { self.new ≡ record self.old { caches = self.new.caches } }
+    {
         let Some(place) = place_of(&self.caches, seg) else {
             return Err(Refusal::NotOpen);
         };
-        let named = &mut self.caches[place];
+        let named = self.caches[place];
         if named.openings == 0 {
             return Err(Refusal::NotOpen);
         }
-        named.openings -= 1;
-        let cache = named.cache;
-        self.keep_unused(cache);
-        Ok(())
+        self.caches[place].openings = named.openings - 1;
+        Ok(named.cache)
     }
 
     // Keeps a cache to which something referred until now, if a segment names it and nothing refers
     // to it any more.
-    fn keep_unused(&mut self, cache: CacheId) {
-        let Some(place) = place_with(&self.caches, cache) else {
+    fn keep_unused(&mut self, cache: CacheId)
+        requires room { length self.old.kept.items
+            + length (unused_in self.old.caches.items self.old.regions.items cache)
+            ≤ deque_capacity self.old.kept }
+        ensures kept { self.new.kept.items ≡ self.old.kept.items
+            ++ unused_in self.old.caches.items self.old.regions.items cache }
+        ensures capacity { deque_capacity self.new.kept ≡ deque_capacity self.old.kept }
+        ensures same { self.new ≡ record self.old { kept = self.new.kept } }
+    {
+        let Some(named) = named_with(&self.caches, cache) else {
             return;
         };
-        let named = self.caches[place];
         if named.openings == 0 && !is_mapped(&self.regions, cache) {
             self.kept.push_back_reserved(Kept {
                 seg: named.seg,

@@ -3,7 +3,7 @@ ghost use Rattle.std.specs.Prelude.{◌≡◌, ◌≤◌, filter, length, not};
 ghost use Rattle.std.specs.Vec.{vec_capacity};
 ghost use Rattle.std.specs.VecDeque.{deque_capacity};
 ghost use Rattle.std.specs.List.{list_any};
-ghost use Rattle.seg_manager.specs.Inner.{StandsAt, first_of, first_with, is_of, leaves, place_from};
+ghost use Rattle.seg_manager.specs.Inner.{StandsAt, first_of, first_with, is_of, leaves, named_with, place_from};
 ghost use Rattle.seg_manager.specs.Seen.{is_kept, maps};
 
 use std::collections::VecDeque;
@@ -52,13 +52,13 @@ pub(crate) fn place_of(caches: &[Named], seg: SegId) -> Option<usize>
     None
 }
 
-// Where a cache that a segment names stands.
-pub(crate) fn place_with(caches: &[Named], cache: CacheId) -> Option<usize>
-    ensures { StandsAt caches.now (first_with cache.0) result }
+// A cache that a segment names.
+pub(crate) fn named_with(caches: &[Named], cache: CacheId) -> Option<Named>
+    ensures { result ≡ named_with cache.0 caches.now }
 {
-    for (place, named) in caches.iter().enumerate() {
+    for named in caches {
         if named.cache == cache {
-            return Some(place);
+            return Some(*named);
         }
     }
     None
