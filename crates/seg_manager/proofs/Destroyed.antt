@@ -184,7 +184,7 @@ module _ (m : Machine) (told : Option Segments) (caches : List Named) (first : K
         ∙ ap (λ (b : Bool). cond b None (get u.pages seg)) nobody
         ∙ pushed
         ∙ sym (gone_stored seg V 1 m.caches there.0 (named_is m s n seg there.0 B there.1 there.2)
-        (ap (has_named seg) (sym (ap (λ (o : Option Segments). used (whole_of m o caches) 1 m.caches) (sym was) ∙ sym (used_still (Some u)) ∙ used_same V W' openings refl 1 (set m.caches (n - 1) None)))
+        (ap (has_named seg) (ap (λ (o : Option Segments). used (whole_of m o caches) 1 m.caches) (sym was) ∙ sym (used_still (Some u)) ∙ used_same V W' openings refl 1 (set m.caches (n - 1) None))
         ∙ (none_goes seg V 1 (set m.caches (n - 1) None) nobody).0))
 
     beside : (x : ℕ) → x ≢ seg → W'.stored x ≡ V.stored x

@@ -12,3 +12,5 @@ pub mod Trimmed
 pub mod Storing
 pub mod Steps
 pub mod Unused
+pub mod Stated
+pub mod Closing

@@ -73,7 +73,7 @@ stored_free m seg k cs e = (none_goes seg m k cs (ap is_some e)).1
 abbrev pub GoesToo : ReferenceMachine → ReferenceMachine → Type 0
 GoesToo m n = (k : ℕ) (c : Cache) → goes m k c ≡ true → goes n k c ≡ true
 
-used_twice : (m n : ReferenceMachine) → GoesToo m n → (k : ℕ) (xs : Caches) → used n k (used m k xs) ≡ used n k xs
+pub used_twice : (m n : ReferenceMachine) → GoesToo m n → (k : ℕ) (xs : Caches) → used n k (used m k xs) ≡ used n k xs
 used_twice m n too k [] = refl
 used_twice m n too k (o ∷ xs) = λ i. first o i ∷ used_twice m n too (k + 1) xs i
   where

@@ -1,6 +1,6 @@
 -- Caches that are kept are destroyed, the least recently used first.
 use Rattle.std.proofs.Common.{◌≡◌, ◌⊎◌, inl, inr, ℕ, zero, suc, ◌+◌, ◌-◌, ◌*◌, ◌<◌, ◌≤◌, List, [], ◌∷◌, length, set, drop, filter, Option, Some, None, refl, sym, ap, subst, ◌∙◌, arith}
-use Rattle.std.specs.Prelude.{IfSome, Ok, Err}
+use Rattle.std.specs.Prelude.{IfSome, Ok, Err, slice_index_or}
 use Rattle.std.specs.FinMap.{get}
 use Rattle.std.specs.Vec.{vec_capacity}
 use Rattle.std.specs.VecDeque.{deque_capacity}
@@ -9,6 +9,7 @@ use Rattle.vm_ids.specs.Counting.{MapperCounts, counts_sum, no_counts}
 use Rattle.vm_ids.specs.Held.{Held, Segments, segments_of}
 use Rattle.vm_ids.specs.declared.command.Command.TheVariants as commands
 use Rattle.vm_ids.specs.declared.reply.Reply.TheVariants as replies
+use Rattle.vm_ids.specs.declared.reply.Trouble.{Trouble}
 use Rattle.vm_model.specs.Answering.{Answer}
 use Rattle.vm_model.specs.Machine.{Cache, Machine, cache_of, live_pages, pages_in}
 use Rattle.vm_model.specs.PageForest.{PageForest}
@@ -191,3 +192,22 @@ module _ {Manager X Chooser : Type 0} (M : GhostsOfMapper X) (G : GhostsOfGmi Ma
       rose = (call_is M G manager gmi before after (commands.Destroy first.cache) a can call).rose;
       failed = g.failed;
     }
+
+    -- by what the destroy answered
+    pub gone_first : a ≡ Ok replies.Done → IsGone m first.cache.0 a n
+    gone_first e = elim answered [
+      | inl g ↦ g
+      | inr g ↦ absurd (let wrong : Err g.trouble ≡ Ok replies.Done = sym g.is ∙ e in cc wrong)
+    ]
+
+    pub failed_first : (trouble : Trouble) → a ≡ Err trouble → Fails M G before manager trouble after (record manager { gmi = gmi })
+    failed_first trouble e = elim answered [
+      | inl g ↦ absurd (let wrong : Ok replies.Done ≡ Err trouble = sym g.done ∙ e in cc wrong)
+      | inr g ↦ (let both : Err g.trouble ≡ Err trouble = sym g.is ∙ e in let same : g.trouble ≡ trouble = cc both in
+          subst (λ (x : Trouble). Fails M G before manager x after (record manager { gmi = gmi })) same (fails_one g))
+    ]
+
+-- the first of some, and the others
+pub first_rest : (ks : List Kept) (k : Kept) → 1 ≤ length ks → k ≡ slice_index_or ks 0 k → ks ≡ k ∷ drop 1 ks
+first_rest [] k some e = absurd (omega (arith, some))
+first_rest (l ∷ ks) k some e = ap (λ (x : Kept). x ∷ ks) (sym e)

@@ -122,8 +122,11 @@ no_entry n (d ∷ ds) m none h =
 -- What nothing refers to
 
 no_reference : (k : ℕ) (b : Bool) → not (nat_lt 0 k || b) ≡ ((k == 0) && not b)
-no_reference zero b = refl
-no_reference (suc k) b = refl
+no_reference k b = by (nat_lt 0 k) refl
+  where
+    by : (c : Bool) → nat_lt 0 k ≡ c → not (nat_lt 0 k || b) ≡ ((k == 0) && not b)
+    by true e = let some : (k == 0) ≡ false = grind (arith, nat_tests) in (λ i. not (e i || b)) ∙ sym (ap (λ (c : Bool). c && not b) some)
+    by false e = let none : (k == 0) ≡ true = grind (arith, nat_tests) in (λ i. not (e i || b)) ∙ sym (ap (λ (c : Bool). c && not b) none)
 
 module _ (m : Machine) (told : Option Segments) (cs : List Named) (rs : List Mapped) (noted : map naming_of cs ≡ namings 1 m.caches) (regions : map noted_of rs ≡ noted_regions 1 m.actors)
     (apart : (i j seg : ℕ) → segment_of m i ≡ Some seg → segment_of m j ≡ Some seg → i ≡ j) (cache : CacheId) where
@@ -155,7 +158,7 @@ module _ (m : Machine) (told : Option Segments) (cs : List Named) (rs : List Map
     pub cache_is : kept.cache ≡ cache
 
   pub unused_found : U ≡ true → Finds
-  unused_found yes = by (segment_of m n) refl
+  unused_found sure = by (segment_of m n) refl
     where
       none : segment_of m n ≡ None → U ≡ false
       none e = at (cache_of m n) refl e
@@ -165,26 +168,26 @@ module _ (m : Machine) (told : Option Segments) (cs : List Named) (rs : List Map
           at (Some c) is e = ap (λ (x : Option ℕ). option_map_or (λ seg. not (nat_lt 0 (openings_in cs seg) || is_mapped m n)) x false) e
 
       by : (o : Option ℕ) → segment_of m n ≡ o → Finds
-      by None e = absurd (let no = none e in cc (yes, no))
+      by None e = absurd (let not_so = none e in cc (sure, not_so))
       by (Some s) e =
           let it = entry_says s e in
           record {
             seg = s;
             of = e;
             kept = record { seg = it.0.seg; cache = cache };
-            is = ap (kept_by rs cache) it.1 ∙ ap (λ (b : Bool). cond b ((let k : Kept = record { seg = it.0.seg; cache = cache } in k) ∷ []) []) (sym it.3 ∙ yes);
+            is = ap (kept_by rs cache) it.1 ∙ ap (λ (b : Bool). cond b ((let k : Kept = record { seg = it.0.seg; cache = cache } in k) ∷ []) []) (sym it.3 ∙ sure);
             named = it.2;
             cache_is = refl;
           }
 
   pub used_found : U ≡ false → unused_in cs rs cache ≡ []
-  used_found no = by (segment_of m n) refl
+  used_found never = by (segment_of m n) refl
     where
       by : (o : Option ℕ) → segment_of m n ≡ o → unused_in cs rs cache ≡ []
       by None e = ap (kept_by rs cache) (no_entry n cs m e (named_entries m cs noted))
       by (Some s) e =
           let it = entry_says s e in
-          ap (kept_by rs cache) it.1 ∙ ap (λ (b : Bool). cond b ((let k : Kept = record { seg = it.0.seg; cache = cache } in k) ∷ []) []) (sym it.3 ∙ no)
+          ap (kept_by rs cache) it.1 ∙ ap (λ (b : Bool). cond b ((let k : Kept = record { seg = it.0.seg; cache = cache } in k) ∷ []) []) (sym it.3 ∙ never)
 
 -- One more is kept
 
