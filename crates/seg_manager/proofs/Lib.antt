@@ -14,3 +14,5 @@ pub mod Steps
 pub mod Unused
 pub mod Stated
 pub mod Closing
+pub mod Leaving
+pub mod Finding
