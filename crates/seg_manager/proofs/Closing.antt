@@ -189,7 +189,7 @@ module _ (m : Machine) (told : Option Segments) (cs : List Named) (ks : List Kep
       let at = all_at (λ (d : Named). segment_of m d.cache.0 ≡ Some d.seg.0) cs c.place c.named (named_entries m cs t.caches) c.there in
       ap (λ (x : CacheId). segment_of m x.0) c.is ∙ at ∙ ap (λ (x : ℕ). Some x) again.of
 
-  noted : map naming_of now ≡ namings 1 m.caches
+  pub noted : map naming_of now ≡ namings 1 m.caches
   noted = ap (map naming_of) c.then_is ∙ naming_set (c.named.openings - 1) cs c.place c.named c.there ∙ t.caches
 
   -- it was referred to
@@ -238,14 +238,14 @@ module _ (m : Machine) (told : Option Segments) (cs : List Named) (ks : List Kep
   abbrev pub closed : ReferenceMachine
   closed = close_one seg.0 (references_seen m told cs)
 
-  closed_openings : closed.openings ≡ openings_in now
+  pub closed_openings : closed.openings ≡ openings_in now
   closed_openings = known_openings told ∙ fun_same (λ x. cond (x == seg.0) (openings_in cs seg.0 - 1) (openings_in cs x)) (openings_in now) (λ x. sym (openings_are x))
     where
       known_openings : (o : Option Segments) → (close_one seg.0 (references_seen m o cs)).openings ≡ (λ x. cond (x == seg.0) (openings_in cs seg.0 - 1) (openings_in cs x))
       known_openings None = refl
       known_openings (Some h) = refl
 
-  goes_too : (r : ReferenceMachine) → r.openings ≡ openings_in now → r.memory.actors ≡ m.actors → GoesToo W r
+  pub goes_too : (r : ReferenceMachine) → r.openings ≡ openings_in now → r.memory.actors ≡ m.actors → GoesToo W r
   goes_too r o a k d g = ap_goes ∙ by d.segment g
     where
       ap_goes : goes r k d ≡ goes V k d

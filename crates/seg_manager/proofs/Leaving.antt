@@ -72,7 +72,7 @@ credit_few M G manager mapper can =
 
 -- A step as it is seen once other caches were destroyed
 
-told_both : (was now : Option Segments) → option_map (λ (h : Segments). h.denied) now ≡ option_map (λ (h : Segments). h.denied) was → (before mid after : State) (next : ReferenceMachine) → after.references ≡ mid.references → IsSeen was before mid next → IsSeen now before after next
+pub told_both : (was now : Option Segments) → option_map (λ (h : Segments). h.denied) now ≡ option_map (λ (h : Segments). h.denied) was → (before mid after : State) (next : ReferenceMachine) → after.references ≡ mid.references → IsSeen was before mid next → IsSeen now before after next
 told_both None None e before mid after next same seen = (seen.0, same ∙ seen.1)
 told_both None (Some h) e before mid after next same seen = absurd (cc e)
 told_both (Some h) None e before mid after next same seen = absurd (cc e)

@@ -16,3 +16,5 @@ pub mod Stated
 pub mod Closing
 pub mod Leaving
 pub mod Finding
+pub mod Releasing
+pub mod Coming

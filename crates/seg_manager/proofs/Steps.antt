@@ -94,3 +94,25 @@ seen_gone m n was now bare too memory openings = λ i. record {
         ∙ ap (used n 1) (sym (ap (λ (x : Machine). x.caches) memory))
         ∙ ap (used n 1) (ap (λ (x : Machine). x.caches) memory ∙ ap (used W 1) (ap (λ (x : Machine). x.caches) bare) ∙ sym (blank_used W 1 m.caches) ∙ sym (ap (λ (x : Machine). map (option_map blank_cache) x.caches) memory))
         ∙ sym (blank_used n 1 n.memory.caches)
+
+-- The same from a machine with more than is seen.
+abbrev pub AreSeen : Option Segments → State → State → ReferenceMachine → ReferenceMachine → Type 0
+AreSeen (Some h) before after whole next = (before.references ≡ whole) × (after.references ≡ next)
+AreSeen None before after whole next = (before.references ≡ blank_references whole) × (after.references ≡ blank_references next)
+
+pub step_whole : (before after : State) (command : KeepCommand) (a : Answer) (rises : MapperCounts) (whole next : ReferenceMachine)
+    → ((h : Segments) → (number : ℕ) × Outcome whole None command h number a next rises) → AreSeen after.segments before after whole next → StepAt after.segments before command a rises after
+step_whole before after command a rises whole next outcome seen = by after.segments refl seen
+  where
+    by : (o : Option Segments) → after.segments ≡ o → AreSeen o before after whole next → StepAt o before command a rises after
+    by (Some h) e seen = let r = outcome h in (r.0, subst (λ (x : ReferenceMachine). Outcome x None command h r.0 a after.references rises) (sym seen.0) (subst (λ (x : ReferenceMachine). Outcome whole None command h r.0 a x rises) (sym seen.1) r.1))
+    by None e seen = record {
+      whole = record { references = whole; segments = before.segments };
+      whole_next = record { references = next; segments = after.segments };
+      segments = no_segments;
+      whole_answer = a;
+      is = λ i. record { references = seen.0 i; segments = before.segments };
+      is_next = λ i. record { references = seen.1 i; segments = after.segments };
+      alike = alike_self a;
+      leads = outcome no_segments;
+    }

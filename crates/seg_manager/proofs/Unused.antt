@@ -15,7 +15,8 @@ use Rattle.vm_model.proofs.Parts.Lists.{numbered_place}
 use Rattle.vm_model.proofs.Parts.Pairs.{each_by}
 use Rattle.seg_manager.specs.Inner.{kept_by, named_with, unused_in}
 use Rattle.seg_manager.specs.ReferenceMachine.{ReferenceMachine, goes}
-use Rattle.seg_manager.specs.Seen.{is_kept, maps, openings_in, whole_of}
+use Rattle.seg_manager.specs.Keeping.{left_one}
+use Rattle.seg_manager.specs.Seen.{is_kept, kept_segments, maps, openings_in, whole_of}
 use Rattle.seg_manager.specs.Tying.{AreOnce, Naming, Noted, is_unreferenced, naming_at, naming_of, namings, noted_at, noted_of, noted_region, noted_regions}
 use Rattle.seg_manager.specs.declared.tables.Kept.{Kept}
 use Rattle.seg_manager.specs.declared.tables.Mapped.{Mapped}
@@ -253,3 +254,18 @@ keeps_more m told cs rs noted regions apart cache ks was kept once named free sa
           once = once_more ks f.kept once (ap (is_kept ks) number ∙ kept cache.0 ∙ free);
           named = all_append (λ (k : Kept). segment_of m k.cache.0 ≡ Some k.seg.0) ks (f.kept ∷ []) named (ap (segment_of m) number ∙ f.of ∙ ap (λ (s : ℕ). Some s) (sym f.named), tt);
         })
+
+-- the segment of what is found unused, as it is said of the machine
+pub left_is : (m : Machine) (told : Option Segments) (cs : List Named) (rs : List Mapped) → map naming_of cs ≡ namings 1 m.caches → map noted_of rs ≡ noted_regions 1 m.actors
+    → ((i j seg : ℕ) → segment_of m i ≡ Some seg → segment_of m j ≡ Some seg → i ≡ j)
+    → (cache : CacheId) → kept_segments (unused_in cs rs cache) ≡ left_one (whole_of m told cs) cache.0
+left_is m told cs rs noted regions apart cache = by (is_unreferenced (whole_of m told cs) cache.0) refl
+  where
+    by : (b : Bool) → is_unreferenced (whole_of m told cs) cache.0 ≡ b → kept_segments (unused_in cs rs cache) ≡ left_one (whole_of m told cs) cache.0
+    by false e =
+        ap kept_segments (used_found m told cs rs noted regions apart cache e)
+        ∙ sym (ap (λ (b : Bool). cond b (option_map_or (λ seg. seg ∷ []) (segment_of m cache.0) []) []) e)
+    by true e =
+        let f = unused_found m told cs rs noted regions apart cache e in
+        ap kept_segments f.is ∙ ap (λ (s : ℕ). s ∷ []) f.named
+        ∙ sym (ap (λ (b : Bool). cond b (option_map_or (λ seg. seg ∷ []) (segment_of m cache.0) []) []) e ∙ ap (λ (o : Option ℕ). option_map_or (λ seg. seg ∷ []) o []) f.of)
