@@ -18,3 +18,5 @@ pub mod Leaving
 pub mod Finding
 pub mod Releasing
 pub mod Coming
+pub mod Opening
+pub mod Acquiring

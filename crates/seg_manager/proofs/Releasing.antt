@@ -23,7 +23,8 @@ use Rattle.gmi_calls.specs.declared.gmi.Gmi.{Ghosts as GhostsOfGmi}
 use Rattle.gmi_calls.proofs.Rising.{rise_none}
 use Rattle.seg_manager.specs.Answering.{Answered, close_of, refuse, reply}
 use Rattle.seg_manager.specs.Calling.{Releases, below}
-use Rattle.seg_manager.specs.Inner.{Closes, unused_in}
+use Rattle.vm_ids.specs.declared.refusal.Refusal.{Refusal}
+use Rattle.seg_manager.specs.Inner.{Closes, IsClosed, unused_in}
 use Rattle.seg_manager.specs.Keeping.{AreLast, cache_for, left_by, left_one, referred}
 use Rattle.seg_manager.specs.ReferenceMachine.{ReferenceMachine, close_one, is_open, let_go, number_in}
 use Rattle.seg_manager.specs.Seen.{kept_segments, openings_in, references_seen, state_of, stored_beside, whole_of}
@@ -47,7 +48,7 @@ blank_told None m h = h
 blank_told (Some g) m h = tt
 
 -- The number of the one cache of a segment
-number_found : (seg k : ℕ) (cs : Caches) (i : ℕ) (c : Cache) → slice_get cs i ≡ Some (Some c) → is_named_by seg (Some c) ≡ true → ((j : ℕ) (d : Cache) → slice_get cs j ≡ Some (Some d) → is_named_by seg (Some d) ≡ true → j ≡ i) → number_in k cs seg ≡ Some (k + i)
+pub number_found : (seg k : ℕ) (cs : Caches) (i : ℕ) (c : Cache) → slice_get cs i ≡ Some (Some c) → is_named_by seg (Some c) ≡ true → ((j : ℕ) (d : Cache) → slice_get cs j ≡ Some (Some d) → is_named_by seg (Some d) ≡ true → j ≡ i) → number_in k cs seg ≡ Some (k + i)
 number_found seg k [] i c there named only = absurd (cc there)
 number_found seg k (o ∷ cs) zero c there named only =
     let is : o ≡ Some c = cc there in
@@ -200,3 +201,41 @@ not_released M G before old seg can none = record {
     same : (told : Option Segments) (m : Machine) (cs : List Named) → IfNone told (m ≡ blank m) → IsSeen told (state_over told m cs) (state_over told m cs) (references_seen m told cs)
     same None m cs bare = (seen_blank m cs bare, seen_blank m cs bare)
     same (Some h) m cs bare = refl
+
+-- The same by the calls that it makes
+module _ {Manager X Chooser : Type 0} (M : GhostsOfMapper X) (G : GhostsOfGmi Manager X Chooser) (before : X) (old then_closed : SegManager Manager) (seg : SegId) (cache : CacheId) (can : CanCall G old (M.held before) (M.page_bytes before))
+    (c : Closes old.caches.items seg cache then_closed.caches.items) (same : then_closed ≡ record old { caches = then_closed.caches }) where
+  pub keep_may : length then_closed.kept.items + length (unused_in then_closed.caches.items then_closed.regions.items cache) ≤ deque_capacity then_closed.kept
+  keep_may =
+      subst (λ (x : SegManager Manager). length x.kept.items + length (unused_in then_closed.caches.items x.regions.items cache) ≤ deque_capacity x.kept) (sym same)
+      (keep_room M G before old then_closed seg cache can c)
+
+  module _ (then_kept : SegManager Manager) (kept : then_kept.kept.items ≡ then_closed.kept.items ++ unused_in then_closed.caches.items then_closed.regions.items cache) (capacity : deque_capacity then_kept.kept ≡ deque_capacity then_closed.kept)
+      (same_kept : then_kept ≡ record then_closed { kept = then_kept.kept }) where
+    abbrev later : SegManager Manager
+    later = record old { caches = then_closed.caches; kept = then_kept.kept }
+
+    is : then_kept ≡ later
+    is = same_kept ∙ (λ i. record (same i) { kept = then_kept.kept })
+
+    kept_is : later.kept.items ≡ old.kept.items ++ unused_in later.caches.items old.regions.items cache
+    kept_is = kept ∙ (λ i. (same i).kept.items ++ unused_in then_closed.caches.items (same i).regions.items cache)
+
+    capacity_is : deque_capacity later.kept ≡ deque_capacity old.kept
+    capacity_is = capacity ∙ (λ i. deque_capacity (same i).kept)
+
+    pub trim_can : CanCall G then_kept (M.held before) (M.page_bytes before)
+    trim_can = subst (λ (x : SegManager Manager). CanCall G x (M.held before) (M.page_bytes before)) (sym is) (mid_can M G before old later seg cache can c kept_is capacity_is)
+
+    pub trim_made : G.made old.gmi ≤ 2 ^ 61 → credit M G then_kept before ≤ 2 ^ 62
+    trim_made made = subst (λ (x : SegManager Manager). credit M G x before ≤ 2 ^ 62) (sym is) (mid_credit M G before old later seg cache can c kept_is capacity_is made)
+
+    pub release_done : (after : X) (new : SegManager Manager) → Trims M G before then_kept after new → Releases M G before old seg (Ok tt) after new
+    release_done after new trims = released M G before old later seg cache can c kept_is capacity_is after new (subst (λ (x : SegManager Manager). Trims M G before x after new) is trims)
+
+-- the close was refused
+pub release_refused : {Manager X Chooser : Type 0} (M : GhostsOfMapper X) (G : GhostsOfGmi Manager X Chooser) (before : X) (old new : SegManager Manager) (seg : SegId) (r : Refusal) → CanCall G old (M.held before) (M.page_bytes before)
+    → IsClosed old.caches.items seg (Err r) new.caches.items → new ≡ old → Releases M G before old seg (Err (troubles.Refused r)) before new
+release_refused {Manager} M G before old new seg refusals.NotOpen can closed is =
+    subst (λ (x : SegManager Manager). Releases M G before old seg (Err (troubles.Refused refusals.NotOpen)) before x) (sym is) (not_released M G before old seg can closed.1)
+release_refused M G before old new seg r can closed is = absurd closed

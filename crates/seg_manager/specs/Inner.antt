@@ -1,10 +1,14 @@
 -- What the inner calls say.
-use Rattle.std.specs.Prelude.{◌≡◌, ◌==◌, ◌||◌, ◌&&◌, ◌≤◌, nat_lt, not, ℕ, ◌+◌, ◌-◌, Bool, List, [], ◌∷◌, Option, Some, None, Result, Ok, Err, slice_get, slice_set, if◌then◌else◌}
+use Rattle.std.specs.Prelude.{◌≡◌, ◌==◌, ◌||◌, ◌&&◌, ◌≤◌, nat_lt, not, ℕ, ◌+◌, ◌-◌, Bool, List, [], ◌∷◌, filter, Option, Some, None, Result, Ok, Err, slice_get, slice_set, if◌then◌else◌}
 use Rattle.std.specs.List.{list_any, position_from}
 use Rattle.vm_ids.specs.declared.command.Mapping.{Mapping}
 use Rattle.vm_ids.specs.declared.command.Span.{Span}
 use Rattle.vm_ids.specs.declared.numbers.CacheId.{CacheId}
 use Rattle.vm_ids.specs.declared.numbers.SegId.{SegId}
+use Rattle.std.specs.VecDeque.{deque_capacity}
+use Rattle.vm_ids.specs.declared.reply.Trouble.{Trouble}
+use Rattle.vm_ids.specs.declared.reply.Trouble.TheVariants.{Memory}
+use Rattle.seg_manager.specs.declared.manager.SegManager.{SegManager}
 use Rattle.vm_ids.specs.declared.refusal.Refusal.{Refusal}
 use Rattle.vm_ids.specs.declared.refusal.Refusal.TheVariants.{NotOpen}
 use Rattle.seg_manager.specs.Seen.{is_kept, maps, openings_in}
@@ -85,3 +89,22 @@ abbrev pub IsClosed : List Named → SegId → Result CacheId Refusal → List N
 IsClosed caches seg (Ok cache) now = Closes caches seg cache now
 IsClosed caches seg (Err NotOpen) now = (now ≡ caches) × (openings_in caches seg.0 ≡ 0)
 IsClosed caches seg (Err r) now = ⊥
+
+-- The cache that stands here is opened once more, and kept no longer.
+pub record OpensAgain {Manager : Type 0} (old : SegManager Manager) (place : ℕ) (cache : CacheId)
+    (new : SegManager Manager) : Type 0 where
+  pub named : Named
+  pub there : slice_get old.caches.items place ≡ Some named
+  pub is : cache ≡ named.cache
+  pub caches : new.caches.items
+      ≡ slice_set old.caches.items place (record named { openings = named.openings + 1 })
+  pub kept : new.kept.items ≡ filter (λ k. not (is_of named.cache.0 k)) old.kept.items
+  pub capacity : deque_capacity new.kept ≡ deque_capacity old.kept
+  pub same : new ≡ record old { caches = new.caches; kept = new.kept }
+
+-- It is opened once more, or its openings can't be counted.
+abbrev pub IsOpenedAgain : {Manager : Type 0} → SegManager Manager → ℕ → Result CacheId Trouble
+    → SegManager Manager → Type 0
+IsOpenedAgain old place (Ok cache) new = OpensAgain old place cache new
+IsOpenedAgain old place (Err Memory) new = new ≡ old
+IsOpenedAgain old place (Err trouble) new = ⊥

@@ -8,7 +8,7 @@ ghost use Rattle.vm_model.specs.Asking.{IsWellFormed};
 ghost use Rattle.gmi_calls.specs.Calling.{CallDone, Fits, MapperCall, done_by};
 ghost use Rattle.gmi_calls.specs.Managing.{meanings_of};
 ghost use Rattle.seg_manager.specs.Calling.{Acquires, AnswersKept, IsServed, Releases, SegmentCall, beginning, made_by};
-ghost use Rattle.seg_manager.specs.Inner.{IsClosed, mapping_shown, shown, span_shown, unused_in};
+ghost use Rattle.seg_manager.specs.Inner.{IsClosed, IsOpenedAgain, mapping_shown, shown, span_shown, unused_in};
 ghost use Rattle.seg_manager.specs.Seen.{is_kept, state_of};
 ghost use Rattle.seg_manager.specs.Thinning.{IsDestroyed, Trims, credit};
 ghost use Rattle.seg_manager.specs.Tying.{CanCall, IsBare};
@@ -186,16 +186,19 @@ impl<G> SegManager<G> {
         }
     }
 
-    // Another opening of a segment that has a cache. This is kept no longer.
-    fn open_again(&mut self, place: usize) -> Result<CacheId, Trouble> {
-        let named = &mut self.caches[place];
+    // Another opening of a segment that has a cache, which is kept no longer. Openings are counted by
+    // 64 bits: to open a segment more often would take memory that there isn't.
+    fn open_again(&mut self, place: usize) -> Result<CacheId, Trouble>
+        requires { place < length self.old.caches.items }
+        ensures { IsOpenedAgain self.old place result self.new }
+    {
+        let named = self.caches[place];
         let Some(openings) = named.openings.checked_add(1) else {
             return Err(Trouble::Memory);
         };
-        named.openings = openings;
-        let cache = named.cache;
-        drop_kept(&mut self.kept, cache);
-        Ok(cache)
+        self.caches[place].openings = openings;
+        drop_kept(&mut self.kept, named.cache);
+        Ok(named.cache)
     }
 
     // The first opening of a segment that has no cache.
@@ -330,6 +333,7 @@ impl<G> SegManager<G> {
     fn close(&mut self, seg: SegId) -> Result<CacheId, Refusal>
         ensures closed { IsClosed self.old.caches.items seg result self.new.caches.items }
         ensures same { self.new ≡ record self.old { caches = self.new.caches } }
+        ensures refused { OnErr result (self.new ≡ self.old) }
     {
         let Some(place) = place_of(&self.caches, seg) else {
             return Err(Refusal::NotOpen);

@@ -1,5 +1,5 @@
 use Rattle.seg_manager.proofs.Reopening.{reopens_as_it_was}
-use Rattle.seg_manager.proofs.Releasing.{not_released}
+use Rattle.seg_manager.proofs.Coming.{stored_turn}
 use Rattle.seg_manager.proofs.laws.reopening.Goals as goal
 
 pub returns : goal.returns

@@ -1,34 +1,25 @@
-use Rattle.std.proofs.Common.{rules, ◌≡◌, ◌≤◌, ◌<◌, ◌+◌, ◌++◌, ◌^◌, ℕ, Option, Some, None, filter, length, not, slice_get, IfErr, IfOk, OnErr, OnOk, ◌-◌, ◌*◌, ◌/◌, ◌%◌, Bool, true, false, nat_eq, nat_lt, List, [], ◌∷◌, slice_index_or, slice_set, bit_and, bit_or, w8, w32, w64, Bor, MutBor}
-use Rattle.std.specs.VecDeque.{deque_capacity}
-use Rattle.vm_ids.specs.declared.refusal.Refusal.TheVariants.{NotOpen}
-use Rattle.vm_ids.specs.Held.{Held, segments_of}
-use Rattle.vm_model.specs.Answering.{answer_by}
-use Rattle.vm_model.specs.Asking.{IsWellFormed}
-use Rattle.gmi_calls.specs.Calling.{CallDone, Fits, MapperCall, done_by}
-use Rattle.gmi_calls.specs.Managing.{meanings_of}
-use Rattle.seg_manager.specs.Calling.{Acquires, AnswersKept, IsServed, Releases, SegmentCall, beginning, made_by}
-use Rattle.seg_manager.specs.Inner.{IsClosed, mapping_shown, shown, span_shown, unused_in}
-use Rattle.seg_manager.specs.Seen.{is_kept, state_of}
-use Rattle.seg_manager.specs.Thinning.{IsDestroyed, Trims, credit}
-use Rattle.seg_manager.specs.Tying.{CanCall, IsBare}
+use Rattle.seg_manager.proofs.Releasing.{keep_may, release_done, release_refused, trim_can, trim_made}
 use Rattle.seg_manager.proofs.manager.SegManager.release.Goals as goal
 
--- src/manager.rt:114:17
 pub keep_unused-requires : goal.keep_unused-requires
-keep_unused-requires g c = ?
+keep_unused-requires g c =
+    record { room = keep_may g.M.Mapper g.G.Gmi c.args.mapper.now c.args.self.now c.close.new.self c.args.seg c.in-Ok.cache c.requires.can c.in-Ok.ensures.closed c.close.ensures.same }
 
--- src/manager.rt:115:17
 pub trim-requires-clause-can : goal.trim-requires-clause-can
-trim-requires-clause-can g c = ?
+trim-requires-clause-can g c =
+    trim_can g.M.Mapper g.G.Gmi c.args.mapper.now c.args.self.now c.close.new.self c.args.seg c.in-Ok.cache c.requires.can c.in-Ok.ensures.closed c.close.ensures.same
+    c.keep_unused.new.self c.keep_unused.ensures.kept c.keep_unused.ensures.capacity c.keep_unused.ensures.same
 
--- src/manager.rt:115:17
 pub trim-requires-clause-made : goal.trim-requires-clause-made
-trim-requires-clause-made g c = ?
+trim-requires-clause-made g c =
+    trim_made g.M.Mapper g.G.Gmi c.args.mapper.now c.args.self.now c.close.new.self c.args.seg c.in-Ok.cache c.requires.can c.in-Ok.ensures.closed c.close.ensures.same
+    c.keep_unused.new.self c.keep_unused.ensures.kept c.keep_unused.ensures.capacity c.keep_unused.ensures.same c.requires.made
 
--- src/manager.rt:100:5
 pub returns-in-Ok : goal.returns-in-Ok
-returns-in-Ok g c = ?
+returns-in-Ok g c =
+    release_done g.M.Mapper g.G.Gmi c.args.mapper.now c.args.self.now c.close.new.self c.args.seg c.in-Ok.cache c.requires.can c.in-Ok.ensures.closed c.close.ensures.same
+    c.keep_unused.new.self c.keep_unused.ensures.kept c.keep_unused.ensures.capacity c.keep_unused.ensures.same c.trim.new.mapper c.trim.new.self c.trim.ensures
 
--- src/manager.rt:100:5
 pub returns-in-Err : goal.returns-in-Err
-returns-in-Err g c = ?
+returns-in-Err g c =
+    release_refused g.M.Mapper g.G.Gmi c.args.mapper.now c.args.self.now c.close.new.self c.args.seg c.in-Err.refusal c.requires.can c.in-Err.ensures.closed c.in-Err.ensures.refused
