@@ -114,7 +114,7 @@ module _ (m : Machine) (cs : List Named) (ks : List Kept) (room : ℕ) (rs : Lis
     abbrev n' : ℕ
     n' = named.cache.0
 
-    found : (c : Cache) × (cache_of m n' ≡ Some c) × (c.segment ≡ Some seg.0)
+    abbrev found : (c : Cache) × (cache_of m n' ≡ Some c) × (c.segment ≡ Some seg.0)
     found = it m told cs ks room rs t seg place named first place_is now is
 
     abbrev pages : List Page
@@ -313,7 +313,7 @@ lacks_memory M G before old seg can = record {
     rose = rise_none (M.counts before);
     is = record {
       step = step_whole (state_of G old (M.held before)) (state_of G old (M.held before)) (commands.Plain (OpenSegment seg)) (Err troubles.Memory) no_counts (references_seen (G.machine old.gmi (M.held before)) (segments_of (M.held before)) old.caches.items)
-          (references_seen (G.machine old.gmi (M.held before)) (segments_of (M.held before)) old.caches.items) (λ h. (0, (refl, (tt, tt))))
+          (references_seen (G.machine old.gmi (M.held before)) (segments_of (M.held before)) old.caches.items) (λ h. (0, (refl, tt, tt)))
           (as_before (segments_of (M.held before)) (G.machine old.gmi (M.held before)) old.caches.items (blank_told (M.held before) (G.machine old.gmi (M.held before)) can.blank));
       denied = refl;
     };

@@ -20,3 +20,5 @@ pub mod Releasing
 pub mod Coming
 pub mod Opening
 pub mod Acquiring
+pub mod Opened
+pub mod Anew

@@ -238,4 +238,4 @@ pub release_refused : {Manager X Chooser : Type 0} (M : GhostsOfMapper X) (G : G
     → IsClosed old.caches.items seg (Err r) new.caches.items → new ≡ old → Releases M G before old seg (Err (troubles.Refused r)) before new
 release_refused {Manager} M G before old new seg refusals.NotOpen can closed is =
     subst (λ (x : SegManager Manager). Releases M G before old seg (Err (troubles.Refused refusals.NotOpen)) before x) (sym is) (not_released M G before old seg can closed.1)
-release_refused M G before old new seg r can closed is = absurd closed
+release_refused M G before old new seg r can closed same = absurd closed

@@ -1,5 +1,5 @@
 -- What it comes to that caches which are kept are destroyed, the least recently used first.
-use Rattle.std.specs.Prelude.{◌≡◌, ◌≤◌, ◌<◌, ℕ, ◌+◌, ◌*◌, List, drop, length, option_map, Option, Result, Ok, Err}
+use Rattle.std.specs.Prelude.{◌≡◌, ◌≤◌, ◌<◌, ◌⊎◌, [], ℕ, ◌+◌, ◌*◌, List, drop, length, option_map, Option, Result, Ok, Err}
 use Rattle.std.specs.Vec.{vec_capacity}
 use Rattle.std.specs.VecDeque.{deque_capacity}
 use Rattle.vm_ids.specs.Counting.{MapperCounts, Rise}
@@ -7,7 +7,14 @@ use Rattle.vm_ids.specs.Held.{Held, Segments, segments_of}
 use Rattle.vm_ids.specs.declared.reply.FaultAt.{FaultAt}
 use Rattle.vm_ids.specs.declared.reply.FaultAt.TheVariants as faults
 use Rattle.vm_ids.specs.declared.reply.Trouble.{Trouble}
-use Rattle.vm_ids.specs.declared.reply.Trouble.TheVariants.{Mapper}
+use Rattle.vm_ids.specs.declared.command.Command.{Command}
+use Rattle.vm_ids.specs.declared.numbers.CacheId.{CacheId}
+use Rattle.vm_ids.specs.declared.refusal.Refusal.TheVariants.{TooMany}
+use Rattle.vm_ids.specs.declared.reply.Reply.TheVariants.{Cache}
+use Rattle.vm_ids.specs.declared.reply.Trouble.TheVariants.{Mapper, Refused}
+use Rattle.vm_model.specs.Answering.{Answer}
+use Rattle.gmi_calls.specs.Calling.{MapperCall}
+use Rattle.gmi_calls.specs.Managing.{meanings_of}
 use Rattle.vm_model.specs.Machine.{Machine, live_pages}
 use Rattle.vm_model.specs.declared.limits.TheConstants.{LIVE_PAGES}
 use Rattle.vm_port.specs.declared.traits.mapper.Mapper.{Ghosts as GhostsOfMapper}
@@ -96,3 +103,58 @@ module _ {Manager Mapper Chooser : Type 0} (M : GhostsOfMapper Mapper)
     pub made : G.made new.gmi ≤ credit old before + 32 * LIVE_PAGES + 8
     pub rises : MapperCounts
     pub rose : Rise (M.counts before) (M.counts after) rises
+
+  -- The manager below was asked once some of the least recently used caches were destroyed, and
+  -- answered so.
+  pub record Tries (c : Command) (before : Mapper) (old : SegManager Manager) (answer : Answer)
+      (after : Mapper) (new : SegManager Manager) : Type 0 where
+    pub middle : Mapper
+    pub by : SegManager Manager
+    pub thins : Thins before old middle by
+    pub call : MapperCall M (meanings_of G) middle by.gmi c answer after new.gmi
+    pub same : new ≡ record by { gmi = new.gmi }
+
+  -- It had no room, and the next cache couldn't be destroyed.
+  pub record TriesInVain (c : Command) (before : Mapper) (old : SegManager Manager)
+      (trouble : Trouble) (after : Mapper) (new : SegManager Manager) : Type 0 where
+    pub middle : Mapper
+    pub by : SegManager Manager
+    pub tries : Tries c before old (Err (Refused TooMany)) middle by
+    pub fails : Fails middle by trouble after new
+
+  -- What a command that makes a cache comes to. It is refused as too many only where no cache is
+  -- kept any more.
+  abbrev pub IsTried : Command → Mapper → SegManager Manager → Result CacheId Trouble → Mapper
+      → SegManager Manager → Type 0
+  IsTried c before old (Ok cache) after new = Tries c before old (Ok (Cache cache)) after new
+  IsTried c before old (Err trouble) after new =
+      (Tries c before old (Err trouble) after new
+      × (trouble ≡ Refused TooMany → new.kept.items ≡ []))
+      ⊎ TriesInVain c before old trouble after new
+
+  -- A cache was destroyed where the manager below had no room.
+  pub record MakesRoom (trouble : Trouble) (before : Mapper) (old : SegManager Manager)
+      (after : Mapper) (new : SegManager Manager) : Type 0 where
+    pub wanted : trouble ≡ Refused TooMany
+    pub thins : Thins before old after new
+    pub less : length new.kept.items < length old.kept.items
+
+  -- There is no room to make, or it couldn't be made.
+  pub record MakesNoRoom (trouble : Trouble) (before : Mapper) (old : SegManager Manager)
+      (answer : Trouble) (after : Mapper) (new : SegManager Manager) : Type 0 where
+    pub mapper : after ≡ before
+    pub same : new ≡ old
+    pub is : answer ≡ trouble
+    pub none : trouble ≡ Refused TooMany → old.kept.items ≡ []
+
+  pub record FailsToMakeRoom (trouble : Trouble) (before : Mapper) (old : SegManager Manager)
+      (answer : Trouble) (after : Mapper) (new : SegManager Manager) : Type 0 where
+    pub wanted : trouble ≡ Refused TooMany
+    pub fails : Fails before old answer after new
+
+  abbrev pub IsRoomMade : Trouble → Mapper → SegManager Manager → Result (Unit {0}) Trouble
+      → Mapper → SegManager Manager → Type 0
+  IsRoomMade trouble before old (Ok u) after new = MakesRoom trouble before old after new
+  IsRoomMade trouble before old (Err answer) after new =
+      MakesNoRoom trouble before old answer after new
+      ⊎ FailsToMakeRoom trouble before old answer after new

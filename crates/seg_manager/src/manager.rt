@@ -1,5 +1,6 @@
 // The manager of segments, and the calls of it.
 ghost use Rattle.std.specs.Prelude.{◌≡◌, ◌≤◌, ◌<◌, ◌+◌, ◌++◌, ◌^◌, ℕ, Option, Some, None, filter, length, not, slice_get, IfErr, IfOk, OnErr, OnOk};
+ghost use Rattle.std.specs.Vec.{vec_capacity, vec_len};
 ghost use Rattle.std.specs.VecDeque.{deque_capacity};
 ghost use Rattle.vm_ids.specs.declared.refusal.Refusal.TheVariants.{NotOpen};
 ghost use Rattle.vm_ids.specs.Held.{Held, segments_of};
@@ -8,9 +9,9 @@ ghost use Rattle.vm_model.specs.Asking.{IsWellFormed};
 ghost use Rattle.gmi_calls.specs.Calling.{CallDone, Fits, MapperCall, done_by};
 ghost use Rattle.gmi_calls.specs.Managing.{meanings_of};
 ghost use Rattle.seg_manager.specs.Calling.{Acquires, AnswersKept, IsServed, Releases, SegmentCall, beginning, made_by};
-ghost use Rattle.seg_manager.specs.Inner.{IsClosed, IsOpenedAgain, mapping_shown, shown, span_shown, unused_in};
+ghost use Rattle.seg_manager.specs.Inner.{IsClosed, IsOpenedAgain, StandsAt, first_of, mapping_shown, shown, span_shown, unused_in};
 ghost use Rattle.seg_manager.specs.Seen.{is_kept, state_of};
-ghost use Rattle.seg_manager.specs.Thinning.{IsDestroyed, Trims, credit};
+ghost use Rattle.seg_manager.specs.Thinning.{IsDestroyed, IsRoomMade, IsTried, Trims, credit};
 ghost use Rattle.seg_manager.specs.Tying.{CanCall, IsBare};
 
 use crate::tables::{
@@ -210,6 +211,10 @@ impl<G> SegManager<G> {
     ) -> Result<CacheId, Trouble>
     where
         G: Gmi<M, C>,
+        requires can { CanCall G.Gmi self.old (M.held mapper.old) (M.page_bytes mapper.old) }
+        requires made { G.made self.old.gmi ≤ 2 ^ 61 }
+        requires anew { StandsAt self.old.caches.items (first_of seg.0) None }
+        ensures { Acquires M.Mapper G.Gmi mapper.old self.old seg result mapper.new self.new }
     {
         self.reserve_cache()?;
         let cache = self.open_segment(seg, mapper, chooser)?;
@@ -222,9 +227,19 @@ impl<G> SegManager<G> {
     }
 
     // Makes room for one cache more that a segment names, and for keeping each of them.
-    fn reserve_cache(&mut self) -> Result<(), NoMemory> {
+    fn reserve_cache(&mut self) -> Result<(), NoMemory>
+        requires { length self.old.kept.items ≤ length self.old.caches.items }
+        ensures caches { self.new.caches.items ≡ self.old.caches.items }
+        ensures kept { self.new.kept.items ≡ self.old.kept.items }
+        ensures room { OnOk result (vec_len self.new.caches + 1 ≤ vec_capacity self.new.caches) }
+        ensures all { OnOk result (length self.new.caches.items + 1
+            ≤ deque_capacity self.new.kept) }
+        ensures less { deque_capacity self.old.kept ≤ deque_capacity self.new.kept }
+        ensures same { self.new
+            ≡ record self.old { caches = self.new.caches; kept = self.new.kept } }
+    {
         self.caches.reserve(1)?;
-        let more = self.caches.len() + 1 - self.kept.len();
+        let more = self.caches.len() - self.kept.len() + 1;
         self.kept.reserve(more)?;
         Ok(())
     }
@@ -238,11 +253,18 @@ impl<G> SegManager<G> {
     ) -> Result<CacheId, Trouble>
     where
         G: Gmi<M, C>,
+        requires can { CanCall G.Gmi self.old (M.held mapper.old) (M.page_bytes mapper.old) }
+        requires made { credit M.Mapper G.Gmi self.old mapper.old ≤ 2 ^ 62 }
+        ensures { IsTried M.Mapper G.Gmi (Command.OpenSegment seg) mapper.old self.old result
+            mapper.new self.new }
     {
         loop {
             match self.gmi.open_segment(seg, mapper) {
                 Ok(cache) => return Ok(cache),
-                Err(trouble) => self.make_room(trouble, mapper, chooser)?,
+                Err(trouble) => match self.make_room(trouble, mapper, chooser) {
+                    Ok(()) => {}
+                    Err(trouble) => return Err(trouble),
+                },
             }
         }
     }
@@ -256,11 +278,19 @@ impl<G> SegManager<G> {
     ) -> Result<CacheId, Trouble>
     where
         G: Gmi<M, C>,
+        requires some { 1 ≤ pages }
+        requires can { CanCall G.Gmi self.old (M.held mapper.old) (M.page_bytes mapper.old) }
+        requires made { credit M.Mapper G.Gmi self.old mapper.old ≤ 2 ^ 62 }
+        ensures { IsTried M.Mapper G.Gmi (Command.MakeTemp pages) mapper.old self.old result
+            mapper.new self.new }
     {
         loop {
             match self.gmi.make_temp(pages) {
                 Ok(cache) => return Ok(cache),
-                Err(trouble) => self.make_room(trouble, mapper, chooser)?,
+                Err(trouble) => match self.make_room(trouble, mapper, chooser) {
+                    Ok(()) => {}
+                    Err(trouble) => return Err(trouble),
+                },
             }
         }
     }
@@ -275,6 +305,10 @@ impl<G> SegManager<G> {
     ) -> Result<(), Trouble>
     where
         G: Gmi<M, C>,
+        requires can { CanCall G.Gmi self.old (M.held mapper.old) (M.page_bytes mapper.old) }
+        requires made { G.made self.old.gmi ≤ 2 ^ 62 }
+        ensures { IsRoomMade M.Mapper G.Gmi trouble mapper.old self.old result mapper.new
+            self.new }
     {
         match trouble {
             Trouble::Refused(Refusal::TooMany) => {}
