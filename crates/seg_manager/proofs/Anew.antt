@@ -241,3 +241,94 @@ module _ (m : Machine) (told : Option Segments) (cs : List Named) (ks : List Kep
       where
         past : nat_le (number_next m) (length (used W 1 m.caches)) ≡ false
         past = let h : length (used W 1 m.caches) < number_next m = omega (arith, length_used W 1 m.caches) in grind (arith, nat_tests)
+
+    -- What is stored, where it is told
+    module _ (s u : Segments) (f : Follow m s u) where
+      abbrev W' : ReferenceMachine
+      W' = whole_of m (Some s) cs
+
+      abbrev V' : ReferenceMachine
+      V' = whole_of n (Some u) (cs ++ d ∷ [])
+
+      append_front : (x : ℕ) (xs ys : Caches) (e : Cache) → cache_named xs x ≡ Some e → cache_named (xs ++ ys) x ≡ Some e
+      append_front x [] ys e h = absurd (cc h)
+      append_front x (o ∷ xs) ys e h = by (is_named_by x o) h (append_front x xs ys e)
+        where
+          by : (b : Bool) → cond b o (cache_named xs x) ≡ Some e → (cache_named xs x ≡ Some e → cache_named (xs ++ ys) x ≡ Some e) → cond b o (cache_named (xs ++ ys) x) ≡ Some e
+          by true h rest = h
+          by false h rest = rest h
+
+      named_now : cache_named n.caches seg.0 ≡ Some c
+      named_now = append_named seg.0 m.caches (Some c ∷ []) unnamed ∙ ap (λ (b : Bool). cond b (Some c) None) (eq-eqb seg.0 seg.0 refl)
+
+      only_last : (j : ℕ) (e : Cache) → slice_get n.caches j ≡ Some (Some e) → is_named_by seg.0 (Some e) ≡ true → j ≡ length m.caches
+      only_last j e h named = elim (get_either m.caches (Some c) j (Some e) h) [
+        | inr last ↦ last.0
+        | inl front ↦ absurd (nobody (1 + j) (ap (option_and_then (λ (c : Cache). c.segment)) (cache_at j e front) ∙ of_name e.segment named))
+      ]
+        where
+          of_name : (o : Option ℕ) → option_map_or (λ s. s == seg.0) o false ≡ true → o ≡ Some seg.0
+          of_name None e = absurd (cc e)
+          of_name (Some s) e = ap (λ (k : ℕ). Some k) (eqb-true s seg.0 e)
+
+      only_front : (x : ℕ) → x ≢ seg.0 → (j : ℕ) (e : Cache) → slice_get m.caches j ≡ Some (Some e) → is_named_by x (Some e) ≡ true → (i : ℕ) (y : Cache) → slice_get n.caches i ≡ Some (Some y) → is_named_by x (Some y) ≡ true → i ≡ j
+      only_front x other j e there named i y h g = elim (get_either m.caches (Some c) i (Some y) h) [
+        | inl front ↦ apart_by m t.apart i j x y e front there g named
+        | inr last ↦ absurd (let is : y ≡ c = (let both : Some y ≡ Some c = last.1 in cc both) in
+            let wrong : x ≡ seg.0 = sym (eqb-true seg.0 x (ap (λ (z : Cache). is_named_by x (Some z)) (sym is) ∙ g)) in other wrong)
+      ]
+
+      at_new : stored_from V' 1 n.caches seg.0 ≡ None
+      at_new =
+          stored_one V' seg.0 1 n.caches (length m.caches) c (get_last m.caches (Some c)) (named_self seg.0 c refl) only_last
+          ∙ ap (λ (b : Bool). cond b (Some c.pages) (V'.stored seg.0)) (stays (1 + length m.caches))
+          ∙ ap (λ (o : Option Cache). cond (is_some o) None (get u.pages seg.0)) named_now
+
+      at_other : (x : ℕ) → x ≢ seg.0 → (o : Option Cache) → cache_named m.caches x ≡ o → stored_from V' 1 n.caches x ≡ stored_from W' 1 m.caches x
+      at_other x other None e =
+          let nowhere : cache_named n.caches x ≡ None = append_named x m.caches (Some c ∷ []) (ap is_some e) ∙ ap (λ (b : Bool). cond b (Some c) None) (ne_eqb seg.0 x (λ s. other (sym s))) in
+          stored_free V' x 1 n.caches nowhere
+          ∙ ap (λ (o : Option Cache). cond (is_some o) None (get u.pages x)) nowhere
+          ∙ f.beside x (ap is_some e)
+          ∙ sym (ap (λ (o : Option Cache). cond (is_some o) None (get s.pages x)) e)
+          ∙ sym (stored_free W' x 1 m.caches e)
+      at_other x other (Some e) is =
+          let at = has_number x m.caches e is in
+          let named = named_self x e at.named in
+          stored_one V' x 1 n.caches at.place e (get_front m.caches (Some c ∷ []) at.place (Some e) at.there) named (only_front x other at.place e at.there named)
+          ∙ (λ i. cond (alike at.place e at.there i) (Some e.pages) (cond (is_some (append_front x m.caches (Some c ∷ []) e is i)) None (get u.pages x)))
+          ∙ sym (ap (λ (o : Option Cache). cond (goes W' (1 + at.place) e) (Some e.pages) (cond (is_some o) None (get s.pages x))) is)
+          ∙ sym (stored_one W' x 1 m.caches at.place e at.there named (λ i y h g. apart_by m t.apart i at.place x y e h at.there g named))
+
+      pub stored_then : stored_from V' 1 n.caches ≡ (λ x. cond (x == seg.0) None (stored_from W' 1 m.caches x))
+      stored_then = fun_same (stored_from V' 1 n.caches) (λ x. cond (x == seg.0) None (stored_from W' 1 m.caches x)) (λ x. elim (cases_eq x seg.0) [
+        | inl e ↦ ap (stored_from V' 1 n.caches) e ∙ at_new ∙ sym (ap (λ (b : Bool). cond b None (stored_from W' 1 m.caches x)) (eq-eqb x seg.0 e))
+        | inr other ↦ at_other x other (cache_named m.caches x) refl ∙ sym (ap (λ (b : Bool). cond b None (stored_from W' 1 m.caches x)) (ne_eqb x seg.0 other))
+      ])
+
+-- the machine of the definition, where it has these pages stored for the segment
+abbrev pub opened_next : ReferenceMachine → ℕ → SegId → List Page → ReferenceMachine
+opened_next r number seg pages = open_one seg.0 (add_cache (take_stored seg.0 r) number (opened seg.0 pages))
+
+module _ (m : Machine) (cs : List Named) (ks : List Kept) (room : ℕ) (rs : List Mapped) (seg : SegId) (anew : position_from (first_of seg.0) 0 cs ≡ None)
+    (pages : List Page) (d : Named) (of : d.seg.0 ≡ seg.0) (number : d.cache.0 ≡ number_next m) (one : d.openings ≡ 1) where
+  abbrev more : Machine
+  more = appended m (opened seg.0 pages)
+
+  pub seen_told : (s u : Segments) (t : AreTied m (Some s) cs ks room rs) → Follow m s u → references_seen more (Some u) (cs ++ d ∷ []) ≡ opened_next (references_seen m (Some s) cs) (number_next m) seg pages
+  seen_told s u t f = λ i. record {
+    memory = record m { caches = caches_then m (Some s) cs ks room rs t seg anew pages d of number one (Some u) i };
+    stored = stored_then m (Some s) cs ks room rs t seg anew pages d of number one (Some u) s u f i;
+    openings = openings_fun m (Some s) cs ks room rs t seg anew pages d of number one (Some u) i;
+  }
+
+  pub seen_untold : (t : AreTied m None cs ks room rs) → more ≡ blank more → references_seen more None (cs ++ d ∷ []) ≡ blank_references (opened_next (record (references_seen m None cs) { stored = λ x. Some pages }) (number_next m) seg pages)
+  seen_untold t bare = λ i. record {
+    memory = record m { caches = (ap (used V 1) (ap (λ (x : Machine). x.caches) bare) ∙ sym (blank_used V 1 more.caches)
+        ∙ ap (map (option_map blank_cache)) (caches_then m None cs ks room rs t seg anew pages d of number one None)) i };
+    stored = λ x. None;
+    openings = openings_fun m None cs ks room rs t seg anew pages d of number one None i;
+  }
+    where
+      V : ReferenceMachine
+      V = whole_of more None (cs ++ d ∷ [])

@@ -42,6 +42,14 @@ map_filter {A} {B} p f (x ∷ xs) = by (p (f x)) (map_filter p f xs)
     by true e = ap (λ zs. f x ∷ zs) e
     by false e = e
 
+pub still_all : {A : Type 0} (P : A → Type 0) (p : A → Bool) (xs : List A) → AllByRecursion P xs → AllByRecursion P (filter p xs)
+still_all P p [] h = tt
+still_all {A} P p (x ∷ xs) h = by (p x) (still_all P p xs h.1)
+  where
+    by : (b : Bool) → AllByRecursion P (filter p xs) → AllByRecursion P (cond b (x ∷ filter p xs) (filter p xs))
+    by true rest = (h.0, rest)
+    by false rest = rest
+
 pub filter_few : {A : Type 0} (p : A → Bool) (xs : List A) → length (filter p xs) ≤ length xs
 filter_few p [] = omega arith
 filter_few p (x ∷ xs) = by (p x) (filter_few p xs)

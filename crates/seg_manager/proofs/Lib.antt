@@ -22,3 +22,5 @@ pub mod Opening
 pub mod Acquiring
 pub mod Opened
 pub mod Anew
+pub mod Tried
+pub mod Beginning

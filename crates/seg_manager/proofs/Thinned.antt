@@ -1,7 +1,8 @@
 -- Caches that are kept are destroyed, the least recently used first.
-use Rattle.std.proofs.Common.{◌≡◌, ◌⊎◌, inl, inr, ℕ, zero, suc, ◌+◌, ◌-◌, ◌*◌, ◌<◌, ◌≤◌, List, [], ◌∷◌, length, set, drop, filter, Option, Some, None, refl, sym, ap, subst, ◌∙◌, arith}
+use Rattle.std.proofs.Common.{◌≡◌, ◌⊎◌, inl, inr, ℕ, zero, suc, ◌+◌, ◌-◌, ◌*◌, ◌<◌, ◌≤◌, Bool, true, false, List, [], ◌∷◌, length, set, drop, filter, Option, Some, None, refl, sym, ap, subst, ◌∙◌, arith}
 use Rattle.std.specs.Prelude.{IfSome, Ok, Err, slice_index_or}
 use Rattle.std.specs.FinMap.{get}
+use Rattle.std.specs.List.{AllByRecursion}
 use Rattle.std.specs.Vec.{vec_capacity}
 use Rattle.std.specs.VecDeque.{deque_capacity}
 use Rattle.std.proofs.lemmas.List.{length-set}
@@ -32,7 +33,7 @@ use Rattle.seg_manager.specs.declared.tables.Named.{Named}
 use Rattle.seg_manager.proofs.Answered.{IsFault, IsGone, destroy_answered}
 use Rattle.seg_manager.proofs.Calls.{able_after, backed_before, backed_next, call_is, denied_after, forest, made_after, seen_after, told_after}
 use Rattle.seg_manager.proofs.Destroyed.{IsPushed, first_free, left, seen_without, there, tied_without, without}
-use Rattle.seg_manager.proofs.Entries.{filter_few, is_other}
+use Rattle.seg_manager.proofs.Entries.{filter_few, is_other, still_all}
 use Rattle.seg_manager.proofs.Pushed.{all_pushed}
 
 drop_drop : {A : Type 0} (i j : ℕ) (xs : List A) → drop j (drop i xs) ≡ drop (i + j) xs
@@ -70,6 +71,7 @@ module _ {Manager X Chooser : Type 0} (M : GhostsOfMapper X) (G : GhostsOfGmi Ma
     limit = refl;
     regions = refl;
     kept = (0, refl);
+    among = λ test h. h;
     few = omega arith;
     room = refl;
     fits = refl;
@@ -86,6 +88,7 @@ module _ {Manager X Chooser : Type 0} (M : GhostsOfMapper X) (G : GhostsOfGmi Ma
     limit = g.limit ∙ f.limit;
     regions = g.regions ∙ f.regions;
     kept = (f.kept.0 + g.kept.0, g.kept.1 ∙ ap (drop g.kept.0) f.kept.1 ∙ drop_drop f.kept.0 g.kept.0 old.kept.items);
+    among = λ test h. g.among test (f.among test h);
     few = omega (arith, f.few, g.few);
     room = g.room ∙ f.room;
     fits = g.fits ∙ f.fits;
@@ -168,6 +171,7 @@ module _ {Manager X Chooser : Type 0} (M : GhostsOfMapper X) (G : GhostsOfGmi Ma
         limit = limit;
         regions = same;
         kept = (1, kept ∙ ap (drop 1) (sym at));
+        among = λ test h. subst (AllByRecursion (λ (c : Named). test c ≡ false)) (sym left_is) (still_all (λ (c : Named). test c ≡ false) (is_other first.cache.0) caches h);
         few = omega (arith, ap length left_is, filter_few (is_other first.cache.0) caches);
         room = roomy;
         fits = fits;

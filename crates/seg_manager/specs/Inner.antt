@@ -1,5 +1,5 @@
 -- What the inner calls say.
-use Rattle.std.specs.Prelude.{◌≡◌, ◌==◌, ◌||◌, ◌&&◌, ◌≤◌, nat_lt, not, ℕ, ◌+◌, ◌-◌, Bool, List, [], ◌∷◌, filter, Option, Some, None, Result, Ok, Err, slice_get, slice_set, if◌then◌else◌}
+use Rattle.std.specs.Prelude.{◌≡◌, ◌==◌, ◌||◌, ◌&&◌, ◌≤◌, nat_lt, not, ℕ, ◌+◌, ◌-◌, Bool, true, false, List, [], ◌∷◌, filter, Option, Some, None, Result, Ok, Err, slice_get, slice_set, if◌then◌else◌}
 use Rattle.std.specs.List.{list_any, position_from}
 use Rattle.vm_ids.specs.declared.command.Mapping.{Mapping}
 use Rattle.vm_ids.specs.declared.command.Span.{Span}
@@ -7,10 +7,10 @@ use Rattle.vm_ids.specs.declared.numbers.CacheId.{CacheId}
 use Rattle.vm_ids.specs.declared.numbers.SegId.{SegId}
 use Rattle.std.specs.VecDeque.{deque_capacity}
 use Rattle.vm_ids.specs.declared.reply.Trouble.{Trouble}
-use Rattle.vm_ids.specs.declared.reply.Trouble.TheVariants.{Memory}
+use Rattle.vm_ids.specs.declared.reply.Trouble.TheVariants.{Memory, Refused}
 use Rattle.seg_manager.specs.declared.manager.SegManager.{SegManager}
 use Rattle.vm_ids.specs.declared.refusal.Refusal.{Refusal}
-use Rattle.vm_ids.specs.declared.refusal.Refusal.TheVariants.{NotOpen}
+use Rattle.vm_ids.specs.declared.refusal.Refusal.TheVariants.{NotOpen, TooMany}
 use Rattle.seg_manager.specs.Seen.{is_kept, maps, openings_in}
 use Rattle.seg_manager.specs.declared.tables.Kept.{Kept}
 use Rattle.seg_manager.specs.declared.tables.Leaving.{Leaving}
@@ -108,3 +108,8 @@ abbrev pub IsOpenedAgain : {Manager : Type 0} → SegManager Manager → ℕ →
 IsOpenedAgain old place (Ok cache) new = OpensAgain old place cache new
 IsOpenedAgain old place (Err Memory) new = new ≡ old
 IsOpenedAgain old place (Err trouble) new = ⊥
+
+-- there was no room for a cache
+abbrev pub is_too_many : Trouble → Bool
+is_too_many (Refused TooMany) = true
+is_too_many trouble = false

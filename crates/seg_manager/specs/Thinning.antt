@@ -1,5 +1,6 @@
 -- What it comes to that caches which are kept are destroyed, the least recently used first.
-use Rattle.std.specs.Prelude.{◌≡◌, ◌≤◌, ◌<◌, ◌⊎◌, [], ℕ, ◌+◌, ◌*◌, List, drop, length, option_map, Option, Result, Ok, Err}
+use Rattle.std.specs.Prelude.{◌≡◌, ◌≤◌, ◌<◌, ◌⊎◌, [], ℕ, ◌+◌, ◌*◌, List, Bool, false, drop, length, option_map, Option, Result, Ok, Err}
+use Rattle.std.specs.List.{AllByRecursion}
 use Rattle.std.specs.Vec.{vec_capacity}
 use Rattle.std.specs.VecDeque.{deque_capacity}
 use Rattle.vm_ids.specs.Counting.{MapperCounts, Rise}
@@ -24,6 +25,7 @@ use Rattle.seg_manager.specs.ReferenceMachine.{ReferenceMachine}
 use Rattle.seg_manager.specs.Seen.{kept_segments, references_seen}
 use Rattle.seg_manager.specs.Tying.{CanCall}
 use Rattle.seg_manager.specs.declared.manager.SegManager.{SegManager}
+use Rattle.seg_manager.specs.declared.tables.Named.{Named}
 
 -- a cache couldn't be pushed to its segment, or couldn't save what was copied from it
 abbrev pub IsDestroyFault : Trouble → Type 0
@@ -61,6 +63,8 @@ module _ {Manager Mapper Chooser : Type 0} (M : GhostsOfMapper Mapper)
     pub limit : new.limit ≡ old.limit
     pub regions : new.regions ≡ old.regions
     pub kept : (n : ℕ) × (new.kept.items ≡ drop n old.kept.items)
+    pub among : (test : Named → Bool) → AllByRecursion (λ c. test c ≡ false) old.caches.items
+        → AllByRecursion (λ c. test c ≡ false) new.caches.items
     pub few : length new.caches.items ≤ length old.caches.items
     pub room : vec_capacity new.caches ≡ vec_capacity old.caches
     pub fits : deque_capacity new.kept ≡ deque_capacity old.kept
@@ -132,7 +136,7 @@ module _ {Manager Mapper Chooser : Type 0} (M : GhostsOfMapper Mapper)
       × (trouble ≡ Refused TooMany → new.kept.items ≡ []))
       ⊎ TriesInVain c before old trouble after new
 
-  -- A cache was destroyed where the manager below had no room.
+  -- A cache was destroyed where the manager below had no room for another.
   pub record MakesRoom (trouble : Trouble) (before : Mapper) (old : SegManager Manager)
       (after : Mapper) (new : SegManager Manager) : Type 0 where
     pub wanted : trouble ≡ Refused TooMany

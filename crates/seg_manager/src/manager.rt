@@ -9,7 +9,7 @@ ghost use Rattle.vm_model.specs.Asking.{IsWellFormed};
 ghost use Rattle.gmi_calls.specs.Calling.{CallDone, Fits, MapperCall, done_by};
 ghost use Rattle.gmi_calls.specs.Managing.{meanings_of};
 ghost use Rattle.seg_manager.specs.Calling.{Acquires, AnswersKept, IsServed, Releases, SegmentCall, beginning, made_by};
-ghost use Rattle.seg_manager.specs.Inner.{IsClosed, IsOpenedAgain, StandsAt, first_of, mapping_shown, shown, span_shown, unused_in};
+ghost use Rattle.seg_manager.specs.Inner.{IsClosed, IsOpenedAgain, StandsAt, first_of, is_too_many, mapping_shown, shown, span_shown, unused_in};
 ghost use Rattle.seg_manager.specs.Seen.{is_kept, state_of};
 ghost use Rattle.seg_manager.specs.Thinning.{IsDestroyed, IsRoomMade, IsTried, Trims, credit};
 ghost use Rattle.seg_manager.specs.Tying.{CanCall, IsBare};
@@ -255,6 +255,7 @@ impl<G> SegManager<G> {
         G: Gmi<M, C>,
         requires can { CanCall G.Gmi self.old (M.held mapper.old) (M.page_bytes mapper.old) }
         requires made { credit M.Mapper G.Gmi self.old mapper.old ≤ 2 ^ 62 }
+        requires anew { StandsAt self.old.caches.items (first_of seg.0) None }
         ensures { IsTried M.Mapper G.Gmi (Command.OpenSegment seg) mapper.old self.old result
             mapper.new self.new }
     {
@@ -310,12 +311,11 @@ impl<G> SegManager<G> {
         ensures { IsRoomMade M.Mapper G.Gmi trouble mapper.old self.old result mapper.new
             self.new }
     {
-        match trouble {
-            Trouble::Refused(Refusal::TooMany) => {}
-            trouble => return Err(trouble),
+        if !is_too_many(&trouble) {
+            return Err(trouble);
         }
         if self.kept.is_empty() {
-            return Err(Trouble::Refused(Refusal::TooMany));
+            return Err(trouble);
         }
         self.destroy_first(mapper, chooser)
     }
@@ -520,4 +520,11 @@ impl<G> SegManager<G> {
     {
         if self.hidden(cache) { NO_CACHE } else { cache }
     }
+}
+
+// Whether there was no room for a cache.
+fn is_too_many(trouble: &Trouble) -> bool
+    ensures { result ≡ is_too_many trouble.now }
+{
+    matches!(trouble, Trouble::Refused(Refusal::TooMany))
 }
