@@ -51,7 +51,7 @@ use Rattle.seg_manager.proofs.Stated.{state_over}
 use Rattle.seg_manager.proofs.Steps.{AreSeen, blank_used, seen_blank, step_whole}
 use Rattle.seg_manager.proofs.Storing.{apart_by}
 
-caches_seen : (told : Option Segments) (m : Machine) (cs : List Named) → (references_seen m told cs).memory.caches ≡ used (whole_of m told cs) 1 m.caches
+pub caches_seen : (told : Option Segments) (m : Machine) (cs : List Named) → (references_seen m told cs).memory.caches ≡ used (whole_of m told cs) 1 m.caches
 caches_seen None m cs = refl
 caches_seen (Some h) m cs = refl
 
@@ -66,7 +66,7 @@ again_row : (r : ReferenceMachine) (seg number n : ℕ) → number_in 1 r.memory
 unfolding open_of
 again_row r seg number n e = ap (open_by r seg number) e
 
-anew_row : (r : ReferenceMachine) (seg number : ℕ) (pages : List Page) → number_in 1 r.memory.caches seg ≡ None → r.stored seg ≡ Some pages → open_of r seg number ≡ reply_cache number (open_one seg (add_cache (take_stored seg r) number (opened seg pages)))
+pub anew_row : (r : ReferenceMachine) (seg number : ℕ) (pages : List Page) → number_in 1 r.memory.caches seg ≡ None → r.stored seg ≡ Some pages → open_of r seg number ≡ reply_cache number (open_one seg (add_cache (take_stored seg r) number (opened seg pages)))
 unfolding open_of
 anew_row r seg number pages e f = ap (open_by r seg number) e ∙ ap (open_anew r seg number) f
 

@@ -13,19 +13,23 @@ use Rattle.vm_ids.specs.declared.command.Command.TheVariants.{OpenSegment}
 use Rattle.vm_ids.specs.declared.command.KeepCommand.TheVariants as commands
 use Rattle.vm_ids.specs.declared.numbers.CacheId.{CacheId}
 use Rattle.vm_ids.specs.declared.numbers.SegId.{SegId}
+use Rattle.vm_ids.specs.declared.refusal.Refusal.{Refusal}
 use Rattle.vm_ids.specs.declared.refusal.Refusal.TheVariants as refusals
 use Rattle.vm_ids.specs.declared.reply.FaultAt.{FaultAt}
 use Rattle.vm_ids.specs.declared.reply.FaultAt.TheVariants as faults
 use Rattle.vm_ids.specs.declared.reply.Reply.TheVariants as replies
 use Rattle.vm_ids.specs.declared.reply.Trouble.{Trouble}
 use Rattle.vm_ids.specs.declared.reply.Trouble.TheVariants as troubles
-use Rattle.vm_model.specs.Answering.{opened}
+use Rattle.vm_model.specs.Answering as plain
+use Rattle.vm_model.specs.Answering.{Answer, opened}
+use Rattle.vm_model.specs.Outcome as plain_outcome
 use Rattle.vm_model.specs.Machine.{Cache, Machine, Page, cache_named, cache_of, is_named_by, numbered, segment_of}
-use Rattle.vm_model.specs.Outcome.{OutcomeAt, blank}
+use Rattle.vm_model.specs.Outcome.{IsAlike, OutcomeAt, blank}
 use Rattle.vm_model.specs.PageForest.{PageForest}
 use Rattle.vm_model.specs.declared.limits.TheConstants.{LIVE_PAGES, MOST_MADE}
 use Rattle.vm_model.proofs.Parts.ListParts.{at_some, numbered_past}
 use Rattle.vm_port.specs.declared.traits.mapper.Mapper.{Ghosts as GhostsOfMapper}
+use Rattle.gmi_calls.specs.Backing.{AreBacked}
 use Rattle.gmi_calls.specs.Calling.{MapperCall}
 use Rattle.gmi_calls.specs.Managing.{meanings_of}
 use Rattle.gmi_calls.specs.declared.gmi.Gmi.{Ghosts as GhostsOfGmi}
@@ -49,7 +53,7 @@ use Rattle.seg_manager.proofs.Anew.{nobody, opened_next, seen_told, seen_untold,
 use Rattle.seg_manager.proofs.Calls.{able_after, backed_next, call_is, denied_after, forest, made_after, told_after}
 use Rattle.seg_manager.proofs.Going.{Caches, length_used}
 use Rattle.seg_manager.proofs.Leaving.{credit_few, seen_length}
-use Rattle.seg_manager.proofs.Opened.{Ends, IsOpen, failed, lacks, made, many, nowhere, number_next}
+use Rattle.seg_manager.proofs.Opened.{Ends, IsOpen, appended, failed, lacks, made, many, nowhere, number_next}
 use Rattle.seg_manager.proofs.Opening.{number_none, used_entry}
 use Rattle.seg_manager.proofs.Pushed.{Follow, Told}
 use Rattle.seg_manager.proofs.Releasing.{blank_told}
@@ -119,6 +123,77 @@ same_seen (Some h) (Some g) e before after r x y bare = (x, y)
 behind_not : (b : Bool) (seg : ℕ) (kept now : List ℕ) (result : Result CacheId Trouble) → b ≡ false → AreBehind kept now → IsAcquired b seg kept result now
 behind_not false seg kept now result e h = h
 behind_not true seg kept now result e h = absurd (cc e)
+
+-- what is stored for it is what the mapper holds then
+stored_as : (m : Machine) (told now : Option Segments) (cs : List Named) (ks : List Kept) (room : ℕ) (rs : List Mapped) (t : AreTied m told cs ks room rs) (seg : SegId) (anew : None ≡ position_from (first_of seg.0) 0 cs) → Told m told now
+    → (o : Option (List Page)) → IfSome now (λ h. get h.pages seg.0 ≡ o) → IfSome told (λ h. (references_seen m told cs).stored seg.0 ≡ o)
+stored_as m None now cs ks room rs t seg anew f o held = tt
+stored_as m (Some s) now cs ks room rs t seg anew f o held =
+    let u = f.some s refl in
+    let nobody_named = free_name m (Some s) cs ks room rs t seg anew in
+    stored_free (whole_of m (Some s) cs) seg.0 1 m.caches nobody_named
+    ∙ ap (λ (x : Option Cache). cond (is_some x) None (get s.pages seg.0)) nobody_named
+    ∙ sym (u.2.beside seg.0 (ap is_some nobody_named))
+    ∙ subst (λ (x : Option Segments). IfSome x (λ h. get h.pages seg.0 ≡ o)) u.1 held
+
+stored_nothing : (told : Option Segments) (m : Machine) (cs : List Named) (seg : ℕ) → IfSome told (λ h. (references_seen m told cs).stored seg ≡ None) → (references_seen m told cs).stored seg ≡ None
+stored_nothing None m cs seg h = refl
+stored_nothing (Some s) m cs seg h = h
+
+-- refused, it would be refused again
+refused_again : (told : Option Segments) (m n : Machine) (f g : Option PageForest) (seg : SegId) (r : Refusal) (rises : MapperCounts) → n ≡ m → OutcomeAt told m f (OpenSegment seg) (Err (troubles.Refused r)) n rises → OutcomeAt told n g (OpenSegment seg) (Err (troubles.Refused r)) n no_counts
+refused_again (Some h) m n f g seg r rises same o = subst (λ (x : Machine). plain.open_of x seg.0 (get h.pages seg.0) ≡ record { answer = Err (troubles.Refused r); next = n }) (sym same) o
+refused_again None m n f g seg r rises same o = record {
+  whole = o.whole;
+  whole_next = o.whole_next;
+  segments = o.segments;
+  whole_answer = Err (troubles.Refused r);
+  is = same ∙ o.is;
+  is_next = o.is_next;
+  pages = o.pages;
+  alike = refl;
+  outcome = subst (λ (a : Answer). plain_outcome.Outcome o.whole f (OpenSegment seg) o.segments a o.whole_next rises) (back o.whole_answer o.alike) o.outcome;
+}
+  where
+    back : (a : Answer) → IsAlike a (Err (troubles.Refused r)) → a ≡ Err (troubles.Refused r)
+    back (Ok (replies.Bytes bytes)) h = h
+    back a h = h
+
+-- The machine from which an opening leads: where nothing is told, with these pages stored.
+abbrev pub whole_for : Option Segments → ReferenceMachine → List Page → ReferenceMachine
+whole_for None r pages = record r { stored = λ x. Some pages }
+whole_for (Some h) r pages = r
+
+whole_caches : (told : Option Segments) (r : ReferenceMachine) (pages : List Page) → (whole_for told r pages).memory.caches ≡ r.memory.caches
+whole_caches None r pages = refl
+whole_caches (Some h) r pages = refl
+
+whole_stored : (told : Option Segments) (m : Machine) (cs : List Named) (seg : ℕ) (pages : List Page) → IfSome told (λ h. (references_seen m told cs).stored seg ≡ Some pages) → (whole_for told (references_seen m told cs) pages).stored seg ≡ Some pages
+whole_stored None m cs seg pages h = refl
+whole_stored (Some s) m cs seg pages h = h
+
+seen_opened : (told now : Option Segments) (m n : Machine) (cs : List Named) (ks : List Kept) (room : ℕ) (rs : List Mapped) (t : AreTied m told cs ks room rs) (seg : SegId) (anew : None ≡ position_from (first_of seg.0) 0 cs) (pages : List Page)
+    (d : Named) (of : d.seg.0 ≡ seg.0) (number : d.cache.0 ≡ number_next m) (one : d.openings ≡ 1) → Told m told now → n ≡ appended m (opened seg.0 pages) → IfNone told (m ≡ blank m) → IfNone now (n ≡ blank n)
+    → (before after : State) → before.references ≡ references_seen m told cs → after.references ≡ references_seen n now (cs ++ d ∷ [])
+    → AreSeen now before after (whole_for told (references_seen m told cs) pages) (opened_next (whole_for told (references_seen m told cs) pages) (number_next m) seg pages)
+seen_opened None None m n cs ks room rs t seg anew pages d of number one f next bare bare_then before after x y =
+    (x ∙ seen_blank m cs bare,
+    y ∙ ap (λ (z : Machine). references_seen z None (cs ++ d ∷ [])) next
+    ∙ seen_untold m cs ks room rs seg (sym anew) pages d of number one t (sym next ∙ bare_then ∙ ap blank next))
+seen_opened None (Some u) m n cs ks room rs t seg anew pages d of number one f next bare bare_then before after x y = absurd (let wrong : Some u ≡ None = f.none refl in cc wrong)
+seen_opened (Some s) None m n cs ks room rs t seg anew pages d of number one f next bare bare_then before after x y = absurd (let u = f.some s refl in cc u.1)
+seen_opened (Some s) (Some u) m n cs ks room rs t seg anew pages d of number one f next bare bare_then before after x y =
+    let v = f.some s refl in
+    let same : v.0 ≡ u = (let e : Some u ≡ Some v.0 = v.1 in let is : u ≡ v.0 = cc e in sym is) in
+    (x, y ∙ ap (λ (z : Machine). references_seen z (Some u) (cs ++ d ∷ [])) next
+    ∙ seen_told m cs ks room rs seg (sym anew) pages d of number one s u t (subst (λ (z : Segments). Follow m s z) same v.2))
+
+opened_of : (told : Option Segments) (m : Machine) (seg : ℕ) (cache : CacheId) (n : Machine) (rises : MapperCounts) → Ends told m seg (Ok (replies.Cache cache)) n rises → IsOpen told m seg (Ok (replies.Cache cache)) n
+opened_of told m seg cache n rises (made p) = p
+opened_of told m seg cache n rises (many e s) = absurd (cc e)
+opened_of told m seg cache n rises (nowhere e s h) = absurd (cc e)
+opened_of told m seg cache n rises (failed e s h) = absurd (cc e)
+opened_of told m seg cache n rises (lacks e s) = absurd (cc e)
 
 module _ {Manager X Chooser : Type 0} (M : GhostsOfMapper X) (G : GhostsOfGmi Manager X Chooser) (before : X) (old s1 : SegManager Manager) (seg : SegId) (can : CanCall G old (M.held before) (M.page_bytes before))
     (anew : None ≡ position_from (first_of seg.0) 0 old.caches.items) (caches : s1.caches.items ≡ old.caches.items) (kept : s1.kept.items ≡ old.kept.items) (less : deque_capacity old.kept ≤ deque_capacity s1.kept) where
@@ -205,3 +280,185 @@ module _ {Manager X Chooser : Type 0} (M : GhostsOfMapper X) (G : GhostsOfGmi Ma
       never_many : (t : Trouble) → IsDestroyFault t → t ≡ troubles.Refused refusals.TooMany → ⊥
       never_many (troubles.Mapper at) d e = absurd (cc e)
       never_many t d e = absurd d
+
+      module _ (t : Trouble) (later : X) (new : SegManager Manager) (f : Fails M G after tried t later new) where
+        vain_rises : MapperCounts
+        vain_rises = counts_sum (counts_sum thins.rises (call_is M G by gmi middle after (OpenSegment seg) (Err (troubles.Refused refusals.TooMany)) thins.can call).rises) f.rises
+
+        vain_seen : seen_with M G new later ≡ R
+        vain_seen = f.seen ∙ seen_same M G by gmi middle after (OpenSegment seg) (Err (troubles.Refused refusals.TooMany)) thins.can call tried_same
+
+        vain_denied : option_map (λ (h : Segments). h.denied) (segments_of (M.held later)) ≡ option_map (λ (h : Segments). h.denied) told
+        vain_denied = f.denied ∙ denied_after M G by gmi middle after (OpenSegment seg) (Err (troubles.Refused refusals.TooMany)) thins.can call
+
+        pub in_vain : Acquires M G before old seg (Err t) later new
+        in_vain = record {
+          call = record {
+            can = f.can;
+            made = omega (arith, f.made, made_after M G by gmi middle after (OpenSegment seg) (Err (troubles.Refused refusals.TooMany)) thins.can call, thins.credit, credit_few M G start before start_can);
+            limit = ap (λ (x : SegManager Manager). x.limit) f.same ∙ thins.limit;
+            one = omega (arith, f.caches, ap (λ (x : Machine). length x.caches) tried_same, as_many);
+            rises = vain_rises;
+            rose = rise_then (M.counts before) (M.counts after) (M.counts later) (counts_sum thins.rises (call_is M G by gmi middle after (OpenSegment seg) (Err (troubles.Refused refusals.TooMany)) thins.can call).rises) f.rises
+                (rise_then (M.counts before) (M.counts middle) (M.counts after) thins.rises (call_is M G by gmi middle after (OpenSegment seg) (Err (troubles.Refused refusals.TooMany)) thins.can call).rises thins.rose (call_is M G by gmi middle after (OpenSegment seg) (Err (troubles.Refused refusals.TooMany)) thins.can call).rose) f.rose;
+            is = record {
+              step = step_whole (state_of G old (M.held before)) (state_of G new (M.held later)) (commands.Plain (OpenSegment seg)) (Err t) vain_rises R R
+                  (λ h. (0, vain_outcome t f.fault vain_rises (omega (arith, f.failed)) h))
+                  (same_seen told (segments_of (M.held later)) vain_denied (state_of G old (M.held before)) (state_of G new (M.held later)) R (sym seen_by) vain_seen bare);
+              denied = vain_denied ∙ thins.denied;
+            };
+          };
+          kept = behind_not (list_any (λ s. s == seg.0) (kept_segments old.kept.items)) seg.0 (kept_segments old.kept.items) (kept_segments new.kept.items) (Err t)
+              (not_kept m0 told0 old.caches.items old.kept.items (deque_capacity old.kept) old.regions.items can.tied seg anew)
+              (subst (AreBehind (kept_segments old.kept.items)) (sym (ap (λ (x : SegManager Manager). kept_segments x.kept.items) f.same)) kept_behind);
+          again = λ k e. absurd (no_cache k e);
+          too_many = λ e. absurd (never_many t f.fault (let s : t ≡ troubles.Refused refusals.TooMany = cc e in s));
+        }
+
+    -- It was asked, and wasn't opened.
+    module _ (t : Trouble) (after : X) (gmi : Manager) (call : MapperCall M (meanings_of G) middle by.gmi (OpenSegment seg) (Err t) after gmi) where
+      abbrev left : SegManager Manager
+      left = record by { gmi = gmi }
+
+      abbrev n : Machine
+      n = G.machine gmi (M.held after)
+
+      abbrev then_told : Option Segments
+      then_told = segments_of (M.held after)
+
+      same : n ≡ m
+      same = open_leaves M G by middle thins.can seg anew_by t after gmi call
+
+      abbrev its_rises : MapperCounts
+      its_rises = (call_is M G by gmi middle after (OpenSegment seg) (Err t) thins.can call).rises
+
+      abbrev rises : MapperCounts
+      rises = counts_sum thins.rises its_rises
+
+      abbrev Says : Trouble → Segments → Type 0
+      Says x h = Outcome R None (commands.Plain (OpenSegment seg)) h 0 (Err x) R rises
+
+      said : Ends then_told m seg.0 (Err t) n its_rises → (h : Segments) → Says t h
+      said (made p) h = absurd (let wrong : Err t ≡ Ok (replies.Cache (record { 0 = number_next m })) = p.answer in cc wrong)
+      said (many e s) h = subst (λ (x : Trouble). Says x h) (let is : troubles.Refused refusals.TooMany ≡ t = cc e in is) (inl (refl, number_R))
+      said (nowhere e s none) h =
+          subst (λ (x : Trouble). Says x h) (let is : troubles.Refused refusals.NoSegment ≡ t = cc e in is)
+          (nowhere_row R seg.0 0 number_R (stored_nothing told m by.caches.items seg.0
+          (stored_as m told then_told by.caches.items by.kept.items (deque_capacity by.kept) by.regions.items thins.can.tied seg anew_by (told_after M G by gmi middle after (OpenSegment seg) (Err t) thins.can call) None none)))
+      said (failed e s some) h =
+          subst (λ (x : Trouble). Says x h) (let is : troubles.Mapper faults.Opening ≡ t = cc e in is)
+          (refl, omega (arith, some), number_R, goes_on_by R seg 0 faults.Opening number_R (R.stored seg.0) refl)
+      said (lacks e s) h = subst (λ (x : Trouble). Says x h) (let is : troubles.Memory ≡ t = cc e in is) (refl, tt, tt)
+
+      denied_then : option_map (λ (h : Segments). h.denied) then_told ≡ option_map (λ (h : Segments). h.denied) told
+      denied_then = denied_after M G by gmi middle after (OpenSegment seg) (Err t) thins.can call
+
+      pub not_opened : (t ≡ troubles.Refused refusals.TooMany → left.kept.items ≡ []) → Acquires M G before old seg (Err t) after left
+      not_opened none = record {
+        call = record {
+          can = can_same M G by gmi middle after (OpenSegment seg) (Err t) thins.can call same;
+          made = omega (arith, made_after M G by gmi middle after (OpenSegment seg) (Err t) thins.can call, thins.credit, credit_few M G start before start_can);
+          limit = thins.limit;
+          one = omega (arith, ap (λ (x : Machine). length x.caches) same, as_many);
+          rises = rises;
+          rose = rise_then (M.counts before) (M.counts middle) (M.counts after) thins.rises its_rises thins.rose (call_is M G by gmi middle after (OpenSegment seg) (Err t) thins.can call).rose;
+          is = record {
+            step = step_whole (state_of G old (M.held before)) (state_of G left (M.held after)) (commands.Plain (OpenSegment seg)) (Err t) rises R R
+                (λ h. (0, said (open_ended M G by middle thins.can seg anew_by (Err t) after gmi call) h))
+                (same_seen told then_told denied_then (state_of G old (M.held before)) (state_of G left (M.held after)) R (sym seen_by) (seen_same M G by gmi middle after (OpenSegment seg) (Err t) thins.can call same) bare);
+            denied = denied_then ∙ thins.denied;
+          };
+        };
+        kept = behind_not (list_any (λ s. s == seg.0) (kept_segments old.kept.items)) seg.0 (kept_segments old.kept.items) (kept_segments left.kept.items) (Err t)
+            (not_kept m0 told0 old.caches.items old.kept.items (deque_capacity old.kept) old.regions.items can.tied seg anew) kept_behind;
+        again = λ k e. absurd (no_cache k e);
+        too_many = λ e. (let is : t ≡ troubles.Refused refusals.TooMany = cc e in
+            (none is, refused_again then_told m n (forest M G by gmi middle after (OpenSegment seg) (Err t) thins.can call) (G.forest gmi (M.held after)) seg refusals.TooMany its_rises same
+            (subst (λ (x : Trouble). OutcomeAt then_told m (forest M G by gmi middle after (OpenSegment seg) (Err t) thins.can call) (OpenSegment seg) (Err x) n its_rises) is
+            (call_is M G by gmi middle after (OpenSegment seg) (Err t) thins.can call).is.outcome)));
+      }
+
+    -- It was opened, and is noted.
+    module _ (cache : CacheId) (after : X) (gmi : Manager) (call : MapperCall M (meanings_of G) middle by.gmi (OpenSegment seg) (Ok (replies.Cache cache)) after gmi) (later : SegManager Manager)
+        (pushed : later.caches.items ≡ by.caches.items ++ (record { seg = seg; cache = cache; openings = 1 }) ∷ []) (roomy : length by.caches.items + 1 ≤ deque_capacity by.kept) where
+      abbrev d : Named
+      d = record { seg = seg; cache = cache; openings = 1 }
+
+      abbrev then_caches : SegManager Manager
+      then_caches = record by { caches = later.caches }
+
+      abbrev final : SegManager Manager
+      final = record then_caches { gmi = gmi }
+
+      abbrev told_then : Option Segments
+      told_then = segments_of (M.held after)
+
+      abbrev n' : Machine
+      n' = G.machine gmi (M.held after)
+
+      abbrev open_rises : MapperCounts
+      open_rises = (call_is M G by gmi middle after (OpenSegment seg) (Ok (replies.Cache cache)) thins.can call).rises
+
+      p : IsOpen told_then m seg.0 (Ok (replies.Cache cache)) n'
+      p = opened_of told_then m seg.0 cache n' open_rises (open_ended M G by middle thins.can seg anew_by (Ok (replies.Cache cache)) after gmi call)
+
+      number_is : cache.0 ≡ number_next m
+      number_is = let same : cache ≡ (let x : CacheId = record { 0 = number_next m } in x) = cc p.answer in ap (λ (x : CacheId). x.0) same
+
+      tied_final : AreTied n' told_then later.caches.items by.kept.items (deque_capacity by.kept) by.regions.items
+      tied_final =
+          subst (λ (x : Machine). AreTied x told_then later.caches.items by.kept.items (deque_capacity by.kept) by.regions.items) (sym p.next)
+          (subst (λ (cs : List Named). AreTied (appended m (opened seg.0 p.pages)) told_then cs by.kept.items (deque_capacity by.kept) by.regions.items) (sym pushed)
+          (tied_anew m told by.caches.items by.kept.items (deque_capacity by.kept) by.regions.items thins.can.tied seg (sym anew_by) p.pages d refl number_is refl told_then roomy
+          (subst (λ (x : Machine). IfSome told_then (λ t. AreBacked x.caches t)) p.next (backed_next M G by gmi middle after (OpenSegment seg) (Ok (replies.Cache cache)) thins.can call))))
+
+      one_more : length n'.caches ≡ length m.caches + 1
+      one_more = omega (arith, ap (λ (x : Machine). length x.caches) p.next, length-append m.caches (Some (opened seg.0 p.pages) ∷ []))
+
+      final_can : CanCall G final (M.held after) (M.page_bytes after)
+      final_can = able_after M G by gmi middle after (OpenSegment seg) (Ok (replies.Cache cache)) thins.can call then_caches (omega (arith, one_more, p.few)) tied_final
+
+      abbrev whole : ReferenceMachine
+      whole = whole_for told R p.pages
+
+      abbrev next : ReferenceMachine
+      next = opened_next whole (number_next m) seg p.pages
+
+      whole_memory : whole.memory.caches ≡ used (whole_of m told by.caches.items) 1 m.caches
+      whole_memory = whole_caches told R p.pages ∙ caches_seen told m by.caches.items
+
+      leads : (h : Segments) (rises : MapperCounts) → (number : ℕ) × Outcome whole None (commands.Plain (OpenSegment seg)) h number (Ok (replies.Cache cache)) next rises
+      leads h rises = (number_next m, ((omega arith,
+        numbered_past whole.memory.caches (number_next m) (omega (arith, ap length whole_memory, length_used (whole_of m told by.caches.items) 1 m.caches))),
+        anew_row whole seg.0 (number_next m) p.pages
+        (ap (λ (xs : Caches). number_in 1 xs seg.0) whole_memory ∙ number_unseen m told by.caches.items by.kept.items (deque_capacity by.kept) by.regions.items thins.can.tied seg anew_by)
+        (whole_stored told m by.caches.items seg.0 p.pages (stored_as m told told_then by.caches.items by.kept.items (deque_capacity by.kept) by.regions.items thins.can.tied seg anew_by
+        (told_after M G by gmi middle after (OpenSegment seg) (Ok (replies.Cache cache)) thins.can call) (Some p.pages) p.held))
+        ∙ ap (λ (x : Answered). x) (λ i. reply_cache (sym number_is i) next)))
+
+      open_denied : option_map (λ (h : Segments). h.denied) told_then ≡ option_map (λ (h : Segments). h.denied) told
+      open_denied = denied_after M G by gmi middle after (OpenSegment seg) (Ok (replies.Cache cache)) thins.can call
+
+      pub was_opened : Acquires M G before old seg (Ok cache) after final
+      was_opened = record {
+        call = record {
+          can = final_can;
+          made = omega (arith, made_after M G by gmi middle after (OpenSegment seg) (Ok (replies.Cache cache)) thins.can call, thins.credit, credit_few M G start before start_can);
+          limit = thins.limit;
+          one = omega (arith, one_more, as_many);
+          rises = counts_sum thins.rises open_rises;
+          rose = rise_then (M.counts before) (M.counts middle) (M.counts after) thins.rises open_rises thins.rose (call_is M G by gmi middle after (OpenSegment seg) (Ok (replies.Cache cache)) thins.can call).rose;
+          is = record {
+            step = step_whole (state_of G old (M.held before)) (state_of G final (M.held after)) (commands.Plain (OpenSegment seg)) (Ok (replies.Cache cache)) (counts_sum thins.rises open_rises) whole next
+                (λ h. leads h (counts_sum thins.rises open_rises))
+                (seen_opened told told_then m n' by.caches.items by.kept.items (deque_capacity by.kept) by.regions.items thins.can.tied seg anew_by p.pages d refl number_is refl
+                (told_after M G by gmi middle after (OpenSegment seg) (Ok (replies.Cache cache)) thins.can call) p.next (blank_told (M.held middle) m thins.can.blank) (blank_told (M.held after) n' final_can.blank)
+                (state_of G old (M.held before)) (state_of G final (M.held after)) (sym seen_by) (ap (references_seen n' told_then) pushed));
+            denied = open_denied ∙ thins.denied;
+          };
+        };
+        kept = behind_not (list_any (λ s. s == seg.0) (kept_segments old.kept.items)) seg.0 (kept_segments old.kept.items) (kept_segments final.kept.items) (Ok cache)
+            (not_kept m0 told0 old.caches.items old.kept.items (deque_capacity old.kept) old.regions.items can.tied seg anew) kept_behind;
+        again = λ k e. absurd (no_cache k e);
+        too_many = λ e. absurd (cc e);
+      }

@@ -92,7 +92,7 @@ once_filter p (k ∷ ks) h = by (p k) (still_free p ks k.cache.0 h.0) (once_filt
 
 -- Where caches are among those that don't go
 
-used_entry : (r : ReferenceMachine) (xs : Caches) (j : ℕ) (d : Cache) → slice_get (used r 1 xs) j ≡ Some (Some d) → slice_get xs j ≡ Some (Some d)
+pub used_entry : (r : ReferenceMachine) (xs : Caches) (j : ℕ) (d : Cache) → slice_get (used r 1 xs) j ≡ Some (Some d) → slice_get xs j ≡ Some (Some d)
 used_entry r xs j d e = by (slice_get xs j) refl (sym (get_used r 1 xs j) ∙ e)
   where
     kept : (x : Cache) (b : Bool) → Some (cond b None (Some x)) ≡ Some (Some d) → Some (Some x) ≡ Some (Some d)
@@ -104,7 +104,7 @@ used_entry r xs j d e = by (slice_get xs j) refl (sym (get_used r 1 xs j) ∙ e)
     by (Some None) is e = absurd (let wrong : None ≡ Some d = cc e in cc wrong)
     by (Some (Some x)) is e = is ∙ kept x (goes r (1 + j) x) e
 
-number_none : (seg k : ℕ) (cs : Caches) → ((j : ℕ) (d : Cache) → slice_get cs j ≡ Some (Some d) → is_named_by seg (Some d) ≡ true → ⊥) → number_in k cs seg ≡ None
+pub number_none : (seg k : ℕ) (cs : Caches) → ((j : ℕ) (d : Cache) → slice_get cs j ≡ Some (Some d) → is_named_by seg (Some d) ≡ true → ⊥) → number_in k cs seg ≡ None
 number_none seg k [] none = refl
 number_none seg k (o ∷ cs) none = by o (none 0) ∙ number_none seg (k + 1) cs (λ j d e n. none (suc j) d e n)
   where
