@@ -462,3 +462,45 @@ module _ {Manager X Chooser : Type 0} (M : GhostsOfMapper X) (G : GhostsOfGmi Ma
         again = λ k e. absurd (no_cache k e);
         too_many = λ e. absurd (cc e);
       }
+
+  -- There was no memory to note it.
+  pub lacks_start : Acquires M G before old seg (Err troubles.Memory) before start
+  lacks_start = record {
+    call = record {
+      can = start_can;
+      made = omega arith;
+      limit = refl;
+      one = omega arith;
+      rises = no_counts;
+      rose = rise_none (M.counts before);
+      is = record {
+        step = step_whole (state_of G old (M.held before)) (state_of G start (M.held before)) (commands.Plain (OpenSegment seg)) (Err troubles.Memory) no_counts (seen_with M G old before) (seen_with M G old before)
+            (λ h. (0, (refl, tt, tt)))
+            (same_seen told0 told0 refl (state_of G old (M.held before)) (state_of G start (M.held before)) (seen_with M G old before) refl (ap (references_seen m0 told0) caches)
+            (blank_seen told0 m0 old.caches.items (blank_told (M.held before) m0 can.blank)));
+        denied = refl;
+      };
+    };
+    kept = behind_not (list_any (λ s. s == seg.0) (kept_segments old.kept.items)) seg.0 (kept_segments old.kept.items) (kept_segments start.kept.items) (Err troubles.Memory)
+        (not_kept m0 told0 old.caches.items old.kept.items (deque_capacity old.kept) old.regions.items can.tied seg anew) (0, ap kept_segments kept);
+    again = λ k e. absurd (let wrong : None ≡ Some k = sym (number_below m0 told0 old.caches.items old.kept.items (deque_capacity old.kept) old.regions.items can.tied seg anew) ∙ e in cc wrong);
+    too_many = λ e. absurd (cc e);
+  }
+
+  -- What the tries came to
+  pub tried_not : (t : Trouble) (after : X) (s2 : SegManager Manager) → IsTried M G (OpenSegment seg) before start (Err t) after s2 → Acquires M G before old seg (Err t) after s2
+  tried_not t after s2 (inl r) =
+      let tr : Tries M G (OpenSegment seg) before start (Err t) after s2 = r.0 in
+      subst (λ (x : SegManager Manager). Acquires M G before old seg (Err t) after x) (sym tr.same)
+      (not_opened tr.middle tr.by tr.thins t after s2.gmi tr.call (λ e. sym (ap (λ (x : SegManager Manager). x.kept.items) tr.same) ∙ r.1 e))
+  tried_not t after s2 (inr v) =
+      in_vain v.tries.middle v.tries.by v.tries.thins v.middle v.by.gmi v.tries.call t after s2
+      (subst (λ (x : SegManager Manager). Fails M G v.middle x t after s2) v.tries.same v.fails)
+
+  pub tried_ok : (cache : CacheId) (after : X) (s2 new : SegManager Manager) → length s1.caches.items + 1 ≤ deque_capacity s1.kept → IsTried M G (OpenSegment seg) before start (Ok cache) after s2
+      → new.caches.items ≡ s2.caches.items ++ (record { seg = seg; cache = cache; openings = 1 }) ∷ [] → new ≡ record s2 { caches = new.caches } → Acquires M G before old seg (Ok cache) after new
+  tried_ok cache after s2 new all tr pushed same =
+      subst (λ (x : SegManager Manager). Acquires M G before old seg (Ok cache) after x) (sym (same ∙ (λ i. record (tr.same i) { caches = new.caches })))
+      (was_opened tr.middle tr.by tr.thins cache after s2.gmi tr.call new
+      (pushed ∙ ap (λ (x : SegManager Manager). x.caches.items ++ (record { seg = seg; cache = cache; openings = 1 }) ∷ []) tr.same)
+      (omega (arith, all, tr.thins.few, tr.thins.fits)))
