@@ -24,3 +24,4 @@ pub mod Opened
 pub mod Anew
 pub mod Tried
 pub mod Beginning
+pub mod Starting

@@ -59,12 +59,15 @@ impl<G> SegManager<G> {
             → state_of G.Gmi result told ≡ beginning (G.machine gmi told) (segments_of told) }
         ensures made { made_by G.Gmi result ≡ G.made gmi }
     {
+        let caches = Vec::new(alloc);
+        let kept = VecDeque::new(alloc);
+        let regions = Vec::new(alloc);
         SegManager {
             gmi,
             limit,
-            caches: Vec::new(alloc),
-            kept: VecDeque::new(alloc),
-            regions: Vec::new(alloc),
+            caches,
+            kept,
+            regions,
         }
     }
 
