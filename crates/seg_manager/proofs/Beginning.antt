@@ -282,7 +282,7 @@ module _ {Manager X Chooser : Type 0} (M : GhostsOfMapper X) (G : GhostsOfGmi Ma
       never_many t d e = absurd d
 
       module _ (t : Trouble) (later : X) (new : SegManager Manager) (f : Fails M G after tried t later new) where
-        vain_rises : MapperCounts
+        abbrev vain_rises : MapperCounts
         vain_rises = counts_sum (counts_sum thins.rises (call_is M G by gmi middle after (OpenSegment seg) (Err (troubles.Refused refusals.TooMany)) thins.can call).rises) f.rises
 
         vain_seen : seen_with M G new later ≡ R

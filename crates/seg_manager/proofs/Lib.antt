@@ -25,3 +25,5 @@ pub mod Anew
 pub mod Tried
 pub mod Beginning
 pub mod Starting
+pub mod Lifting
+pub mod Temping

@@ -20,9 +20,9 @@ use Rattle.seg_manager.specs.declared.tables.Mapped.{Mapped}
 use Rattle.seg_manager.specs.declared.tables.Named.{Named}
 
 nothing : {A : Type 0} (n : ℕ) → numbered (let xs : List (Option A) = [] in xs) n ≡ None
-nothing n = by (n == 0)
+nothing {A} n = by (n == 0)
   where
-    by : (b : Bool) → cond b None None ≡ None
+    by : (b : Bool) → cond {A = Option A} b None None ≡ None
     by true = refl
     by false = refl
 
