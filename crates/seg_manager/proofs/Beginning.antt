@@ -227,7 +227,7 @@ module _ {Manager X Chooser : Type 0} (M : GhostsOfMapper X) (G : GhostsOfGmi Ma
     blank = can.blank;
   }
 
-  pub start_credit : G.made old.gmi ≤ 2 ^ 61 → credit M G start before ≤ 2 ^ 62
+  pub start_credit : G.made old.gmi ≤ 2 ^ 61 → credit M G start before ≤ 2 ^ 61 + 2 ^ 32
   start_credit h = omega (arith, h, credit_few M G start before start_can)
 
   pub start_anew : None ≡ position_from (first_of seg.0) 0 start.caches.items
@@ -504,3 +504,21 @@ module _ {Manager X Chooser : Type 0} (M : GhostsOfMapper X) (G : GhostsOfGmi Ma
       (was_opened tr.middle tr.by tr.thins cache after s2.gmi tr.call new
       (pushed ∙ ap (λ (x : SegManager Manager). x.caches.items ++ (record { seg = seg; cache = cache; openings = 1 }) ∷ []) tr.same)
       (omega (arith, all, tr.thins.few, tr.thins.fits)))
+
+  -- The same by the calls that it makes
+  module _ (is : s1 ≡ start) where
+    pub lacks_by : Acquires M G before old seg (Err troubles.Memory) before s1
+    lacks_by = subst (λ (x : SegManager Manager). Acquires M G before old seg (Err troubles.Memory) before x) (sym is) lacks_start
+
+    pub can_by : CanCall G s1 (M.held before) (M.page_bytes before)
+    can_by = subst (λ (x : SegManager Manager). CanCall G x (M.held before) (M.page_bytes before)) (sym is) start_can
+
+    pub credit_by : G.made old.gmi ≤ 2 ^ 61 → credit M G s1 before ≤ 2 ^ 61 + 2 ^ 32
+    credit_by h = subst (λ (x : SegManager Manager). credit M G x before ≤ 2 ^ 61 + 2 ^ 32) (sym is) (start_credit h)
+
+    pub not_by : (t : Trouble) (after : X) (s2 : SegManager Manager) → IsTried M G (OpenSegment seg) before s1 (Err t) after s2 → Acquires M G before old seg (Err t) after s2
+    not_by t after s2 tried = tried_not t after s2 (subst (λ (x : SegManager Manager). IsTried M G (OpenSegment seg) before x (Err t) after s2) is tried)
+
+    pub ok_by : (cache : CacheId) (after : X) (s2 new : SegManager Manager) → length s1.caches.items + 1 ≤ deque_capacity s1.kept → IsTried M G (OpenSegment seg) before s1 (Ok cache) after s2
+        → new.caches.items ≡ s2.caches.items ++ (record { seg = seg; cache = cache; openings = 1 }) ∷ [] → new ≡ record s2 { caches = new.caches } → Acquires M G before old seg (Ok cache) after new
+    ok_by cache after s2 new all tried pushed same = tried_ok cache after s2 new all (subst (λ (x : SegManager Manager). IsTried M G (OpenSegment seg) before x (Ok cache) after s2) is tried) pushed same

@@ -29,7 +29,7 @@ use Rattle.seg_manager.specs.Tying.{AreTied, CanCall}
 use Rattle.seg_manager.specs.declared.manager.SegManager.{SegManager}
 use Rattle.seg_manager.specs.declared.tables.Named.{Named}
 use Rattle.seg_manager.proofs.Anew.{unnamed}
-use Rattle.seg_manager.proofs.Calls.{able_after, backed_before, call_is, denied_after, forest, seen_after}
+use Rattle.seg_manager.proofs.Calls.{able_after, backed_before, call_is, denied_after, forest, made_after, seen_after}
 use Rattle.seg_manager.proofs.Opened.{Ends, failed, lacks, made, many, nowhere, open_ends}
 use Rattle.seg_manager.proofs.Thinned.{retold, thins_none, thins_then}
 
@@ -110,7 +110,7 @@ module _ {Manager X Chooser : Type 0} (M : GhostsOfMapper X) (G : GhostsOfGmi Ma
   Leaves c gmi mapper = (t : Trouble) (after : X) (then_gmi : Manager) → MapperCall M (meanings_of G) mapper gmi c (Err t) after then_gmi → G.machine then_gmi (M.held after) ≡ G.machine gmi (M.held mapper)
 
   module _ (c : Command) (middle : X) (by : SegManager Manager) (thins : Thins M G before old middle by) (leaves : Leaves c by.gmi middle) where
-    pub made_here : credit M G old before ≤ 2 ^ 62 → G.made by.gmi ≤ 2 ^ 62
+    pub made_here : credit M G old before ≤ 2 ^ 61 + 2 ^ 32 → G.made by.gmi ≤ 2 ^ 62
     made_here h = omega (arith, h, thins.credit)
 
     pub tries_ok : (cache : CacheId) (after : X) (gmi : Manager) → MapperCall M (meanings_of G) middle by.gmi c (Ok (replies.Cache cache)) after gmi → IsTried M G c before old (Ok cache) after (record by { gmi = gmi })
@@ -125,6 +125,9 @@ module _ {Manager X Chooser : Type 0} (M : GhostsOfMapper X) (G : GhostsOfGmi Ma
 
       pub can_tried : CanCall G tried (M.held after) (M.page_bytes after)
       can_tried = can_same M G by gmi middle after c (Err trouble) thins.can call stays
+
+      pub made_tried : credit M G old before ≤ 2 ^ 61 + 2 ^ 32 → G.made gmi ≤ 2 ^ 62
+      made_tried h = omega (arith, h, thins.credit, made_after M G by gmi middle after c (Err trouble) thins.can call)
 
       tries : Tries M G c before old (Err trouble) after tried
       tries = record { middle = middle; by = by; thins = thins; call = call; same = refl }

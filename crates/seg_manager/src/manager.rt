@@ -219,8 +219,14 @@ impl<G> SegManager<G> {
         requires anew { StandsAt self.old.caches.items (first_of seg.0) None }
         ensures { Acquires M.Mapper G.Gmi mapper.old self.old seg result mapper.new self.new }
     {
-        self.reserve_cache()?;
-        let cache = self.open_segment(seg, mapper, chooser)?;
+        match self.reserve_cache() {
+            Ok(()) => {}
+            Err(NoMemory) => return Err(Trouble::Memory),
+        }
+        let cache = match self.open_segment(seg, mapper, chooser) {
+            Ok(cache) => cache,
+            Err(trouble) => return Err(trouble),
+        };
         self.caches.push_reserved(Named {
             seg,
             cache,
@@ -257,7 +263,7 @@ impl<G> SegManager<G> {
     where
         G: Gmi<M, C>,
         requires can { CanCall G.Gmi self.old (M.held mapper.old) (M.page_bytes mapper.old) }
-        requires made { credit M.Mapper G.Gmi self.old mapper.old ≤ 2 ^ 62 }
+        requires made { credit M.Mapper G.Gmi self.old mapper.old ≤ 2 ^ 61 + 2 ^ 32 }
         requires anew { StandsAt self.old.caches.items (first_of seg.0) None }
         ensures { IsTried M.Mapper G.Gmi (Command.OpenSegment seg) mapper.old self.old result
             mapper.new self.new }
@@ -284,7 +290,7 @@ impl<G> SegManager<G> {
         G: Gmi<M, C>,
         requires some { 1 ≤ pages }
         requires can { CanCall G.Gmi self.old (M.held mapper.old) (M.page_bytes mapper.old) }
-        requires made { credit M.Mapper G.Gmi self.old mapper.old ≤ 2 ^ 62 }
+        requires made { credit M.Mapper G.Gmi self.old mapper.old ≤ 2 ^ 61 + 2 ^ 32 }
         ensures { IsTried M.Mapper G.Gmi (Command.MakeTemp pages) mapper.old self.old result
             mapper.new self.new }
     {
