@@ -6,6 +6,9 @@ use Rattle.seg_manager.proofs.Opened.{open_ends}
 use Rattle.seg_manager.proofs.Anew.{nobody}
 use Rattle.seg_manager.proofs.Tried.{open_leaves}
 use Rattle.seg_manager.proofs.Beginning.{start_can}
+use Rattle.seg_manager.proofs.Starting.{begins}
+use Rattle.seg_manager.proofs.Lifting.{load_lifts}
+use Rattle.seg_manager.proofs.Temping.{temp_leaves}
 use Rattle.seg_manager.proofs.manager.SegManager.acquire.Goals as goal
 
 pub returns-in-Some : goal.returns-in-Some
