@@ -27,3 +27,4 @@ pub mod Beginning
 pub mod Starting
 pub mod Lifting
 pub mod Temping
+pub mod Dropping

@@ -41,7 +41,8 @@ fn first(bytes: &[u8]) -> Shown {
     }
 }
 
-fn page_of(rt: &impl Abort, mapper: &MemoryMapper) -> u8 {
+// The first byte of the segment.
+fn first_stored(mapper: &MemoryMapper) -> u8 {
     let page = mapper.page(SegId(1), PageNo(0));
     if page.is_empty() { 0 } else { page[0] }
 }
@@ -116,7 +117,7 @@ fn where_none_is_kept_a_segment_is_opened_anew(rt: HostRuntime) -> Result<(), Fa
     let gmi = EagerMachine::new(rt.alloc(), 4, 4096);
     let mut manager = SegManager::new::<MemoryMapper, Fifo>(rt.alloc(), gmi, 0);
     play(&rt, &mut manager, &mut mapper)?;
-    assert_eq!(rt; page_of(&rt, &mapper), 0x58);
+    assert_eq!(rt; first_stored(&mapper), 0x58);
     let chooser = &mut Fifo::new();
     let open = KeepCommand::Plain(Command::OpenSegment(SegId(1)));
     assert_eq!(rt; seen(manager.carry_out(&open, &mut mapper, chooser)), Shown::Cache(3));

@@ -1,15 +1,12 @@
-use Rattle.std.proofs.Common.{ap, sym, ◌∙◌}
+use Rattle.std.proofs.Common.{ap, ◌∙◌}
 use Rattle.std.specs.List.{position_from}
 use Rattle.seg_manager.specs.Inner.{first_of}
 use Rattle.seg_manager.proofs.Acquiring.{acquired_by}
-use Rattle.seg_manager.proofs.Opened.{open_ends}
-use Rattle.seg_manager.proofs.Anew.{nobody}
-use Rattle.seg_manager.proofs.Tried.{open_leaves}
-use Rattle.seg_manager.proofs.Beginning.{start_can}
-use Rattle.seg_manager.proofs.Starting.{begins}
-use Rattle.seg_manager.proofs.Lifting.{load_lifts}
-use Rattle.seg_manager.proofs.Temping.{temp_leaves}
+use Rattle.seg_manager.proofs.Finding.{place_below}
 use Rattle.seg_manager.proofs.manager.SegManager.acquire.Goals as goal
+
+pub open_again-requires : goal.open_again-requires
+open_again-requires g c = place_below (first_of c.args.seg.0) c.deref.result.now c.args.self.now.caches.items c.in-Some.place c.deref.ensures.value c.in-Some.ensures
 
 pub returns-in-Some : goal.returns-in-Some
 returns-in-Some g c =

@@ -33,3 +33,9 @@ returns-in-Err-open_segment g c =
     not_by g.M.Mapper g.G.Gmi c.args.mapper.now c.args.self.now c.reserve_cache.new.self c.args.seg c.requires.can c.requires.anew
     c.reserve_cache.ensures.caches c.reserve_cache.ensures.kept c.reserve_cache.ensures.less c.reserve_cache.ensures.same
     c.in-Err-open_segment.trouble c.open_segment.new.mapper c.open_segment.new.self c.in-Err-open_segment.ensures
+
+pub returns : goal.returns
+returns g c =
+    ok_by g.M.Mapper g.G.Gmi c.args.mapper.now c.args.self.now c.reserve_cache.new.self c.args.seg c.requires.can c.requires.anew
+    c.reserve_cache.ensures.caches c.reserve_cache.ensures.kept c.reserve_cache.ensures.less c.reserve_cache.ensures.same
+    c.in-Ok-open_segment.cache c.open_segment.new.mapper c.open_segment.new.self (record c.open_segment.new.self { caches = c.push_reserved.new.self }) c.in-Ok.ensures.all c.in-Ok-open_segment.ensures c.push_reserved.ensures.items refl
