@@ -53,7 +53,7 @@ get_either [] y (suc i) x e = absurd (cc e)
 get_either (z ∷ xs) y zero x e = inl e
 get_either (z ∷ xs) y (suc i) x e = elim (get_either xs y i x e) [ inl f ↦ inl f | inr f ↦ inr (ap suc f.0, f.1) ]
 
-namings_push : (k : ℕ) (cs : Caches) (c : Cache) → namings k (cs ++ Some c ∷ []) ≡ namings k cs ++ naming_at (k + length cs) (Some c)
+pub namings_push : (k : ℕ) (cs : Caches) (c : Cache) → namings k (cs ++ Some c ∷ []) ≡ namings k cs ++ naming_at (k + length cs) (Some c)
 namings_push k [] c = append-nil (naming_at k (Some c)) ∙ ap (λ (n : ℕ). naming_at n (Some c)) (let e : k ≡ k + 0 = omega arith in e)
 namings_push k (o ∷ cs) c =
     ap (λ xs. naming_at k o ++ xs) (namings_push (k + 1) cs c ∙ ap (λ (n : ℕ). namings (k + 1) cs ++ naming_at n (Some c)) (let e : k + 1 + length cs ≡ k + suc (length cs) = omega arith in e))
