@@ -28,3 +28,4 @@ pub mod Starting
 pub mod Lifting
 pub mod Temping
 pub mod Dropping
+pub mod Temporary
