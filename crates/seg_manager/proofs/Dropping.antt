@@ -9,6 +9,7 @@ use Rattle.vm_ids.specs.Held.{Segments}
 use Rattle.vm_ids.specs.declared.numbers.CacheId.{CacheId}
 use Rattle.vm_model.specs.Answering.{is_mapped}
 use Rattle.vm_model.specs.Machine.{Cache, Machine, cache_of, segment_of}
+use Rattle.vm_model.proofs.Parts.Pairs.{each_by}
 use Rattle.gmi_calls.specs.Backing.{AreBacked}
 use Rattle.seg_manager.specs.ReferenceMachine.{goes}
 use Rattle.seg_manager.specs.Seen.{is_kept, maps, openings_in, whole_of}
@@ -57,7 +58,7 @@ noted_tied m n now cs ks room rs t same regions backed = record {
   regions = regions;
   apart = λ i j seg e f. t.apart i j seg (sym (segment_same i) ∙ e) (sym (segment_same j) ∙ f);
   kept = λ q. t.kept q ∙ ap (λ (o : Option ℕ). option_map_or (λ seg. not (nat_lt 0 (openings_in cs seg) || list_any (maps q) rs)) o false) (sym (segment_same q)) ∙ sym (unreferenced_same n now cs rs regions q);
-  named = still t.named;
+  named = each_by (λ (k : Kept). segment_of m k.cache.0 ≡ Some k.seg.0) (λ (k : Kept). segment_of n k.cache.0 ≡ Some k.seg.0) (λ k e. segment_same k.cache.0 ∙ e) ks t.named;
   once = t.once;
   fits = t.fits;
   backed = backed;
@@ -65,10 +66,6 @@ noted_tied m n now cs ks room rs t same regions backed = record {
   where
     segment_same : (i : ℕ) → segment_of n i ≡ segment_of m i
     segment_same i = λ j. segment_of (record n { caches = same j }) i
-
-    still : {ls : List Kept} → AllByRecursion (λ (k : Kept). segment_of m k.cache.0 ≡ Some k.seg.0) ls → AllByRecursion (λ (k : Kept). segment_of n k.cache.0 ≡ Some k.seg.0) ls
-    still {[]} h = tt
-    still {l ∷ ls} h = (segment_same l.cache.0 ∙ h.0, still h.1)
 
 -- One region goes
 

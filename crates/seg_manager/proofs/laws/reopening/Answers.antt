@@ -1,6 +1,4 @@
 use Rattle.seg_manager.proofs.Reopening.{reopens_as_it_was}
-use Rattle.seg_manager.proofs.Dropping.{others_mapped}
-use Rattle.seg_manager.proofs.Temporary.{seen_temp}
 use Rattle.seg_manager.proofs.laws.reopening.Goals as goal
 
 pub returns : goal.returns
