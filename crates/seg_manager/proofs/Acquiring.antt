@@ -77,9 +77,13 @@ module _ (m : Machine) (cs : List Named) (ks : List Kept) (room : ℕ) (rs : Lis
       → (number : ℕ) × Outcome (references_seen m told cs) None (commands.Plain (OpenSegment seg)) h number (Ok (replies.Cache named.cache)) (open_one seg.0 (references_seen m told cs)) rises
   referred_leads told t referred h rises =
       let R : ReferenceMachine = references_seen m told cs in
-      let k : ℕ = length R.memory.caches + 1 in
-      (k, ((omega arith, numbered_past R.memory.caches k refl),
-      again_row R seg.0 k named.cache.0 (ap (λ (xs : Caches). number_in 1 xs seg.0) (caches_seen told m cs) ∙ number_seen m told cs ks room rs t seg place named first place_is now is referred)))
+      let k : ℕ = length R.memory.caches + 1 in (
+        k,
+        (
+          (omega arith, numbered_past R.memory.caches k refl),
+          again_row R seg.0 k named.cache.0 (ap (λ (xs : Caches). number_in 1 xs seg.0) (caches_seen told m cs) ∙ number_seen m told cs ks room rs t seg place named first place_is now is referred),
+        ),
+      )
 
   opens_referred : (told : Option Segments) (t : AreTied m told cs ks room rs) → IfNone told (m ≡ blank m) → is_unreferenced (whole_of m told cs) named.cache.0 ≡ false → Opens told m cs now seg named.cache
   opens_referred None t bare referred =
@@ -92,9 +96,11 @@ module _ (m : Machine) (cs : List Named) (ks : List Kept) (room : ℕ) (rs : Lis
         whole = R;
         next = open_one seg.0 R;
         leads = referred_leads None t referred;
-        seen = (seen_blank m cs bare,
+        seen = (
+          seen_blank m cs bare,
           (λ i. record { memory = record m { caches = used_all W V 1 m.caches all i }; stored = λ x. None; openings = fun i })
-          ∙ ap (λ (r : ReferenceMachine). open_one seg.0 r) (seen_blank m cs bare));
+              ∙ ap (λ (r : ReferenceMachine). open_one seg.0 r) (seen_blank m cs bare),
+        );
       }
   opens_referred (Some s) t bare referred =
       let R : ReferenceMachine = references_seen m (Some s) cs in
@@ -144,9 +150,13 @@ module _ (m : Machine) (cs : List Named) (ks : List Kept) (room : ℕ) (rs : Lis
 
     leads_back : (r : ReferenceMachine) → r.memory.caches ≡ used (whole_of m told cs) 1 m.caches → r.stored seg.0 ≡ Some pages → (h : Segments) (rises : MapperCounts)
         → (number : ℕ) × Outcome r None (commands.Plain (OpenSegment seg)) h number (Ok (replies.Cache named.cache)) (next_of r) rises
-    leads_back r caches stored h rises =
-        (n', ((place_at.0, ap (λ (xs : Caches). numbered xs n') caches ∙ nothing_there m told cs ks room rs t seg place named first place_is now is free),
-        anew_row r seg.0 n' pages (ap (λ (xs : Caches). number_in 1 xs seg.0) caches ∙ number_hidden m told cs ks room rs t seg place named first place_is now is free) stored))
+    leads_back r caches stored h rises = (
+      n',
+      (
+        (place_at.0, ap (λ (xs : Caches). numbered xs n') caches ∙ nothing_there m told cs ks room rs t seg place named first place_is now is free),
+        anew_row r seg.0 n' pages (ap (λ (xs : Caches). number_in 1 xs seg.0) caches ∙ number_hidden m told cs ks room rs t seg place named first place_is now is free) stored,
+      ),
+    )
 
   opens_kept : (told : Option Segments) (t : AreTied m told cs ks room rs) → IfNone told (m ≡ blank m) → is_unreferenced (whole_of m told cs) named.cache.0 ≡ true → Opens told m cs now seg named.cache
   opens_kept None t bare free =
@@ -156,11 +166,14 @@ module _ (m : Machine) (cs : List Named) (ks : List Kept) (room : ℕ) (rs : Lis
         whole = R;
         next = next_of None t free R;
         leads = leads_back None t free R refl refl;
-        seen = (seen_blank m cs bare, λ i. record {
+        seen = (
+          seen_blank m cs bare,
+          λ i. record {
             memory = record m { caches = (ap (used V 1) (ap (λ (x : Machine). x.caches) bare) ∙ sym (blank_used V 1 m.caches) ∙ ap (map (option_map blank_cache)) (caches_back None t free)) i };
             stored = λ x. None;
             openings = openings_fun m None cs ks room rs t seg place named first place_is now is i;
-          });
+          },
+        );
       }
   opens_kept (Some s) t bare free =
       let R : ReferenceMachine = references_seen m (Some s) cs in
@@ -173,12 +186,15 @@ module _ (m : Machine) (cs : List Named) (ks : List Kept) (room : ℕ) (rs : Lis
         whole = R;
         next = next_of (Some s) t free R;
         leads = leads_back (Some s) t free R refl (stored_there m (Some s) cs ks room rs t seg place named first place_is now is free);
-        seen = (refl, λ i. record {
+        seen = (
+          refl,
+          λ i. record {
             memory = record m { caches = caches_back (Some s) t free i };
             stored = stored_turn W V m.caches (apart_by m t.apart) refl seg.0 (named.cache.0 - 1) f.0 (place_at (Some s) t free).1 (mine m (Some s) cs ks room rs t seg place named first place_is now is)
                 (stays_there m (Some s) cs ks room rs t seg place named first place_is now is) nothing (alike_but m (Some s) cs ks room rs t seg place named first place_is now is) i;
             openings = openings_fun m (Some s) cs ks room rs t seg place named first place_is now is i;
-          });
+          },
+        );
       }
 
   pub opens_again : (told : Option Segments) (t : AreTied m told cs ks room rs) → IfNone told (m ≡ blank m) → Opens told m cs now seg named.cache
@@ -282,8 +298,11 @@ module _ {Manager X Chooser : Type 0} (M : GhostsOfMapper X) (G : GhostsOfGmi Ma
       };
       kept = subst (λ (ks : List Kept). IsAcquired (list_any (λ s. s == seg.0) (kept_segments old.kept.items)) seg.0 (kept_segments old.kept.items) (Ok o.named.cache) (kept_segments ks)) (sym o.kept)
           (acquired_kept m old.caches.items old.kept.items (deque_capacity old.kept) old.regions.items seg place o.named (sym first) o.there new.caches.items o.caches told can.tied o.named.cache);
-      again = λ k e. (refl, (let both : Some o.named.cache.0 ≡ Some k =
-          sym (number_is m can.tied.apart o.named.cache.0 seg.0 (of m told old.caches.items old.kept.items (deque_capacity old.kept) old.regions.items can.tied seg place o.named (sym first) o.there new.caches.items o.caches)) ∙ e in cc both));
+      again = λ k e. (
+        refl,
+        (let both : Some o.named.cache.0 ≡ Some k =
+            sym (number_is m can.tied.apart o.named.cache.0 seg.0 (of m told old.caches.items old.kept.items (deque_capacity old.kept) old.regions.items can.tied seg place o.named (sym first) o.there new.caches.items o.caches)) ∙ e in cc both),
+      );
       too_many = λ e. absurd (cc e);
     }
 

@@ -324,8 +324,10 @@ module _ (m : Machine) (cs : List Named) (ks : List Kept) (room : ℕ) (rs : Lis
 
   pub seen_untold : (t : AreTied m None cs ks room rs) → more ≡ blank more → references_seen more None (cs ++ d ∷ []) ≡ blank_references (opened_next (record (references_seen m None cs) { stored = λ x. Some pages }) (number_next m) seg pages)
   seen_untold t bare = λ i. record {
-    memory = record m { caches = (ap (used V 1) (ap (λ (x : Machine). x.caches) bare) ∙ sym (blank_used V 1 more.caches)
-        ∙ ap (map (option_map blank_cache)) (caches_then m None cs ks room rs t seg anew pages d of number one None)) i };
+    memory = record m {
+      caches = (ap (used V 1) (ap (λ (x : Machine). x.caches) bare) ∙ sym (blank_used V 1 more.caches)
+          ∙ ap (map (option_map blank_cache)) (caches_then m None cs ks room rs t seg anew pages d of number one None)) i;
+    };
     stored = λ x. None;
     openings = openings_fun m None cs ks room rs t seg anew pages d of number one None i;
   }

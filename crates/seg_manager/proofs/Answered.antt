@@ -75,18 +75,18 @@ destroy_answered None m f cache c there free a n rises o =
     let free_whole : is_mapped w cache.0 ≡ false = ap (λ (x : Machine). is_mapped x cache.0) (sym o.is) ∙ free in
     elim (by_outcome w f cache d.0 d.1 free_whole o.segments o.whole_answer o.whole_next rises o.outcome) [
       | inl g ↦ inl (record {
-          done = alike_ok o.whole_answer a g.done o.alike;
-          next = o.is_next ∙ ap blank g.next
-              ∙ (λ i. record (blank w) { caches = map-set (option_map blank_cache) w.caches (cache.0 - 1) None i })
-              ∙ ap (λ (x : Machine). without x cache.0) (sym o.is);
-        })
+        done = alike_ok o.whole_answer a g.done o.alike;
+        next = o.is_next ∙ ap blank g.next
+            ∙ (λ i. record (blank w) { caches = map-set (option_map blank_cache) w.caches (cache.0 - 1) None i })
+            ∙ ap (λ (x : Machine). without x cache.0) (sym o.is);
+      })
       | inr g ↦ inr (record {
-          trouble = g.trouble;
-          is = alike_err g.trouble o.whole_answer a g.is o.alike;
-          fault = g.fault;
-          same = o.is_next ∙ ap blank g.same ∙ sym o.is;
-          failed = g.failed;
-        })
+        trouble = g.trouble;
+        is = alike_err g.trouble o.whole_answer a g.is o.alike;
+        fault = g.fault;
+        same = o.is_next ∙ ap blank g.same ∙ sym o.is;
+        failed = g.failed;
+      })
     ]
   where
     some_of : (o : Option Cache) (c : Cache) → option_map blank_cache o ≡ Some c → (d : Cache) × (o ≡ Some d)

@@ -176,17 +176,20 @@ seen_opened : (told now : Option Segments) (m n : Machine) (cs : List Named) (ks
     (d : Named) (of : d.seg.0 ≡ seg.0) (number : d.cache.0 ≡ number_next m) (one : d.openings ≡ 1) → Told m told now → n ≡ appended m (opened seg.0 pages) → IfNone told (m ≡ blank m) → IfNone now (n ≡ blank n)
     → (before after : State) → before.references ≡ references_seen m told cs → after.references ≡ references_seen n now (cs ++ d ∷ [])
     → AreSeen now before after (whole_for told (references_seen m told cs) pages) (opened_next (whole_for told (references_seen m told cs) pages) (number_next m) seg pages)
-seen_opened None None m n cs ks room rs t seg anew pages d of number one f next bare bare_then before after x y =
-    (x ∙ seen_blank m cs bare,
-    y ∙ ap (λ (z : Machine). references_seen z None (cs ++ d ∷ [])) next
-    ∙ seen_untold m cs ks room rs seg (sym anew) pages d of number one t (sym next ∙ bare_then ∙ ap blank next))
+seen_opened None None m n cs ks room rs t seg anew pages d of number one f next bare bare_then before after x y = (
+  x ∙ seen_blank m cs bare,
+  y ∙ ap (λ (z : Machine). references_seen z None (cs ++ d ∷ [])) next
+      ∙ seen_untold m cs ks room rs seg (sym anew) pages d of number one t (sym next ∙ bare_then ∙ ap blank next),
+)
 seen_opened None (Some u) m n cs ks room rs t seg anew pages d of number one f next bare bare_then before after x y = absurd (let wrong : Some u ≡ None = f.none refl in cc wrong)
 seen_opened (Some s) None m n cs ks room rs t seg anew pages d of number one f next bare bare_then before after x y = absurd (let u = f.some s refl in cc u.1)
 seen_opened (Some s) (Some u) m n cs ks room rs t seg anew pages d of number one f next bare bare_then before after x y =
     let v = f.some s refl in
-    let same : v.0 ≡ u = (let e : Some u ≡ Some v.0 = v.1 in let is : u ≡ v.0 = cc e in sym is) in
-    (x, y ∙ ap (λ (z : Machine). references_seen z (Some u) (cs ++ d ∷ [])) next
-    ∙ seen_told m cs ks room rs seg (sym anew) pages d of number one s u t (subst (λ (z : Segments). Follow m s z) same v.2))
+    let same : v.0 ≡ u = (let e : Some u ≡ Some v.0 = v.1 in let is : u ≡ v.0 = cc e in sym is) in (
+      x,
+      y ∙ ap (λ (z : Machine). references_seen z (Some u) (cs ++ d ∷ [])) next
+          ∙ seen_told m cs ks room rs seg (sym anew) pages d of number one s u t (subst (λ (z : Segments). Follow m s z) same v.2),
+    )
 
 opened_of : (told : Option Segments) (m : Machine) (seg : ℕ) (cache : CacheId) (n : Machine) (rises : MapperCounts) → Ends told m seg (Ok (replies.Cache cache)) n rises → IsOpen told m seg (Ok (replies.Cache cache)) n
 opened_of told m seg cache n rises (made p) = p
@@ -372,10 +375,12 @@ module _ {Manager X Chooser : Type 0} (M : GhostsOfMapper X) (G : GhostsOfGmi Ma
         kept = behind_not (list_any (λ s. s == seg.0) (kept_segments old.kept.items)) seg.0 (kept_segments old.kept.items) (kept_segments left.kept.items) (Err t)
             (not_kept m0 told0 old.caches.items old.kept.items (deque_capacity old.kept) old.regions.items can.tied seg anew) kept_behind;
         again = λ k e. absurd (no_cache k e);
-        too_many = λ e. (let is : t ≡ troubles.Refused refusals.TooMany = cc e in
-            (none is, refused_again then_told m n (forest M G by gmi middle after (OpenSegment seg) (Err t) thins.can call) (G.forest gmi (M.held after)) seg refusals.TooMany its_rises same
-            (subst (λ (x : Trouble). OutcomeAt then_told m (forest M G by gmi middle after (OpenSegment seg) (Err t) thins.can call) (OpenSegment seg) (Err x) n its_rises) is
-            (call_is M G by gmi middle after (OpenSegment seg) (Err t) thins.can call).is.outcome)));
+        too_many = λ e. (let is : t ≡ troubles.Refused refusals.TooMany = cc e in (
+          none is,
+          refused_again then_told m n (forest M G by gmi middle after (OpenSegment seg) (Err t) thins.can call) (G.forest gmi (M.held after)) seg refusals.TooMany its_rises same
+              (subst (λ (x : Trouble). OutcomeAt then_told m (forest M G by gmi middle after (OpenSegment seg) (Err t) thins.can call) (OpenSegment seg) (Err x) n its_rises) is
+              (call_is M G by gmi middle after (OpenSegment seg) (Err t) thins.can call).is.outcome),
+        ));
       }
 
     -- It was opened, and is noted.
@@ -428,13 +433,20 @@ module _ {Manager X Chooser : Type 0} (M : GhostsOfMapper X) (G : GhostsOfGmi Ma
       whole_memory = whole_caches told R p.pages ∙ caches_seen told m by.caches.items
 
       leads : (h : Segments) (rises : MapperCounts) → (number : ℕ) × Outcome whole None (commands.Plain (OpenSegment seg)) h number (Ok (replies.Cache cache)) next rises
-      leads h rises = (number_next m, ((omega arith,
-        numbered_past whole.memory.caches (number_next m) (omega (arith, ap length whole_memory, length_used (whole_of m told by.caches.items) 1 m.caches))),
-        anew_row whole seg.0 (number_next m) p.pages
-        (ap (λ (xs : Caches). number_in 1 xs seg.0) whole_memory ∙ number_unseen m told by.caches.items by.kept.items (deque_capacity by.kept) by.regions.items thins.can.tied seg anew_by)
-        (whole_stored told m by.caches.items seg.0 p.pages (stored_as m told told_then by.caches.items by.kept.items (deque_capacity by.kept) by.regions.items thins.can.tied seg anew_by
-        (told_after M G by gmi middle after (OpenSegment seg) (Ok (replies.Cache cache)) thins.can call) (Some p.pages) p.held))
-        ∙ ap (λ (x : Answered). x) (λ i. reply_cache (sym number_is i) next)))
+      leads h rises = (
+        number_next m,
+        (
+          (
+            omega arith,
+            numbered_past whole.memory.caches (number_next m) (omega (arith, ap length whole_memory, length_used (whole_of m told by.caches.items) 1 m.caches)),
+          ),
+          anew_row whole seg.0 (number_next m) p.pages
+              (ap (λ (xs : Caches). number_in 1 xs seg.0) whole_memory ∙ number_unseen m told by.caches.items by.kept.items (deque_capacity by.kept) by.regions.items thins.can.tied seg anew_by)
+              (whole_stored told m by.caches.items seg.0 p.pages (stored_as m told told_then by.caches.items by.kept.items (deque_capacity by.kept) by.regions.items thins.can.tied seg anew_by
+              (told_after M G by gmi middle after (OpenSegment seg) (Ok (replies.Cache cache)) thins.can call) (Some p.pages) p.held))
+              ∙ ap (λ (x : Answered). x) (λ i. reply_cache (sym number_is i) next),
+        ),
+      )
 
       open_denied : option_map (λ (h : Segments). h.denied) told_then ≡ option_map (λ (h : Segments). h.denied) told
       open_denied = denied_after M G by gmi middle after (OpenSegment seg) (Ok (replies.Cache cache)) thins.can call

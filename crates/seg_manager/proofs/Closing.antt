@@ -148,8 +148,12 @@ named_member n (c ∷ cs) e is = by (c.cache.0 == n) refl is (named_member n cs 
 -- No more caches are kept than segments name.
 pub kept_few : (m : Machine) (cs : List Named) (ks : List Kept) → map naming_of cs ≡ namings 1 m.caches → AreOnce ks → AllByRecursion (λ (k : Kept). segment_of m k.cache.0 ≡ Some k.seg.0) ks → length ks ≤ length cs
 kept_few m cs ks noted once named =
-    omega (arith, length-map ks (λ (k : Kept). k.cache.0), length-map cs (λ (c : Named). c.cache.0),
-    length-le_from_is_member nat_eq_equiv (numbers ks) (cache_numbers cs) (distinct ks once) (λ q is. within ks named q (sym (kept_number ks q) ∙ is)))
+    omega (
+      arith,
+      length-map ks (λ (k : Kept). k.cache.0),
+      length-map cs (λ (c : Named). c.cache.0),
+      length-le_from_is_member nat_eq_equiv (numbers ks) (cache_numbers cs) (distinct ks once) (λ q is. within ks named q (sym (kept_number ks q) ∙ is)),
+    )
   where
     within : (ls : List Kept) → AllByRecursion (λ (k : Kept). segment_of m k.cache.0 ≡ Some k.seg.0) ls → (q : ℕ) → is_kept ls q ≡ true → is_member nat_eq (map (λ (c : Named). c.cache.0) cs) q ≡ true
     within [] h q e = absurd (cc e)

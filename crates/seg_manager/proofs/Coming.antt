@@ -34,11 +34,11 @@ module _ (m n : ReferenceMachine) where
   used_turn k (x ∷ xs) zero c there stays same =
       let is : x ≡ Some c = cc there in
       λ i. (ap (used_at n k) is ∙ ap (λ (b : Bool). cond b None (Some c)) (ap (λ (j : ℕ). goes n j c) (let e : k ≡ k + 0 = omega arith in e) ∙ stays)) i
-          ∷ used_all (k + 1) xs (λ j d e. ap (λ (l : ℕ). goes n l d) (behind k j) ∙ same (suc j) d e (λ s. absurd (omega (arith, s))) ∙ ap (λ (l : ℕ). goes m l d) (sym (behind k j))) i
+      ∷ used_all (k + 1) xs (λ j d e. ap (λ (l : ℕ). goes n l d) (behind k j) ∙ same (suc j) d e (λ s. absurd (omega (arith, s))) ∙ ap (λ (l : ℕ). goes m l d) (sym (behind k j))) i
   used_turn k (x ∷ xs) (suc i) c there stays same =
       λ l. first_same k x (λ d e. same 0 d e (λ s. absurd (omega (arith, s)))) l
-          ∷ used_turn (k + 1) xs i c there (ap (λ (j : ℕ). goes n j c) (behind k i) ∙ stays)
-          (λ j d e apart. ap (λ (l : ℕ). goes n l d) (behind k j) ∙ same (suc j) d e (λ s. apart (omega (arith, s))) ∙ ap (λ (l : ℕ). goes m l d) (sym (behind k j))) l
+      ∷ used_turn (k + 1) xs i c there (ap (λ (j : ℕ). goes n j c) (behind k i) ∙ stays)
+      (λ j d e apart. ap (λ (l : ℕ). goes n l d) (behind k j) ∙ same (suc j) d e (λ s. apart (omega (arith, s))) ∙ ap (λ (l : ℕ). goes m l d) (sym (behind k j))) l
 
   module _ (cs : Caches) (apart : AreApart cs) (stored : n.stored ≡ m.stored) where
     at_named : (x j : ℕ) (d : Cache) → slice_get cs j ≡ Some (Some d) → is_named_by x (Some d) ≡ true → goes n (1 + j) d ≡ goes m (1 + j) d → stored_from n 1 cs x ≡ stored_from m 1 cs x

@@ -118,8 +118,10 @@ module _ (m : Machine) (pages : ℕ) where
 
   seen_untold : (cs : List Named) (ks : List Kept) (room : ℕ) (rs : List Mapped) (t : AreTied m None cs ks room rs) → n ≡ blank n → references_seen n None cs ≡ blank_references (add_cache (references_seen m None cs) (number_next m) c)
   seen_untold cs ks room rs t bare = λ i. record {
-    memory = record m { caches = (ap (used (whole_of n None cs) 1) (ap (λ (x : Machine). x.caches) bare) ∙ sym (blank_used (whole_of n None cs) 1 n.caches)
-        ∙ ap (map (option_map blank_cache)) (caches_temp None None cs ks room rs t)) i };
+    memory = record m {
+      caches = (ap (used (whole_of n None cs) 1) (ap (λ (x : Machine). x.caches) bare) ∙ sym (blank_used (whole_of n None cs) 1 n.caches)
+          ∙ ap (map (option_map blank_cache)) (caches_temp None None cs ks room rs t)) i;
+    };
     stored = λ x. None;
     openings = openings_in cs;
   }

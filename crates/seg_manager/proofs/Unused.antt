@@ -142,12 +142,15 @@ module _ (m : Machine) (told : Option Segments) (cs : List Named) (rs : List Map
   entry_says s of =
       let c = segment_cache m n s of in
       let e = entry_there m cs noted n s of in
-      let o = named_openings n s cs (ones_of m cs noted apart n s of) e.0 e.1 in
-      (e.0, e.1, o.0,
-      ap (λ (x : Option Cache). option_map_or (goes (whole_of m told cs) n) x false) c.1
-      ∙ ap (λ (x : Option ℕ). option_map_or (λ seg. not (nat_lt 0 (openings_in cs seg) || is_mapped m n)) x false) c.2
-      ∙ (λ i. not (nat_lt 0 (o.1 i) || sym (mapped_is m rs regions n) i))
-      ∙ no_reference e.0.openings (list_any (maps n) rs))
+      let o = named_openings n s cs (ones_of m cs noted apart n s of) e.0 e.1 in (
+        e.0,
+        e.1,
+        o.0,
+        ap (λ (x : Option Cache). option_map_or (goes (whole_of m told cs) n) x false) c.1
+            ∙ ap (λ (x : Option ℕ). option_map_or (λ seg. not (nat_lt 0 (openings_in cs seg) || is_mapped m n)) x false) c.2
+            ∙ (λ i. not (nat_lt 0 (o.1 i) || sym (mapped_is m rs regions n) i))
+            ∙ no_reference e.0.openings (list_any (maps n) rs),
+      )
 
   -- A cache is found to be unused exactly where nothing refers to it.
   pub record Finds : Type 0 where

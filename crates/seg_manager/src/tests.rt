@@ -67,15 +67,33 @@ fn play(
     };
     let piece = Piece::new(&[0x58]).ok_or("no piece")?;
     let script = [
-        (KeepCommand::Plain(Command::OpenSegment(SegId(1))), Shown::Cache(1)),
-        (KeepCommand::Plain(Command::OpenSegment(SegId(1))), Shown::Cache(1)),
+        (
+            KeepCommand::Plain(Command::OpenSegment(SegId(1))),
+            Shown::Cache(1),
+        ),
+        (
+            KeepCommand::Plain(Command::OpenSegment(SegId(1))),
+            Shown::Cache(1),
+        ),
         (KeepCommand::Plain(Command::MakeActor), Shown::Actor(1)),
-        (KeepCommand::Plain(Command::Map(ActorId(1), mapping)), Shown::Region(1)),
-        (KeepCommand::Plain(Command::Store(ActorId(1), 0x10000, piece)), Shown::Done),
+        (
+            KeepCommand::Plain(Command::Map(ActorId(1), mapping)),
+            Shown::Region(1),
+        ),
+        (
+            KeepCommand::Plain(Command::Store(ActorId(1), 0x10000, piece)),
+            Shown::Done,
+        ),
         (KeepCommand::Close(SegId(1)), Shown::Done),
         (KeepCommand::Close(SegId(1)), Shown::Done),
-        (KeepCommand::Close(SegId(1)), Shown::Refused(Refusal::NotOpen)),
-        (KeepCommand::Plain(Command::Load(ActorId(1), 0x10000, 1)), Shown::Byte(0x58)),
+        (
+            KeepCommand::Close(SegId(1)),
+            Shown::Refused(Refusal::NotOpen),
+        ),
+        (
+            KeepCommand::Plain(Command::Load(ActorId(1), 0x10000, 1)),
+            Shown::Byte(0x58),
+        ),
         (KeepCommand::Plain(Command::Unmap(RegionId(1))), Shown::Done),
         (KeepCommand::Plain(Command::MakeTemp(1)), Shown::Cache(2)),
         (copy(), Shown::Refused(Refusal::NoCache)),
@@ -105,8 +123,14 @@ fn a_kept_cache_is_opened_again(rt: HostRuntime) -> Result<(), Fail> {
     play(&rt, &mut manager, &mut mapper)?;
     let chooser = &mut Fifo::new();
     let open = KeepCommand::Plain(Command::OpenSegment(SegId(1)));
-    assert_eq!(rt; seen(manager.carry_out(&open, &mut mapper, chooser)), Shown::Cache(1));
-    assert_eq!(rt; seen(manager.carry_out(&copy(), &mut mapper, chooser)), Shown::Done);
+    assert_eq!(rt;
+        seen(manager.carry_out(&open, &mut mapper, chooser)),
+        Shown::Cache(1)
+    );
+    assert_eq!(rt;
+        seen(manager.carry_out(&copy(), &mut mapper, chooser)),
+        Shown::Done
+    );
     Ok(())
 }
 
@@ -120,7 +144,10 @@ fn where_none_is_kept_a_segment_is_opened_anew(rt: HostRuntime) -> Result<(), Fa
     assert_eq!(rt; first_stored(&mapper), 0x58);
     let chooser = &mut Fifo::new();
     let open = KeepCommand::Plain(Command::OpenSegment(SegId(1)));
-    assert_eq!(rt; seen(manager.carry_out(&open, &mut mapper, chooser)), Shown::Cache(3));
+    assert_eq!(rt;
+        seen(manager.carry_out(&open, &mut mapper, chooser)),
+        Shown::Cache(3)
+    );
     assert_eq!(rt;
         seen(manager.carry_out(&copy(), &mut mapper, chooser)),
         Shown::Refused(Refusal::NoCache)

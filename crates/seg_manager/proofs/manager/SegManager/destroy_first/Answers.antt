@@ -12,6 +12,8 @@ returns-in-Err g c =
 pub returns : goal.returns
 returns g c =
     let at = first_rest c.args.self.now.kept.items c.in-Some.first.now c.requires.some c.in-Some.ensures.lookup in
-    let gone = gone_first g.M.Mapper g.G.Gmi c.args.self.now c.destroy.new.self c.args.mapper.now c.destroy.new.mapper c.in-Some.first.now (drop 1 c.args.self.now.kept.items) (done_by c.destroy.result) at c.requires.can c.destroy.ensures (ap done_by c.in-Ok.is) in
-    (thins_one g.M.Mapper g.G.Gmi c.args.self.now c.destroy.new.self c.args.mapper.now c.destroy.new.mapper c.in-Some.first.now (drop 1 c.args.self.now.kept.items) (done_by c.destroy.result) at c.requires.can c.destroy.ensures gone
-    (record c.args.self.now { caches = c.drop_named.new.caches; kept = c.pop_front.new.self }) refl refl c.pop_front.ensures.rest c.pop_front.ensures.capacity c.drop_named.ensures.items c.drop_named.ensures.capacity, c.pop_front.ensures.rest)
+    let gone = gone_first g.M.Mapper g.G.Gmi c.args.self.now c.destroy.new.self c.args.mapper.now c.destroy.new.mapper c.in-Some.first.now (drop 1 c.args.self.now.kept.items) (done_by c.destroy.result) at c.requires.can c.destroy.ensures (ap done_by c.in-Ok.is) in (
+      thins_one g.M.Mapper g.G.Gmi c.args.self.now c.destroy.new.self c.args.mapper.now c.destroy.new.mapper c.in-Some.first.now (drop 1 c.args.self.now.kept.items) (done_by c.destroy.result) at c.requires.can c.destroy.ensures gone
+          (record c.args.self.now { caches = c.drop_named.new.caches; kept = c.pop_front.new.self }) refl refl c.pop_front.ensures.rest c.pop_front.ensures.capacity c.drop_named.ensures.items c.drop_named.ensures.capacity,
+      c.pop_front.ensures.rest,
+    )
