@@ -1,5 +1,5 @@
 -- Lines that are accesses.
-use Rattle.std.proofs.Common.{◌≡◌, ◌<◌, ◌≤◌, ◌∙◌, ℕ, Bool, true, false, List, [], ◌∷◌, length, Option, Some, None, Ok, Err, nat_lt, refl, sym, ap, arith, inl, inr}
+use Rattle.std.proofs.Common.{◌≡◌, ◌<◌, ◌≤◌, ◌∙◌, ℕ, Bool, true, false, List, [], ◌∷◌, length, Option, Some, None, Ok, Err, nat_lt, refl, sym, ap, subst, arith, inl, inr}
 use Rattle.std.specs.Prelude.{◌||◌, MatchOption, IfSome, bytes_eq, codes, if◌then◌else◌}
 use Rattle.std.specs.Option.{ok_or}
 use Rattle.std.proofs.lemmas.Bool.{cases_Bool}
@@ -10,6 +10,7 @@ use Rattle.vm_ids.specs.declared.numbers.ActorId.{ActorId}
 use Rattle.vm_ids.specs.declared.refusal.Refusal.TheVariants.{BadLine}
 use Rattle.vm_model.specs.Run.{Read, actor_of_line}
 use Rattle.actor_script.specs.Forms.{command_of, form_of, verb_form, load_form, store_form}
+use Rattle.actor_script.specs.Verbs.{other_form}
 use Rattle.actor_script.specs.Words.{words_of}
 use Rattle.actor_script.proofs.Verbs.{is_load, is_store}
 use Rattle.actor_script.proofs.Operands.{load_short, store_short}
@@ -73,9 +74,9 @@ none_asked : (o : Option Command) → IfSome o IsAccess → actor_of_line (ok_or
 none_asked None is none = refl
 none_asked (Some c) is none = absurd (cc (is.1.1, none))
 
-pub other_form : (verb : List ℕ) (operands : List (List ℕ)) → actor_of_line (ok_or (verb_form verb operands) BadLine) ≡ None
-    → (if bytes_eq verb (codes "load") || bytes_eq verb (codes "store") then None else verb_form verb operands) ≡ verb_form verb operands
-other_form verb operands none = elim (cases_Bool (bytes_eq verb (codes "load"))) [
+is_other : (verb : List ℕ) (operands : List (List ℕ)) → actor_of_line (ok_or (verb_form verb operands) BadLine) ≡ None
+    → other_form verb operands ≡ verb_form verb operands
+is_other verb operands none = elim (cases_Bool (bytes_eq verb (codes "load"))) [
   | inl l ↦
       let is = is_load verb operands l in
       rw l (sym (is ∙ none_asked (load_form operands) (load_is operands) (rw is at none)))
@@ -86,3 +87,9 @@ other_form verb operands none = elim (cases_Bool (bytes_eq verb (codes "load")))
     | inr s ↦ rw (l, s) refl
   ]
 ]
+
+pub other_words : (line verb : List ℕ) (operands : List (List ℕ)) → words_of line ≡ verb ∷ operands
+    → actor_of_line (ok_or (form_of (words_of line)) BadLine) ≡ None → other_form verb operands ≡ form_of (words_of line)
+other_words line verb operands words none =
+    is_other verb operands (subst (λ (ws : List (List ℕ)). actor_of_line (ok_or (form_of ws) BadLine) ≡ None) words none)
+    ∙ sym (ap form_of words)

@@ -1,6 +1,7 @@
 -- Lines that are too long, or of too many words.
 use Rattle.std.proofs.Common.{◌≡◌, ◌<◌, ◌⊎◌, ℕ, List, [], ◌∷◌, length, Option, None, Bool, true, false, nat_lt, refl, ap, arith, inl, inr}
-use Rattle.std.specs.Prelude.{bytes_eq, codes, if◌then◌else◌, option_map, ok_or, Result, Err}
+use Rattle.actor_script.specs.Verbs.{other_form}
+use Rattle.std.specs.Prelude.{◌||◌, bytes_eq, codes, if◌then◌else◌, option_map, ok_or, Result, Err}
 use Rattle.std.proofs.lemmas.Bool.{lt-ltb}
 use Rattle.vm_ids.specs.declared.refusal.Refusal.{Refusal}
 use Rattle.vm_ids.specs.declared.refusal.Refusal.TheVariants.{BadLine}
@@ -197,6 +198,9 @@ no_verb verb xs h =
     neither (bytes_eq verb (codes "pageout")) _ _ (no_pageout xs h) (
     neither (bytes_eq verb (codes "chain")) _ _ (no_chain xs h) (
     neither (bytes_eq verb (codes "stat")) _ _ (no_stat xs h) refl))))))))))))))))))))))
+
+pub no_other : (word : List ℕ) (operands : List (List ℕ)) → 7 < length operands → other_form word operands ≡ None
+no_other word xs h = neither (bytes_eq word (codes "load") || bytes_eq word (codes "store")) _ _ refl (no_verb word xs (omega arith))
 
 no_longer_form : (words : List (List ℕ)) → 7 < length words → form_of words ≡ None
 no_longer_form [] h = absurd (omega arith)

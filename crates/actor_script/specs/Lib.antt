@@ -5,5 +5,6 @@ pub mod Operands
 pub mod PortForms
 pub mod Summary
 pub mod Text
+pub mod Verbs
 pub mod Words
 pub mod Writing

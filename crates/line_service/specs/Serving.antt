@@ -1,11 +1,10 @@
 -- What the calls of a service say.
-use Rattle.std.specs.Prelude.{◌≡◌, ◌≢◌, ◌<◌, ◌==◌, ◌||◌, ◌^◌, ℕ, Bool, true, false, not, List, [], ◌∷◌, Option, Ok, Err, IsOk}
+use Rattle.std.specs.Prelude.{◌≡◌, ◌≢◌, ◌^◌, ℕ, Bool, true, List, [], ◌∷◌, Option, Ok, Err}
 use Rattle.std.specs.List.{AllByRecursion}
 use Rattle.vm_ids.specs.Counting.{MapperCounts, Rise, no_counts}
 use Rattle.vm_ids.specs.Held.{Held}
 use Rattle.vm_ids.specs.declared.access.Access.{Access}
 use Rattle.vm_ids.specs.declared.numbers.ActorId.{ActorId}
-use Rattle.vm_ids.specs.declared.reply.FaultAt.TheVariants.{Page}
 use Rattle.vm_ids.specs.declared.reply.Trouble.TheVariants.{Mapper}
 use Rattle.vm_model.specs.Answering.{Answer}
 use Rattle.vm_model.specs.Steps.{Semantics}

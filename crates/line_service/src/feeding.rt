@@ -1,5 +1,5 @@
 // Lines out of bytes, each answered or parked as it ends.
-ghost use Rattle.std.specs.Prelude.{◌≡◌, ℕ, List, [], ◌∷◌, ◌≤◌, ◌+◌, ◌++◌, ◌==◌, length, position, MatchOption, OnOk};
+ghost use Rattle.std.specs.Prelude.{◌≡◌, ℕ, List, [], ◌∷◌, ◌≤◌, ◌+◌, ◌++◌, length, MatchOption, OnOk};
 ghost use Rattle.vm_ids.specs.Counting.{HasCause};
 ghost use Rattle.line_service.specs.Gathering.{Grew, with_gathered};
 ghost use Rattle.line_service.specs.Going.{scene_of};
@@ -10,22 +10,16 @@ ghost use Rattle.line_service.specs.Underway.{CanAnswer, Proceeds};
 use crate::answering::answer_line;
 use crate::progress::Progress;
 use crate::{Gathered, Service};
+use memchr::memchr;
 use pull_wait::PullWait;
 use vm_port::{Chooser, Dispatcher, Failed, Mapper, Sink};
-
-// Where the first line feed stands.
-fn first_feed(bytes: &[u8]) -> Option<usize>
-    ensures { result ≡ position (λ b. b == 10) bytes.now }
-{
-    bytes.iter().position(|byte| *byte == b'\n')
-}
 
 // The first line, where a line feed ends it.
 fn first_line(bytes: &[u8]) -> Option<&[u8]>
     ensures { MatchOption result (HasNoFeed bytes.now)
         (λ line. HasNoFeed line.now × IsFront (line.now ++ 10 ∷ []) bytes.now) }
 {
-    let end = first_feed(bytes)?;
+    let end = memchr(b'\n', bytes)?;
     Some(&bytes[..end])
 }
 
