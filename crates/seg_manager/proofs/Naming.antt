@@ -111,12 +111,12 @@ module _ (seg : ℕ) where
   named_seg None e = absurd (cc e)
   named_seg (Some s) e = ap (λ (n : ℕ). Some n) (eqb-true s seg e)
 
-  put_own : (o : Option ℕ) (pages : List Page) (stored : Stored) → option_map_or (λ s. s == seg) o false ≡ true → put_stored o pages stored seg ≡ Some pages
+  pub put_own : (o : Option ℕ) (pages : List Page) (stored : Stored) → option_map_or (λ s. s == seg) o false ≡ true → put_stored o pages stored seg ≡ Some pages
   put_own o pages stored e =
       ap (λ (x : Option ℕ). put_stored x pages stored seg) (named_seg o e)
       ∙ ap (λ (b : Bool). cond b (Some pages) (stored seg)) (eq-eqb seg seg refl)
 
-  put_other : (o : Option ℕ) (pages : List Page) (stored : Stored) → option_map_or (λ s. s == seg) o false ≡ false → put_stored o pages stored seg ≡ stored seg
+  pub put_other : (o : Option ℕ) (pages : List Page) (stored : Stored) → option_map_or (λ s. s == seg) o false ≡ false → put_stored o pages stored seg ≡ stored seg
   put_other None pages stored e = refl
   put_other (Some s) pages stored e =
       ap (λ (b : Bool). cond b (Some pages) (stored seg)) other
