@@ -9,7 +9,7 @@ ghost use Rattle.vm_model.specs.Asking.{IsWellFormed};
 ghost use Rattle.gmi_calls.specs.Calling.{CallDone, Fits, MapperCall, done_by};
 ghost use Rattle.gmi_calls.specs.Managing.{meanings_of};
 ghost use Rattle.seg_manager.specs.Calling.{Acquires, AnswersKept, IsServed, Releases, SegmentCall, beginning, made_by};
-ghost use Rattle.seg_manager.specs.Inner.{IsClosed, IsOpenedAgain, StandsAt, first_of, is_too_many, mapping_shown, shown, span_shown, unused_in};
+ghost use Rattle.seg_manager.specs.Inner.{IsClosed, IsOpenedAgain, StandsAt, first_of, is_too_many, mapping_shown, shown, span_shown, staying, unused_in, unused_then};
 ghost use Rattle.seg_manager.specs.Seen.{is_kept, state_of};
 ghost use Rattle.seg_manager.specs.Thinning.{IsDestroyed, IsRoomMade, IsTried, Trims, credit};
 ghost use Rattle.seg_manager.specs.Tying.{CanCall, IsBare};
@@ -445,7 +445,17 @@ impl<G> SegManager<G> {
 
     // Takes the regions away that go, in order of address, and keeps the caches to which nothing
     // refers any more.
-    fn drop_regions(&mut self, leaving: Leaving) {
+    fn drop_regions(&mut self, leaving: Leaving)
+        requires room { length self.old.kept.items
+            + length (unused_then self.old.caches.items leaving self.old.regions.items)
+            ≤ deque_capacity self.old.kept }
+        ensures regions { self.new.regions.items ≡ staying leaving self.old.regions.items }
+        ensures kept { self.new.kept.items ≡ self.old.kept.items
+            ++ unused_then self.old.caches.items leaving self.old.regions.items }
+        ensures capacity { deque_capacity self.new.kept ≡ deque_capacity self.old.kept }
+        ensures same { self.new
+            ≡ record self.old { kept = self.new.kept; regions = self.new.regions } }
+    {
         while let Some(place) = first_leaving(&self.regions, leaving) {
             let mapped = self.regions.remove(place);
             self.keep_unused(mapped.cache);
