@@ -1,7 +1,7 @@
 -- Regions go, one after the other: which caches nothing refers to any more, by the regions that are
 -- noted.
 use Rattle.std.proofs.Common.{◌≡◌, ◌≢◌, ◌==◌, ℕ, zero, suc, ◌+◌, ◌-◌, ◌<◌, ◌≤◌, Bool, true, false, cond, List, [], ◌∷◌, ◌++◌, filter, length, map, remove, Option, Some, None, refl, sym, ap, subst, ◌∙◌, arith}
-use Rattle.std.specs.Prelude.{◌||◌, IfSome, nat_lt, not, slice_get}
+use Rattle.std.specs.Prelude.{◌||◌, ◌&&◌, IfSome, nat_lt, not, slice_index_or}
 use Rattle.std.specs.List.{AllByRecursion, list_any, position_from}
 use Rattle.std.specs.Option.{option_map_or}
 use Rattle.std.specs.VecDeque.{deque_capacity}
@@ -34,8 +34,7 @@ module _ {A : Type 0} (test : A → Bool) where
   -- The first that passes the test stands here.
   pub record IsFirst (xs : List A) (p : ℕ) : Type 0 where
     pub x : A
-    pub there : slice_get xs p ≡ Some x
-    pub within : p < length xs
+    pub there : (d : A) → slice_index_or xs p d ≡ x
     pub gone : filter test xs ≡ x ∷ filter test (remove xs p)
     pub stay : others (remove xs p) ≡ others xs
 
@@ -47,8 +46,7 @@ module _ {A : Type 0} (test : A → Bool) where
       by false t e = absurd (let h : k + 1 ≤ k + 0 = past_start test (k + 1) ys (k + 0) e in omega (arith, h))
       by true t e = record {
         x = y;
-        there = refl;
-        within = omega arith;
+        there = λ d. refl;
         gone = ap (λ (b : Bool). cond b (y ∷ filter test ys) (filter test ys)) t;
         stay = sym (ap (λ (b : Bool). cond (not b) (y ∷ others ys) (others ys)) t);
       }
@@ -61,7 +59,6 @@ module _ {A : Type 0} (test : A → Bool) where
           record {
             x = r.x;
             there = r.there;
-            within = omega (arith, r.within);
             gone = (λ i. cond (t i) (y ∷ filter test ys) (r.gone i)) ∙ sym (ap (λ (b : Bool). r.x ∷ cond b (y ∷ filter test (remove ys p)) (filter test (remove ys p))) t);
             stay = λ i. cond (not (test y)) (y ∷ r.stay i) (r.stay i);
           }
@@ -128,13 +125,18 @@ module _ {Manager : Type 0} (old : SegManager Manager) (l : Leaving) (now : SegM
   caches_same : now.caches ≡ old.caches
   caches_same = ap (λ (x : SegManager Manager). x.caches) d.same
 
-  module _ (p : ℕ) (f : IsFirst (leaves l) now.regions.items p) where
-    abbrev more : List Kept
-    more = unused_in now.caches.items (remove now.regions.items p) f.x.cache
+  module _ (p : ℕ) (at : Some p ≡ position_from (leaves l) 0 now.regions.items) where
+    first : IsFirst (leaves l) now.regions.items p
+    first = first_found (leaves l) 0 p now.regions.items (sym at ∙ ap (λ (j : ℕ). Some j) (let e : p ≡ 0 + p = omega arith in e))
 
-    parts : unused_then old.caches.items l now.regions.items ≡ more ++ unused_then old.caches.items l (remove now.regions.items p)
-    parts = unused_first old.caches.items l now.regions.items p f
-        ∙ ap (λ cs. unused_in cs.items (remove now.regions.items p) f.x.cache ++ unused_then old.caches.items l (remove now.regions.items p)) (sym caches_same)
+  module _ (p : ℕ) (at : Some p ≡ position_from (leaves l) 0 now.regions.items) (rest : List Mapped) (gone : rest ≡ remove now.regions.items p) (x : Mapped) (is : x ≡ slice_index_or now.regions.items p x) where
+    abbrev more : List Kept
+    more = unused_in now.caches.items rest x.cache
+
+    parts : unused_then old.caches.items l now.regions.items ≡ more ++ unused_then old.caches.items l rest
+    parts =
+        unused_first old.caches.items l now.regions.items p (first p at)
+        ∙ (λ i. unused_in (sym caches_same i).items (sym gone i) (sym (is ∙ (first p at).there x) i).cache ++ unused_then old.caches.items l (sym gone i))
 
     -- there is room to keep one more
     pub room_more : length now.kept.items + length more ≤ deque_capacity now.kept
@@ -146,29 +148,29 @@ module _ {Manager : Type 0} (old : SegManager Manager) (l : Leaving) (now : SegM
       length-append old.kept.items (unused_then old.caches.items l old.regions.items),
       length-append now.kept.items (unused_then old.caches.items l now.regions.items),
       ap length parts,
-      length-append more (unused_then old.caches.items l (remove now.regions.items p)),
+      length-append more (unused_then old.caches.items l rest),
     )
 
-    pub dropping_more : (new : SegManager Manager) → new.regions.items ≡ remove now.regions.items p → new.kept.items ≡ now.kept.items ++ more → deque_capacity new.kept ≡ deque_capacity now.kept
+    pub dropping_more : (new : SegManager Manager) → new.regions.items ≡ rest → new.kept.items ≡ now.kept.items ++ more → deque_capacity new.kept ≡ deque_capacity now.kept
         → new ≡ record now { kept = new.kept; regions = new.regions } → IsDropping old l new
     dropping_more new regions kept capacity same = record {
-      stay = ap (staying l) regions ∙ f.stay ∙ d.stay;
+      stay = ap (staying l) (regions ∙ gone) ∙ (first p at).stay ∙ d.stay;
       kept = (λ i. kept i ++ unused_then old.caches.items l (regions i))
-          ∙ append_assoc now.kept.items more (unused_then old.caches.items l (remove now.regions.items p))
+          ∙ append_assoc now.kept.items more (unused_then old.caches.items l rest)
           ∙ ap (λ (ks : List Kept). now.kept.items ++ ks) (sym parts)
           ∙ d.kept;
       capacity = capacity ∙ d.capacity;
       same = same ∙ (λ i. record (d.same i) { kept = new.kept; regions = new.regions });
     }
 
-  module _ (none : position_from (leaves l) 0 now.regions.items ≡ None) where
+  module _ (none : None ≡ position_from (leaves l) 0 now.regions.items) where
     pub dropped_regions : now.regions.items ≡ staying l old.regions.items
-    dropped_regions = sym (none_found (leaves l) 0 now.regions.items none).1 ∙ d.stay
+    dropped_regions = sym (none_found (leaves l) 0 now.regions.items (sym none)).1 ∙ d.stay
 
     pub dropped_kept : now.kept.items ≡ old.kept.items ++ unused_then old.caches.items l old.regions.items
     dropped_kept =
         sym (append-nil now.kept.items)
-        ∙ ap (λ (gone : List Mapped). now.kept.items ++ unused_after old.caches.items (staying l now.regions.items) gone) (sym (none_found (leaves l) 0 now.regions.items none).0)
+        ∙ ap (λ (gone : List Mapped). now.kept.items ++ unused_after old.caches.items (staying l now.regions.items) gone) (sym (none_found (leaves l) 0 now.regions.items (sym none)).0)
         ∙ d.kept
 
 -- What is noted

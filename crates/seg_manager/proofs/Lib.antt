@@ -28,5 +28,5 @@ pub mod Starting
 pub mod Lifting
 pub mod Temping
 pub mod Dropping
-pub mod Ending
+pub mod Parting
 pub mod Temporary

@@ -35,7 +35,7 @@ use Rattle.gmi_calls.specs.declared.gmi.Gmi.{Ghosts as GhostsOfGmi}
 use Rattle.gmi_calls.proofs.Rising.{rise_none}
 use Rattle.gmi_calls.proofs.Still.{without_mapper}
 use Rattle.seg_manager.specs.Answering.{Answered, MayHave, leaving_by, plain_of, with_memory}
-use Rattle.seg_manager.specs.Calling.{KeepsLastBy, SegmentCall, below}
+use Rattle.seg_manager.specs.Calling.{KeepsLastBy, SegmentCall, Serves, below}
 use Rattle.seg_manager.specs.Inner.{leaves, staying, unused_then}
 use Rattle.seg_manager.specs.Keeping.{AreLast, left_by, left_one, mapped_at, mapped_by, mapped_in, mapped_under, referred}
 use Rattle.seg_manager.specs.Outcome.{Gives, Outcome}
@@ -92,20 +92,17 @@ row (leavings.Actor actor) m f h = by (numbered m.actors actor.0)
   where
     by : (o : Option Actor) → plain.with_some o refusals.NoActor m (λ rs. plain.reply replies.Done (record m { actors = slice_set m.actors (actor.0 - 1) None }))
         ≡ answered_so m (if_some o refusals.NoActor (λ rs. Ok (slice_set m.actors (actor.0 - 1) None)))
-    unfolding plain.with_some
     by None = refl
     by (Some rs) = refl
 row (leavings.Region region) m f h = by (region_with region.0 m.actors)
   where
     locked : (b : Bool) → plain.unless b refusals.Locked m (plain.reply replies.Done (record m { actors = map (option_map (without_region region.0)) m.actors }))
         ≡ answered_so m (cond b (Err refusals.Locked) (Ok (map (option_map (without_region region.0)) m.actors)))
-    unfolding plain.unless
     locked true = refl
     locked false = refl
 
     by : (o : Option Region) → plain.with_some o refusals.NoRegion m (λ r. plain.unless r.locked refusals.Locked m (plain.reply replies.Done (record m { actors = map (option_map (without_region region.0)) m.actors })))
         ≡ answered_so m (if_some o refusals.NoRegion (λ r. cond r.locked (Err refusals.Locked) (Ok (map (option_map (without_region region.0)) m.actors))))
-    unfolding plain.with_some
     by None = refl
     by (Some r) = locked r.locked
 
@@ -346,6 +343,11 @@ left_seen (Some h) m cs rs regions l now by apart bare =
 
 -- The call
 
+serves_by : {Manager X Chooser : Type 0} (M : GhostsOfMapper X) (G : GhostsOfGmi Manager X Chooser) (before : X) (old : SegManager Manager) (l : Leaving) (a : Answer) (after : X) (new : SegManager Manager)
+    → SegmentCall M G before old (commands.Plain (command_of l)) a after new → KeepsLastBy M G before old (caches_of l (G.machine old.gmi (M.held before))) a after new → Serves M G before old (command_of l) a after new
+serves_by M G before old (leavings.Actor actor) a after new call kept = record { call = call; kept = kept }
+serves_by M G before old (leavings.Region region) a after new call kept = record { call = call; kept = kept }
+
 module _ {Manager X Chooser : Type 0} (M : GhostsOfMapper X) (G : GhostsOfGmi Manager X Chooser) (before : X) (old : SegManager Manager) (l : Leaving) (can : CanCall G old (M.held before) (M.page_bytes before)) where
   abbrev m : Machine
   m = G.machine old.gmi (M.held before)
@@ -377,7 +379,7 @@ module _ {Manager X Chooser : Type 0} (M : GhostsOfMapper X) (G : GhostsOfGmi Ma
 
     -- Done
     module _ (call : CallDone (meanings_of G) old.gmi (command_of l) (Ok replies.Done) gmi) (kept : SegManager Manager) (regions_are : kept.regions.items ≡ staying l rs)
-        (kept_are : kept.kept.items ≡ old.kept.items ++ unused_then cs l rs) (capacity : deque_capacity kept.kept ≡ deque_capacity old.kept) where
+        (kept_are : kept.kept.items ≡ old.kept.items ++ unused_then cs l rs) (capacity : deque_capacity kept.kept ≡ deque_capacity old.kept) (same : kept ≡ record old { gmi = gmi; kept = kept.kept; regions = kept.regions }) where
       done : IsDone l m (Ok replies.Done) n
       done = elim (answered_here (Ok replies.Done) call) [
         | inl d ↦ d
@@ -410,6 +412,12 @@ module _ {Manager X Chooser : Type 0} (M : GhostsOfMapper X) (G : GhostsOfGmi Ma
 
       mid_credit : G.made old.gmi ≤ 2 ^ 61 → credit M G mid before ≤ 2 ^ 62
       mid_credit made = omega (arith, made, made_less, credit_few M G mid before mid_can)
+
+      pub trim_can : CanCall G kept (M.held before) (M.page_bytes before)
+      trim_can = subst (λ (x : SegManager Manager). CanCall G x (M.held before) (M.page_bytes before)) (sym same) mid_can
+
+      pub trim_made : G.made old.gmi ≤ 2 ^ 61 → credit M G kept before ≤ 2 ^ 62
+      trim_made made = subst (λ (x : SegManager Manager). credit M G x before ≤ 2 ^ 62) (sym same) (mid_credit made)
 
       module _ (after : X) (new : SegManager Manager) (trims : Trims M G before mid after new) where
         abbrev next : ReferenceMachine
@@ -456,6 +464,11 @@ module _ {Manager X Chooser : Type 0} (M : GhostsOfMapper X) (G : GhostsOfGmi Ma
         done_kept : KeepsLastBy M G before old (caches_of l m) (Ok replies.Done) after new
         done_kept = subst (λ (xs : List ℕ). AreLast old.limit (M.counts before).faults (M.counts after).faults xs (kept_segments new.kept.items)) all trims.kept
 
+      pub done_serves : (after : X) (new : SegManager Manager) → Trims M G before kept after new → Serves M G before old (command_of l) (Ok replies.Done) after new
+      done_serves after new trims =
+          let by = subst (λ (x : SegManager Manager). Trims M G before x after new) same trims in
+          serves_by M G before old l (Ok replies.Done) after new (done_call after new by) (done_kept after new by)
+
     -- Refused
     module _ (trouble : Trouble) (call : CallDone (meanings_of G) old.gmi (command_of l) (Err trouble) gmi) where
       not_done : IsRefused l m (Err trouble) n
@@ -464,16 +477,16 @@ module _ {Manager X Chooser : Type 0} (M : GhostsOfMapper X) (G : GhostsOfGmi Ma
         | inr r ↦ r
       ]
 
-      gives : (r : Refusal) (seen : ReferenceMachine) (h : Segments) → Gives seen (commands.Plain (command_of l)) h 0 (Err (troubles.Refused r)) seen → Outcome seen None (commands.Plain (command_of l)) h 0 (Err (troubles.Refused r)) seen no_counts
-      gives refusals.TooMany seen h g = inr g
-      gives r seen h g = g
+      gives : (r : Refusal) (is : ReferenceMachine) (h : Segments) → Gives is (commands.Plain (command_of l)) h 0 (Err (troubles.Refused r)) is → Outcome is None (commands.Plain (command_of l)) h 0 (Err (troubles.Refused r)) is no_counts
+      gives refusals.TooMany is h g = inr g
+      gives r is h g = g
 
       refused_row : (h : Segments) → plain_of (references_seen m told cs) (command_of l) h 0 ≡ record { answer = Err (troubles.Refused not_done.refusal); next = references_seen m told cs }
       refused_row h =
           segment_row l (references_seen m told cs) h 0
           ∙ ap (λ (x : Then). leaving_by (references_seen m told cs) (answered_so (references_seen m told cs).memory x)) (ap (actors_then l) (seen_actors told m cs) ∙ not_done.by)
 
-      pub refused_call : SegmentCall M G before old (commands.Plain (command_of l)) (Err trouble) before (record old { gmi = gmi })
+      refused_call : SegmentCall M G before old (commands.Plain (command_of l)) (Err trouble) before (record old { gmi = gmi })
       refused_call = subst (λ (t : Answer). SegmentCall M G before old (commands.Plain (command_of l)) t before (record old { gmi = gmi })) (sym not_done.answer) (record {
         can = able_after M G old gmi before before (command_of l) (Err trouble) can (with_mapper (Err trouble) call) old (omega (arith, can.few, ap (λ (x : Machine). length x.caches) not_done.next))
             (subst (λ (x : Machine). AreTied x told cs old.kept.items (deque_capacity old.kept) rs) (sym not_done.next) can.tied);
@@ -489,3 +502,6 @@ module _ {Manager X Chooser : Type 0} (M : GhostsOfMapper X) (G : GhostsOfGmi Ma
           denied = refl;
         };
       })
+
+      pub refused_serves : Serves M G before old (command_of l) (Err trouble) before (record old { gmi = gmi })
+      refused_serves = serves_by M G before old l (Err trouble) before (record old { gmi = gmi }) refused_call refl

@@ -6,7 +6,7 @@ use Rattle.gmi_calls.proofs.Still.{without_mapper}
 use Rattle.seg_manager.proofs.Temping.{temp_leaves}
 use Rattle.seg_manager.proofs.Thinned.{thins_none}
 use Rattle.seg_manager.proofs.Tried.{can_tried, made_tried, tries_err, tries_more, tries_ok}
-use Rattle.seg_manager.proofs.commands.SegManager.make_temp.Goals as goal
+use Rattle.seg_manager.proofs.manager.SegManager.make_temp.Goals as goal
 
 pub loop-cache-init : goal.loop-cache-init
 loop-cache-init g c = thins_none g.M.Mapper g.G.Gmi c.args.mapper.now c.args.self.now c.requires.can
