@@ -66,7 +66,6 @@ impl<G> SegManager<G> {
         G: Gmi<M, C>,
         requires some { 1 ≤ pages }
         requires can { CanCall G.Gmi self.old (M.held mapper.old) (M.page_bytes mapper.old) }
-        requires can { CanCall G.Gmi self.old (M.held mapper.old) (M.page_bytes mapper.old) }
         requires made { G.made self.old.gmi ≤ 2 ^ 61 }
         ensures { Serves M.Mapper G.Gmi mapper.old self.old (Command.MakeTemp pages)
             (answer_by Reply.Cache result) mapper.new self.new }

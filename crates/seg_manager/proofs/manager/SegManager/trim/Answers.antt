@@ -1,6 +1,6 @@
 use Rattle.std.proofs.Common.{arith}
 use Rattle.seg_manager.proofs.Trimmed.{trimmed, trimmed_failed, trimming_more, trimming_none}
-use Rattle.seg_manager.proofs.keeping.SegManager.trim.Goals as goal
+use Rattle.seg_manager.proofs.manager.SegManager.trim.Goals as goal
 
 pub loop-self-init : goal.loop-self-init
 loop-self-init g c = trimming_none g.M.Mapper g.G.Gmi c.args.mapper.now c.args.self.now c.requires.can

@@ -2,7 +2,7 @@ use Rattle.std.proofs.Common.{◌≡◌, ◌++◌, ◌∷◌, [], List, ap, sym,
 use Rattle.seg_manager.specs.declared.tables.Named.{Named}
 use Rattle.seg_manager.proofs.Beginning.{can_by, credit_by, lacks_by, not_by, ok_by, start_anew}
 use Rattle.seg_manager.proofs.Closing.{kept_few}
-use Rattle.seg_manager.proofs.openings.SegManager.open_anew.Goals as goal
+use Rattle.seg_manager.proofs.manager.SegManager.open_anew.Goals as goal
 
 pub reserve_cache-requires : goal.reserve_cache-requires
 reserve_cache-requires g c =

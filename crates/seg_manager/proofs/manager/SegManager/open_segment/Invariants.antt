@@ -1,6 +1,6 @@
 use Rattle.std.proofs.Common.{length}
 use Rattle.seg_manager.specs.Thinning.{Thins}
-use Rattle.seg_manager.proofs.commands.SegManager.make_temp.Given as goal
+use Rattle.seg_manager.proofs.manager.SegManager.open_segment.Given as goal
 
 abbrev pub invariant-loop-cache : goal.invariant-loop-cache
 invariant-loop-cache g l = Thins g.M.Mapper g.G.Gmi l.fn.mapper l.fn.self l.mapper l.self

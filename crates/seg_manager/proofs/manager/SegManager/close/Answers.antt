@@ -1,7 +1,7 @@
 use Rattle.std.proofs.Common.{refl, arith}
 use Rattle.seg_manager.specs.Inner.{first_of}
 use Rattle.seg_manager.proofs.Finding.{closes, none_left, not_noted, place_below}
-use Rattle.seg_manager.proofs.keeping.SegManager.close.Goals as goal
+use Rattle.seg_manager.proofs.manager.SegManager.close.Goals as goal
 
 pub returns-in_default-clause-closed : goal.returns-in_default-clause-closed
 returns-in_default-clause-closed g c = (refl, not_noted c.deref.result.now c.args.self.now.caches.items c.args.seg.0 c.deref.ensures.value c.in_default.ensures)

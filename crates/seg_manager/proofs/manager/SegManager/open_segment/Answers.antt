@@ -3,7 +3,7 @@ use Rattle.vm_ids.specs.declared.command.Command.TheVariants.{OpenSegment}
 use Rattle.seg_manager.specs.Inner.{first_of}
 use Rattle.seg_manager.proofs.Thinned.{thins_none}
 use Rattle.seg_manager.proofs.Tried.{can_tried, made_tried, none_noted, noted_none, open_leaves, tries_err, tries_more}
-use Rattle.seg_manager.proofs.openings.SegManager.open_segment.Goals as goal
+use Rattle.seg_manager.proofs.manager.SegManager.open_segment.Goals as goal
 
 pub loop-cache-init : goal.loop-cache-init
 loop-cache-init g c = thins_none g.M.Mapper g.G.Gmi c.args.mapper.now c.args.self.now c.requires.can
