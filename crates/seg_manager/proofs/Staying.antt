@@ -1,5 +1,5 @@
 -- A command that leaves what is seen: what such a call of the manager of segments comes to.
-use Rattle.std.proofs.Common.{◌≡◌, ℕ, ◌+◌, ◌*◌, ◌^◌, ◌≤◌, length, Option, Some, None, refl, sym, ap, ◌∙◌, arith}
+use Rattle.std.proofs.Common.{◌≡◌, ℕ, ◌+◌, ◌*◌, ◌^◌, ◌≤◌, List, length, Option, Some, None, refl, sym, ap, ◌∙◌, arith}
 use Rattle.std.specs.Prelude.{IfNone, Err, option_map}
 use Rattle.vm_ids.specs.Counting.{MapperCounts, Rise}
 use Rattle.vm_ids.specs.Held.{Segments, segments_of}
@@ -33,7 +33,7 @@ same_seen None (Some h) e before after r x y bare = absurd (cc e)
 same_seen (Some h) None e before after r x y bare = absurd (cc e)
 same_seen (Some h) (Some g) e before after r x y bare = (x, y)
 
-module _ {Manager X Chooser : Type 0} (M : GhostsOfMapper X) (G : GhostsOfGmi Manager X Chooser) (before : X) (old : SegManager Manager) (can : CanCall G old (M.held before) (M.page_bytes before)) where
+module _ {Manager X Chooser : Type 0} (M : GhostsOfMapper X) (G : GhostsOfGmi Manager X Chooser) (before : X) (old : SegManager Manager) (able : CanCall G old (M.held before) (M.page_bytes before)) where
   -- The same caches are seen then.
   pub record Stays (after : X) (new : SegManager Manager) (rises : MapperCounts) : Type 0 where
     pub can : CanCall G new (M.held after) (M.page_bytes after)
@@ -56,7 +56,7 @@ module _ {Manager X Chooser : Type 0} (M : GhostsOfMapper X) (G : GhostsOfGmi Ma
     is = record {
       step = step_whole (state_of G old (M.held before)) (state_of G new (M.held after)) command (Err t) rises (seen_with M G old before) (seen_with M G old before) (λ h. (0, outcome h))
           (same_seen (segments_of (M.held before)) (segments_of (M.held after)) s.denied (state_of G old (M.held before)) (state_of G new (M.held after)) (seen_with M G old before) refl s.seen
-          (blank_seen (segments_of (M.held before)) (machine_at M G old before) old.caches.items (blank_told (M.held before) (machine_at M G old before) can.blank)));
+          (blank_seen (segments_of (M.held before)) (machine_at M G old before) old.caches.items (blank_told (M.held before) (machine_at M G old before) able.blank)));
       denied = s.denied;
     };
   }

@@ -48,7 +48,7 @@ use Rattle.seg_manager.proofs.Pushed.{Told}
 use Rattle.seg_manager.proofs.Releasing.{blank_told}
 use Rattle.seg_manager.proofs.Staying.{Stays, stays_call}
 use Rattle.seg_manager.proofs.Steps.{AreSeen, step_whole}
-use Rattle.seg_manager.proofs.Temping.{by_outcome, temp_leaves}
+use Rattle.seg_manager.proofs.Temping.{temp_leaves}
 use Rattle.seg_manager.proofs.Temporary.{nameless, seen_temp, tied_temp}
 use Rattle.seg_manager.proofs.Tried.{can_same, seen_same}
 

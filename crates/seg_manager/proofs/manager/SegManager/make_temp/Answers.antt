@@ -1,3 +1,4 @@
+use Rattle.std.proofs.Common.{arith}
 use Rattle.std.specs.Prelude.{Ok, Err}
 use Rattle.vm_ids.specs.declared.command.Command.TheVariants.{MakeTemp}
 use Rattle.vm_ids.specs.declared.reply.Reply.TheVariants as replies
@@ -11,6 +12,9 @@ use Rattle.seg_manager.proofs.manager.SegManager.make_temp.Goals as goal
 
 pub loop-cache-init : goal.loop-cache-init
 loop-cache-init g c = thins_none g.M.Mapper g.G.Gmi c.args.mapper.now c.args.self.now c.requires.can
+
+pub make_temp-requires-clause-made : goal.make_temp-requires-clause-made
+make_temp-requires-clause-made g c = omega (arith, c.loop-cache.invariant.credit, temp_credit g.M.Mapper g.G.Gmi c.args.mapper.now c.args.self.now c.args.pages c.requires.can c.requires.made)
 
 pub make_room-requires-clause-can : goal.make_room-requires-clause-can
 make_room-requires-clause-can g c =
