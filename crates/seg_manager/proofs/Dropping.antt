@@ -33,7 +33,7 @@ pub record AreNoted (m : Machine) (cs : List Named) (ks : List Kept) (room : ℕ
   pub fits : length cs ≤ room
 
 -- by the regions of the machine it is the same
-unreferenced_same : (m : Machine) (told : Option Segments) (cs : List Named) (rs : List Mapped) → map noted_of rs ≡ noted_regions 1 m.actors → (n : ℕ) → is_unreferenced (whole_of m told cs) n ≡ is_unreferenced_by m cs rs n
+pub unreferenced_same : (m : Machine) (told : Option Segments) (cs : List Named) (rs : List Mapped) → map noted_of rs ≡ noted_regions 1 m.actors → (n : ℕ) → is_unreferenced (whole_of m told cs) n ≡ is_unreferenced_by m cs rs n
 unreferenced_same m told cs rs regions n = by (cache_of m n)
   where
     by : (o : Option Cache) → option_map_or (goes (whole_of m told cs) n) o false ≡ option_map_or (λ seg. not (nat_lt 0 (openings_in cs seg) || list_any (maps n) rs)) (option_and_then (λ (c : Cache). c.segment) o) false

@@ -31,3 +31,5 @@ pub mod Dropping
 pub mod Temporary
 pub mod Staying
 pub mod Temped
+pub mod Shapes
+pub mod Passed
