@@ -30,3 +30,7 @@ pub mod Temping
 pub mod Dropping
 pub mod Parting
 pub mod Temporary
+pub mod Staying
+pub mod Temped
+pub mod Shapes
+pub mod Passed

@@ -64,6 +64,14 @@ actor_maps m actor address length (Some rs) p is e =
 pub place_maps : (m : Machine) (actor address length : ℕ) (p : Place) → place m actor address length ≡ Ok p → is_mapped m p.region.cache ≡ true
 place_maps m actor address length p e = actor_maps m actor address length (actor_of m actor) p refl e
 
+or_false : (b : Bool) → (b || false) ≡ b
+or_false true = refl
+or_false false = refl
+
+-- an actor without regions maps nothing
+pub actor_mapped : (actors : List (Option Actor)) (k : ℕ) → list_any (maps_in k) (actors ++ Some [] ∷ []) ≡ list_any (maps_in k) actors
+actor_mapped actors k = list_any-append (maps_in k) actors (Some [] ∷ []) ∙ or_false (list_any (maps_in k) actors)
+
 -- The rows, beside these openings
 module _ (openings : ℕ → ℕ) where
   abbrev pub references : Machine → ReferenceMachine
@@ -180,18 +188,11 @@ module _ (openings : ℕ → ℕ) where
   unfolding plain.make_actor_of
   actor_lifts m = lift_then _ _ m _ _ (λ i. plain.reply (replies.Actor (record { 0 = length m.actors + 1 })) (record m {
     actors = m.actors ++ Some [] ∷ [];
-    caches = used_goes (references m) (references (record m { actors = m.actors ++ Some [] ∷ [] })) (λ k c j. option_map_or (λ seg. not (nat_lt 0 (openings seg) || mapped k j)) c.segment false) 1 m.caches i;
+    caches = used_goes (references m) (references (record m { actors = m.actors ++ Some [] ∷ [] })) (λ k c j. option_map_or (λ seg. not (nat_lt 0 (openings seg) || actor_mapped m.actors k j)) c.segment false) 1 m.caches i;
   }))
-    where
-      or_false : (b : Bool) → (b || false) ≡ b
-      or_false true = refl
-      or_false false = refl
-
-      mapped : (k : ℕ) → list_any (maps_in k) (m.actors ++ Some [] ∷ []) ≡ list_any (maps_in k) m.actors
-      mapped k = list_any-append (maps_in k) m.actors (Some [] ∷ []) ∙ or_false (list_any (maps_in k) m.actors)
 
   -- what a copy comes to where both caches are found
-  abbrev copy_rest : Machine → Span → Segments → Cache → Cache → plain.Answered
+  abbrev pub copy_rest : Machine → Span → Segments → Cache → Cache → plain.Answered
   copy_rest m s h source destination =
       plain.unless (plain.passes_an_end s source destination) refusals.OutOfCache m
       (plain.unless (plain.overlaps_itself s) refusals.Overlap m
