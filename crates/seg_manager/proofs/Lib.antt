@@ -33,3 +33,4 @@ pub mod Staying
 pub mod Temped
 pub mod Shapes
 pub mod Passed
+pub mod Served
