@@ -34,3 +34,6 @@ pub mod Staying
 pub mod Temped
 pub mod Shapes
 pub mod Passed
+pub mod Served
+pub mod Mapping
+pub mod Noting

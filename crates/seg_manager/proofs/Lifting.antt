@@ -87,7 +87,7 @@ module _ (openings : ℕ → ℕ) where
   abbrev pub is_hidden : Machine → ℕ → Bool
   is_hidden m n = option_map_or (goes (references m) n) (cache_of m n) false
 
-  mapped_stays : (m : Machine) (n : ℕ) (s : Option ℕ) → is_mapped m n ≡ true → option_map_or (λ seg. not (nat_lt 0 (openings seg) || is_mapped m n)) s false ≡ false
+  pub mapped_stays : (m : Machine) (n : ℕ) (s : Option ℕ) → is_mapped m n ≡ true → option_map_or (λ seg. not (nat_lt 0 (openings seg) || is_mapped m n)) s false ≡ false
   mapped_stays m n None e = refl
   mapped_stays m n (Some seg) e = ap (λ (b : Bool). not (nat_lt 0 (openings seg) || b)) e ∙ by (nat_lt 0 (openings seg))
     where
@@ -169,13 +169,13 @@ module _ (openings : ℕ → ℕ) where
       (lift_unless (is_denied_page m h p.region.cache p.page) refusals.WriteDenied m _
       ∙ (λ i. plain.unless (denied_same m h p.region.cache p.page there i) refusals.WriteDenied (seen m) (plain.reply replies.Done (write_lifts m p bytes there i)))))
 
-  lift_some : {A : Type 0} (o : Option A) (r : Refusal) (m : Machine) (go go' : A → plain.Answered) → ((x : A) → o ≡ Some x → lift (go x) ≡ go' x) → lift (plain.with_some o r m go) ≡ plain.with_some o r (seen m) go'
+  pub lift_some : {A : Type 0} (o : Option A) (r : Refusal) (m : Machine) (go go' : A → plain.Answered) → ((x : A) → o ≡ Some x → lift (go x) ≡ go' x) → lift (plain.with_some o r m go) ≡ plain.with_some o r (seen m) go'
   unfolding plain.with_some
   lift_some None r m go go' same = refl
   lift_some (Some x) r m go go' same = same x refl
 
   -- where it isn't refused, what comes then lifts
-  lift_then : (bad : Bool) (r : Refusal) (m : Machine) (go go' : plain.Answered) → lift go ≡ go' → lift (plain.unless bad r m go) ≡ plain.unless bad r (seen m) go'
+  pub lift_then : (bad : Bool) (r : Refusal) (m : Machine) (go go' : plain.Answered) → lift go ≡ go' → lift (plain.unless bad r m go) ≡ plain.unless bad r (seen m) go'
   lift_then bad r m go go' e = lift_unless bad r m go ∙ ap (plain.unless bad r (seen m)) e
 
   used_goes : (m n : ReferenceMachine) → ((k : ℕ) (c : Cache) → goes n k c ≡ goes m k c) → (k : ℕ) (xs : Caches) → used n k xs ≡ used m k xs

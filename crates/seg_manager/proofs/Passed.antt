@@ -109,7 +109,7 @@ module _ (openings : ℕ → ℕ) where
   -- The rows
 
   -- a command leads to a machine with the same regions
-  abbrev SameRegions : Machine → Machine → Type 0
+  abbrev pub SameRegions : Machine → Machine → Type 0
   SameRegions x y = noted_regions 1 y.actors ≡ noted_regions 1 x.actors
 
   module _ (x : Machine) where
