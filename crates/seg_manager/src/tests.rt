@@ -121,12 +121,14 @@ fn a_kept_cache_is_opened_again(rt: HostRuntime) -> Result<(), Fail> {
     let gmi = EagerMachine::new(rt.alloc(), 4, 4096);
     let mut manager = SegManager::new::<MemoryMapper, Fifo>(rt.alloc(), gmi, 1);
     play(&rt, &mut manager, &mut mapper)?;
+    assert!(rt; manager.hidden(CacheId(1)));
     let chooser = &mut Fifo::new();
     let open = KeepCommand::Plain(Command::OpenSegment(SegId(1)));
     assert_eq!(rt;
         seen(manager.call(&open, &mut mapper, chooser)),
         Shown::Cache(1)
     );
+    assert!(rt; !manager.hidden(CacheId(1)));
     assert_eq!(rt;
         seen(manager.call(&copy(), &mut mapper, chooser)),
         Shown::Done
