@@ -28,6 +28,7 @@ pub mod Starting
 pub mod Lifting
 pub mod Temping
 pub mod Dropping
+pub mod Parting
 pub mod Temporary
 pub mod Staying
 pub mod Temped

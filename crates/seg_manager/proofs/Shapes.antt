@@ -16,7 +16,7 @@ use Rattle.seg_manager.specs.declared.tables.Kept.{Kept}
 use Rattle.seg_manager.specs.declared.tables.Mapped.{Mapped}
 use Rattle.seg_manager.specs.declared.tables.Named.{Named}
 use Rattle.seg_manager.proofs.Coming.{GoAlike}
-use Rattle.seg_manager.proofs.Dropping.{is_unreferenced_by, unreferenced_same}
+use Rattle.seg_manager.proofs.Unused.{is_unreferenced_by, unreferenced_same}
 use Rattle.seg_manager.proofs.Going.{Caches}
 use Rattle.seg_manager.proofs.Naming.{has_named, head_named}
 
