@@ -37,3 +37,4 @@ pub mod Passed
 pub mod Served
 pub mod Mapping
 pub mod Noting
+pub mod Adding
