@@ -34,7 +34,6 @@ use Rattle.seg_manager.specs.declared.tables.Kept.{Kept}
 use Rattle.seg_manager.specs.declared.tables.Mapped.{Mapped}
 use Rattle.seg_manager.specs.declared.tables.Named.{Named}
 use Rattle.seg_manager.proofs.Calls.{backed_next, call_is, forest, m, n}
-use Rattle.seg_manager.proofs.Dropping.{is_unreferenced_by, unreferenced_same}
 use Rattle.seg_manager.proofs.Lifting.{is_hidden}
 use Rattle.seg_manager.proofs.Mapping.{IsAdded, map_added, map_answered, map_same, maps_then}
 use Rattle.seg_manager.proofs.Noting.{noted_added, noted_insert, put_noted}
@@ -42,7 +41,7 @@ use Rattle.seg_manager.proofs.Passed.{IsAnswered, IsHiding, shown_visible}
 use Rattle.seg_manager.proofs.Served.{answered_call}
 use Rattle.seg_manager.proofs.Shapes.{segments_in, tied_alike}
 use Rattle.seg_manager.proofs.Staying.{Stays, stays_call}
-use Rattle.seg_manager.proofs.Unused.{mapped_is}
+use Rattle.seg_manager.proofs.Unused.{is_unreferenced_by, mapped_is, unreferenced_same}
 
 module _ {Manager X Chooser : Type 0} (M : GhostsOfMapper X) (G : GhostsOfGmi Manager X Chooser) (old : SegManager Manager) (mapper : X) (able : CanCall G old (M.held mapper) (M.page_bytes mapper)) (actor : ActorId) (p : Mapping) where
   abbrev told : Option Segments
