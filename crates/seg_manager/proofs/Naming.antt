@@ -13,7 +13,7 @@ abbrev pub has_named : ℕ → List (Option Cache) → Bool
 has_named seg cs = is_some (cache_named cs seg)
 
 module _ (seg : ℕ) where
-  head_named : (o rest : Option Cache) → is_some (cond (is_named_by seg o) o rest) ≡ cond (is_named_by seg o) true (is_some rest)
+  pub head_named : (o rest : Option Cache) → is_some (cond (is_named_by seg o) o rest) ≡ cond (is_named_by seg o) true (is_some rest)
   head_named None rest = refl
   head_named (Some c) rest = by (is_named_by seg (Some c))
     where
@@ -111,12 +111,12 @@ module _ (seg : ℕ) where
   named_seg None e = absurd (cc e)
   named_seg (Some s) e = ap (λ (n : ℕ). Some n) (eqb-true s seg e)
 
-  put_own : (o : Option ℕ) (pages : List Page) (stored : Stored) → option_map_or (λ s. s == seg) o false ≡ true → put_stored o pages stored seg ≡ Some pages
+  pub put_own : (o : Option ℕ) (pages : List Page) (stored : Stored) → option_map_or (λ s. s == seg) o false ≡ true → put_stored o pages stored seg ≡ Some pages
   put_own o pages stored e =
       ap (λ (x : Option ℕ). put_stored x pages stored seg) (named_seg o e)
       ∙ ap (λ (b : Bool). cond b (Some pages) (stored seg)) (eq-eqb seg seg refl)
 
-  put_other : (o : Option ℕ) (pages : List Page) (stored : Stored) → option_map_or (λ s. s == seg) o false ≡ false → put_stored o pages stored seg ≡ stored seg
+  pub put_other : (o : Option ℕ) (pages : List Page) (stored : Stored) → option_map_or (λ s. s == seg) o false ≡ false → put_stored o pages stored seg ≡ stored seg
   put_other None pages stored e = refl
   put_other (Some s) pages stored e =
       ap (λ (b : Bool). cond b (Some pages) (stored seg)) other

@@ -4,6 +4,7 @@ use Rattle.std.specs.Prelude.{Ok, Err, is_some, option_and_then, slice_get}
 use Rattle.std.specs.List.{AllByRecursion}
 use Rattle.std.specs.Option.{option_map_or}
 use Rattle.std.proofs.lemmas.Bool.{eq-eqb, eqb-true}
+use Rattle.std.proofs.lemmas.Bool.Decides.{nat_tests}
 use Rattle.vm_ids.specs.Counting.{MapperCounts}
 use Rattle.vm_ids.specs.Held.{Segments}
 use Rattle.vm_ids.specs.declared.command.Command.TheVariants as plain_commands
@@ -108,7 +109,7 @@ module _ (seg : ℕ) (m : Machine) where
 -- or what nothing refers to goes, of the same caches.
 pub record Stands (seg : ℕ) (m next : ReferenceMachine) : Type 0 where
   pub named : has_named seg next.memory.caches ≡ has_named seg m.memory.caches
-  pub stored : next.stored ≡ m.stored
+  pub stored : next.stored seg ≡ m.stored seg
 
 pub record LetsGo (m next : ReferenceMachine) : Type 0 where
   pub by : ReferenceMachine
@@ -122,7 +123,7 @@ Changes seg m next = Stands seg m next ⊎ LetsGo m next
 stands : (seg : ℕ) (m next : ReferenceMachine) → next ≡ m → Changes seg m next
 stands seg m next e = inl (record {
   named = ap (λ (x : ReferenceMachine). has_named seg x.memory.caches) e;
-  stored = ap (λ (x : ReferenceMachine). x.stored) e;
+  stored = ap (λ (x : ReferenceMachine). x.stored seg) e;
 })
 
 slice_get_past : {A : Type 0} (xs : List A) (i : ℕ) → length xs ≤ i → slice_get xs i ≡ None
@@ -170,7 +171,7 @@ module _ (seg : ℕ) (m : ReferenceMachine) (number : ℕ) where
       by true e may =
           let none_here : has_named seg m.memory.caches ≡ false = subst (λ (n : ℕ). has_named n m.memory.caches ≡ false) (eqb-true other.0 seg e) (no_number other.0 1 m.memory.caches none) in
           absurd (cc (none_here, lives e))
-      by false e may = inl (record { named = with_other seg m.memory.caches number (opened other.0 pages) may.0 may.1 e; stored = refl })
+      by false e may = inl (record { named = with_other seg m.memory.caches number (opened other.0 pages) may.0 may.1 e; stored = ap (λ (b : Bool). cond b None (m.stored seg)) (let apart : (seg == other.0) ≡ false = grind (arith, nat_tests) in apart) })
 
   opened_by : (other : SegId) (o : Option ℕ) → number_named m other.0 ≡ o → (opens seg (commands.Plain (plain_commands.OpenSegment other)) ≡ true → has_named seg m.memory.caches ≡ true)
       → F (commands.Plain (plain_commands.OpenSegment other)) (open_by m other.0 number o)
@@ -216,7 +217,7 @@ pub record IsLeft (seg : ℕ) (pages : List Page) (m : ReferenceMachine) : Type 
   pub stored : m.stored seg ≡ Some pages
 
 stays_left : (seg : ℕ) (pages : List Page) (m next : ReferenceMachine) → IsLeft seg pages m → Changes seg m next → IsLeft seg pages next
-stays_left seg pages m next is (inl s) = record { free = s.named ∙ is.free; stored = ap (λ (st : Stored). st seg) s.stored ∙ is.stored }
+stays_left seg pages m next is (inl s) = record { free = s.named ∙ is.free; stored = s.stored ∙ is.stored }
 stays_left seg pages m next is (inr l) =
     let gone = none_goes seg l.by 1 l.by.memory.caches (ap (has_named seg) l.caches ∙ is.free) in
     record {

@@ -14,7 +14,7 @@ use Rattle.vm_ids.specs.declared.reply.Trouble.TheVariants.{Refused}
 use Rattle.vm_model.specs.Answering as plain
 use Rattle.vm_model.specs.Answering.{Answer, opened, temporary}
 use Rattle.vm_model.specs.Machine.{Machine, Page, cache_of}
-use Rattle.seg_manager.specs.ReferenceMachine.{ReferenceMachine, add_cache, close_one, is_open, let_go, number_named, open_one}
+use Rattle.seg_manager.specs.ReferenceMachine.{ReferenceMachine, add_cache, close_one, is_open, let_go, number_named, open_one, take_stored}
 
 -- An answer, and the machine after it.
 pub record Answered : Type 0 where
@@ -39,7 +39,7 @@ open_again m seg number = reply_cache number (open_one seg m)
 abbrev pub open_anew : ReferenceMachine → ℕ → ℕ → Option (List Page) → Answered
 open_anew m seg number None = refuse m NoSegment
 open_anew m seg number (Some pages) =
-    reply_cache number (open_one seg (add_cache m number (opened seg pages)))
+    reply_cache number (open_one seg (add_cache (take_stored seg m) number (opened seg pages)))
 
 abbrev pub open_by : ReferenceMachine → ℕ → ℕ → Option ℕ → Answered
 open_by m seg number (Some there) = open_again m seg there

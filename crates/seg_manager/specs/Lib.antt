@@ -3,3 +3,11 @@ pub mod Answering
 pub mod Outcome
 pub mod Rows
 pub mod Laws
+pub mod Stepping
+pub mod Seen
+pub mod Tying
+pub mod Inner
+pub mod Keeping
+pub mod Thinning
+pub mod Calling
+pub mod Asking

@@ -3,7 +3,7 @@
 use Rattle.std.specs.Prelude.{◌≡◌, ◌⊎◌, ◌<◌, ℕ, Option, None, Ok, Err}
 use Rattle.vm_ids.specs.Counting.{MapperCounts}
 use Rattle.vm_ids.specs.Held.{Segments}
-use Rattle.vm_ids.specs.declared.command.Command.TheVariants.{MakeTemp, OpenSegment}
+use Rattle.vm_ids.specs.declared.command.Command.TheVariants.{MakeTemp, Map, OpenSegment}
 use Rattle.vm_ids.specs.declared.command.KeepCommand.{KeepCommand}
 use Rattle.vm_ids.specs.declared.command.KeepCommand.TheVariants as commands
 use Rattle.vm_ids.specs.declared.refusal.Refusal.TheVariants.{NoSegment, TooMany}
@@ -44,6 +44,13 @@ abbrev pub MayLack : KeepCommand → Type 0
 MayLack (commands.Plain command) = plain.MayLackMemory command
 MayLack (commands.Close seg) = ⊥
 
+-- Nothing refuses a call that lacks memory; but an opening and a mapping take memory of their own
+-- before it is known what would refuse them.
+abbrev pub IsWanted : KeepCommand → Answer → Type 0
+IsWanted (commands.Plain (OpenSegment seg)) answer = Unit {0}
+IsWanted (commands.Plain (Map actor mapping)) answer = Unit {0}
+IsWanted command answer = IsNotRefused answer
+
 -- the calls for which there may be too many caches or pages: those that make a cache
 abbrev pub MayExceed : ReferenceMachine → KeepCommand → Type 0
 MayExceed m (commands.Plain (OpenSegment seg)) = number_named m seg.0 ≡ None
@@ -64,7 +71,7 @@ Outcome m f command h number (Err (troubles.Mapper at)) next rises =
     (next ≡ m) × (0 < rises.faults) × MayFault m f command h at rises
     × GoesOn at command (answer_of m command h number).answer
 Outcome m f command h number (Err troubles.Memory) next rises =
-    (next ≡ m) × MayLack command × IsNotRefused (answer_of m command h number).answer
+    (next ≡ m) × MayLack command × IsWanted command (answer_of m command h number).answer
 Outcome m f command h number (Err (troubles.Refused TooMany)) next rises =
     ((next ≡ m) × MayExceed m command)
     ⊎ Gives m command h number (Err (troubles.Refused TooMany)) next

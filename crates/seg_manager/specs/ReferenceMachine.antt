@@ -1,7 +1,6 @@
 -- Segments that are opened again and again, over plain caches. There is no manager here, and no
 -- cache that nothing refers to.
-use Rattle.std.specs.Prelude.{◌==◌, ℕ, ◌+◌, ◌-◌, ◌||◌, not, nat_le, Bool, false, List, [], ◌∷◌, ◌++◌, length, replicate, Option, Some, None, slice_set, if◌then◌else◌}
-use Rattle.std.specs.List.{list_any}
+use Rattle.std.specs.Prelude.{◌==◌, ℕ, ◌+◌, ◌-◌, ◌||◌, not, nat_le, nat_lt, Bool, false, List, [], ◌∷◌, ◌++◌, length, replicate, Option, Some, None, slice_set, if◌then◌else◌}
 use Rattle.std.specs.Option.{option_map_or}
 use Rattle.vm_model.specs.Answering.{is_mapped}
 use Rattle.vm_model.specs.Machine as plain
@@ -12,17 +11,17 @@ abbrev pub Stored : Type 0
 Stored = ℕ → Option (List Page)
 
 -- The plain machine of actors, caches and regions, in which a named cache lives while an opening or
--- a region refers to it; the pages that are stored for each segment, of which its next cache is
--- made; and the segment of each opening that wasn't taken back, the last one first.
+-- a region refers to it; the pages that are stored for each segment that has no live cache, of which
+-- its next one is made; and how many openings of each segment weren't taken back.
 pub record ReferenceMachine : Type 0 where
   pub memory : Machine
   pub stored : Stored
-  pub openings : List ℕ
+  pub openings : ℕ → ℕ
 
 -- how a run begins over segments of these pages
 abbrev pub start : ℕ → ℕ → Stored → ReferenceMachine
 start frames page_bytes stored =
-    record { memory = plain.start frames page_bytes; stored = stored; openings = [] }
+    record { memory = plain.start frames page_bytes; stored = stored; openings = λ seg. 0 }
 
 -- the number of the live cache of a segment; the first of these caches has this number
 abbrev pub number_in : ℕ → List (Option Cache) → ℕ → Option ℕ
@@ -35,18 +34,18 @@ number_named m seg = number_in 1 m.memory.caches seg
 
 -- an opening of the segment wasn't taken back
 abbrev pub is_open : ReferenceMachine → ℕ → Bool
-is_open m seg = list_any (λ s. s == seg) m.openings
+is_open m seg = nat_lt 0 (m.openings seg)
 
--- the last opening of the segment is taken back
-abbrev pub without_one : ℕ → List ℕ → List ℕ
-without_one seg [] = []
-without_one seg (s ∷ ss) = if s == seg then ss else s ∷ without_one seg ss
-
-abbrev pub close_one : ℕ → ReferenceMachine → ReferenceMachine
-close_one seg m = record m { openings = without_one seg m.openings }
+-- so many openings of the segment weren't taken back
+abbrev pub count_openings : ℕ → ℕ → ReferenceMachine → ReferenceMachine
+count_openings seg n m =
+    record m { openings = λ other. if other == seg then n else m.openings other }
 
 abbrev pub open_one : ℕ → ReferenceMachine → ReferenceMachine
-open_one seg m = record m { openings = seg ∷ m.openings }
+open_one seg m = count_openings seg (m.openings seg + 1) m
+
+abbrev pub close_one : ℕ → ReferenceMachine → ReferenceMachine
+close_one seg m = count_openings seg (m.openings seg - 1) m
 
 -- nothing refers to the cache with this number, of this segment
 abbrev pub is_unused : ReferenceMachine → ℕ → ℕ → Bool
@@ -97,3 +96,7 @@ with_cache caches number c =
 abbrev pub add_cache : ReferenceMachine → ℕ → Cache → ReferenceMachine
 add_cache m number c =
     record m { memory = record m.memory { caches = with_cache m.memory.caches number c } }
+
+-- Nothing is stored for the segment: a cache has its pages.
+abbrev pub take_stored : ℕ → ReferenceMachine → ReferenceMachine
+take_stored seg m = record m { stored = λ other. if other == seg then None else m.stored other }

@@ -1,0 +1,536 @@
+-- A segment that has no cache is opened: what that call of the manager of segments comes to.
+use Rattle.std.proofs.Common.{◌≡◌, ◌≢◌, ◌==◌, ◌⊎◌, inl, inr, ℕ, zero, suc, ◌+◌, ◌-◌, ◌*◌, ◌^◌, ◌<◌, ◌≤◌, Bool, true, false, cond, List, [], ◌∷◌, ◌++◌, length, map, drop, Option, Some, None, refl, sym, ap, subst, ◌∙◌, arith}
+use Rattle.std.specs.Prelude.{◌||◌, IfNone, IfSome, IfOk, Ok, Err, Result, is_some, option_and_then, option_map, slice_get}
+use Rattle.std.specs.FinMap.{get}
+use Rattle.std.specs.List.{AllByRecursion, list_any, position_from}
+use Rattle.std.specs.Option.{option_map_or}
+use Rattle.std.specs.VecDeque.{deque_capacity}
+use Rattle.std.proofs.lemmas.Bool.{cases_eq, eq-eqb, eqb-true, ne_eqb}
+use Rattle.std.proofs.lemmas.List.{drop-map, length-append}
+use Rattle.vm_ids.specs.Counting.{MapperCounts, counts_sum, no_counts}
+use Rattle.vm_ids.specs.Held.{Held, Segments, segments_of}
+use Rattle.vm_ids.specs.declared.command.Command.TheVariants.{OpenSegment}
+use Rattle.vm_ids.specs.declared.command.KeepCommand.TheVariants as commands
+use Rattle.vm_ids.specs.declared.numbers.CacheId.{CacheId}
+use Rattle.vm_ids.specs.declared.numbers.SegId.{SegId}
+use Rattle.vm_ids.specs.declared.refusal.Refusal.{Refusal}
+use Rattle.vm_ids.specs.declared.refusal.Refusal.TheVariants as refusals
+use Rattle.vm_ids.specs.declared.reply.FaultAt.{FaultAt}
+use Rattle.vm_ids.specs.declared.reply.FaultAt.TheVariants as faults
+use Rattle.vm_ids.specs.declared.reply.Reply.TheVariants as replies
+use Rattle.vm_ids.specs.declared.reply.Trouble.{Trouble}
+use Rattle.vm_ids.specs.declared.reply.Trouble.TheVariants as troubles
+use Rattle.vm_model.specs.Answering as plain
+use Rattle.vm_model.specs.Answering.{Answer, opened}
+use Rattle.vm_model.specs.Outcome as plain_outcome
+use Rattle.vm_model.specs.Machine.{Cache, Machine, Page, cache_named, cache_of, is_named_by, numbered, segment_of}
+use Rattle.vm_model.specs.Outcome.{IsAlike, OutcomeAt, blank}
+use Rattle.vm_model.specs.PageForest.{PageForest}
+use Rattle.vm_model.specs.declared.limits.TheConstants.{LIVE_PAGES, MOST_MADE}
+use Rattle.vm_model.proofs.Parts.ListParts.{at_some, numbered_past}
+use Rattle.vm_port.specs.declared.traits.mapper.Mapper.{Ghosts as GhostsOfMapper}
+use Rattle.gmi_calls.specs.Backing.{AreBacked}
+use Rattle.gmi_calls.specs.Calling.{MapperCall}
+use Rattle.gmi_calls.specs.Managing.{meanings_of}
+use Rattle.gmi_calls.specs.declared.gmi.Gmi.{Ghosts as GhostsOfGmi}
+use Rattle.gmi_calls.proofs.Rising.{rise_none, rise_then}
+use Rattle.seg_manager.specs.Answering.{Answered, open_anew, open_by, open_of, refuse, reply_cache}
+use Rattle.seg_manager.specs.Calling.{Acquires, HasNoRoom}
+use Rattle.seg_manager.specs.Inner.{first_of}
+use Rattle.seg_manager.specs.Keeping.{AreBehind, IsAcquired}
+use Rattle.seg_manager.specs.Outcome.{GoesOn, Outcome}
+use Rattle.seg_manager.specs.ReferenceMachine.{ReferenceMachine, number_in, number_named, stored_from, used}
+use Rattle.seg_manager.specs.Seen.{is_kept, kept_segments, references_seen, state_of, whole_of}
+use Rattle.seg_manager.specs.Stepping.{State, StepAt, blank_references}
+use Rattle.seg_manager.specs.Thinning.{Fails, IsDestroyFault, IsTried, Thins, Tries, TriesInVain, credit, seen_with}
+use Rattle.seg_manager.specs.Tying.{AreTied, CanCall}
+use Rattle.seg_manager.specs.declared.manager.SegManager.{SegManager}
+use Rattle.seg_manager.specs.declared.tables.Kept.{Kept}
+use Rattle.seg_manager.specs.declared.tables.Mapped.{Mapped}
+use Rattle.seg_manager.specs.declared.tables.Named.{Named}
+use Rattle.seg_manager.proofs.Acquiring.{anew_row, caches_seen}
+use Rattle.seg_manager.proofs.Anew.{nobody, opened_next, seen_told, seen_untold, tied_anew, unnamed}
+use Rattle.seg_manager.proofs.Calls.{able_after, backed_next, call_is, denied_after, forest, made_after, told_after}
+use Rattle.seg_manager.proofs.Going.{Caches, length_used}
+use Rattle.seg_manager.proofs.Leaving.{credit_few, seen_length}
+use Rattle.seg_manager.proofs.Opened.{Ends, IsOpen, appended, failed, lacks, made, many, nowhere, number_next}
+use Rattle.seg_manager.proofs.Opening.{number_none, used_entry}
+use Rattle.seg_manager.proofs.Pushed.{Follow, Told}
+use Rattle.seg_manager.proofs.Releasing.{blank_told}
+use Rattle.seg_manager.proofs.Steps.{AreSeen, seen_blank, step_whole}
+use Rattle.seg_manager.proofs.Storing.{stored_free}
+use Rattle.seg_manager.proofs.Tried.{can_same, none_noted, noted_none, open_ended, open_leaves, seen_same}
+
+-- What is seen has no cache of the segment, and what is stored is what the mapper holds.
+module _ (m : Machine) (told : Option Segments) (cs : List Named) (ks : List Kept) (room : ℕ) (rs : List Mapped) (t : AreTied m told cs ks room rs) (seg : SegId) (anew : None ≡ position_from (first_of seg.0) 0 cs) where
+  named_segment : (o : Option ℕ) → option_map_or (λ s. s == seg.0) o false ≡ true → o ≡ Some seg.0
+  named_segment None e = absurd (cc e)
+  named_segment (Some s) e = ap (λ (k : ℕ). Some k) (eqb-true s seg.0 e)
+
+  nobody_at : (j : ℕ) (d : Cache) → slice_get m.caches j ≡ Some (Some d) → is_named_by seg.0 (Some d) ≡ true → ⊥
+  nobody_at j d e f =
+      let there : cache_of m (suc j) ≡ Some d = at_some m.caches (suc j) (omega arith) ∙ ap (option_and_then (λ (x : Option Cache). x)) (ap (slice_get m.caches) (let k : suc j - 1 ≡ j = omega arith in k) ∙ e) in
+      nobody m told cs ks room rs t seg (sym anew) (suc j) (ap (option_and_then (λ (c : Cache). c.segment)) there ∙ named_segment d.segment f)
+
+  pub number_unseen : number_in 1 (used (whole_of m told cs) 1 m.caches) seg.0 ≡ None
+  number_unseen = number_none seg.0 1 (used (whole_of m told cs) 1 m.caches) (λ j d e f. nobody_at j d (used_entry (whole_of m told cs) m.caches j d e) f)
+
+  pub number_below : number_in 1 m.caches seg.0 ≡ None
+  number_below = number_none seg.0 1 m.caches nobody_at
+
+  free_name : cache_named m.caches seg.0 ≡ None
+  free_name = by (cache_named m.caches seg.0) (unnamed m told cs ks room rs t seg (sym anew))
+    where
+      by : (o : Option Cache) → is_some o ≡ false → o ≡ None
+      by None e = refl
+      by (Some c) e = absurd (cc e)
+
+  -- none that is kept is of it
+  pub not_kept : list_any (λ s. s == seg.0) (kept_segments ks) ≡ false
+  not_kept = by ks t.named
+    where
+      by : (ls : List Kept) → AllByRecursion (λ (k : Kept). segment_of m k.cache.0 ≡ Some k.seg.0) ls → list_any (λ s. s == seg.0) (kept_segments ls) ≡ false
+      by [] h = refl
+      by (l ∷ ls) h = (λ i. ne_eqb l.seg.0 seg.0 (λ s. nobody m told cs ks room rs t seg (sym anew) l.cache.0 (h.0 ∙ ap (λ (x : ℕ). Some x) s)) i || by ls h.1 i)
+
+-- the row, where the definition has no such segment
+nowhere_row : (r : ReferenceMachine) (seg number : ℕ) → number_in 1 r.memory.caches seg ≡ None → r.stored seg ≡ None → open_of r seg number ≡ refuse r refusals.NoSegment
+unfolding open_of
+nowhere_row r seg number e f = ap (open_by r seg number) e ∙ ap (open_anew r seg number) f
+
+goes_on_by : (r : ReferenceMachine) (seg : SegId) (number : ℕ) (at : FaultAt) → number_in 1 r.memory.caches seg.0 ≡ None → (o : Option (List Page)) → r.stored seg.0 ≡ o → GoesOn at (commands.Plain (OpenSegment seg)) (open_of r seg.0 number).answer
+goes_on_by r seg number at e None f = subst (λ (x : Answered). GoesOn at (commands.Plain (OpenSegment seg)) x.answer) (sym (nowhere_row r seg.0 number e f)) (nothing at)
+  where
+    nothing : (at : FaultAt) → GoesOn at (commands.Plain (OpenSegment seg)) (Err (troubles.Refused refusals.NoSegment))
+    nothing at = tt
+goes_on_by r seg number at e (Some pages) f = subst (λ (x : Answered). GoesOn at (commands.Plain (OpenSegment seg)) x.answer) (sym (anew_row r seg.0 number pages e f)) (something at)
+  where
+    something : (at : FaultAt) → GoesOn at (commands.Plain (OpenSegment seg)) (Ok (replies.Cache (record { 0 = number })))
+    something at = tt
+
+-- without bytes, where nothing is told
+blank_seen : (told : Option Segments) (m : Machine) (cs : List Named) → IfNone told (m ≡ blank m) → IfNone told (references_seen m told cs ≡ blank_references (references_seen m told cs))
+blank_seen None m cs bare = seen_blank m cs bare
+blank_seen (Some h) m cs bare = tt
+
+same_seen : (was now : Option Segments) → option_map (λ (h : Segments). h.denied) now ≡ option_map (λ (h : Segments). h.denied) was → (before after : State) (r : ReferenceMachine) → before.references ≡ r → after.references ≡ r
+    → IfNone was (r ≡ blank_references r) → AreSeen now before after r r
+same_seen None None e before after r x y bare = (x ∙ bare, y ∙ bare)
+same_seen None (Some h) e before after r x y bare = absurd (cc e)
+same_seen (Some h) None e before after r x y bare = absurd (cc e)
+same_seen (Some h) (Some g) e before after r x y bare = (x, y)
+
+behind_not : (b : Bool) (seg : ℕ) (kept now : List ℕ) (result : Result CacheId Trouble) → b ≡ false → AreBehind kept now → IsAcquired b seg kept result now
+behind_not false seg kept now result e h = h
+behind_not true seg kept now result e h = absurd (cc e)
+
+-- what is stored for it is what the mapper holds then
+stored_as : (m : Machine) (told now : Option Segments) (cs : List Named) (ks : List Kept) (room : ℕ) (rs : List Mapped) (t : AreTied m told cs ks room rs) (seg : SegId) (anew : None ≡ position_from (first_of seg.0) 0 cs) → Told m told now
+    → (o : Option (List Page)) → IfSome now (λ h. get h.pages seg.0 ≡ o) → IfSome told (λ h. (references_seen m told cs).stored seg.0 ≡ o)
+stored_as m None now cs ks room rs t seg anew f o held = tt
+stored_as m (Some s) now cs ks room rs t seg anew f o held =
+    let u = f.some s refl in
+    let nobody_named = free_name m (Some s) cs ks room rs t seg anew in
+    stored_free (whole_of m (Some s) cs) seg.0 1 m.caches nobody_named
+    ∙ ap (λ (x : Option Cache). cond (is_some x) None (get s.pages seg.0)) nobody_named
+    ∙ sym (u.2.beside seg.0 (ap is_some nobody_named))
+    ∙ subst (λ (x : Option Segments). IfSome x (λ h. get h.pages seg.0 ≡ o)) u.1 held
+
+stored_nothing : (told : Option Segments) (m : Machine) (cs : List Named) (seg : ℕ) → IfSome told (λ h. (references_seen m told cs).stored seg ≡ None) → (references_seen m told cs).stored seg ≡ None
+stored_nothing None m cs seg h = refl
+stored_nothing (Some s) m cs seg h = h
+
+-- refused, it would be refused again
+refused_again : (told : Option Segments) (m n : Machine) (f g : Option PageForest) (seg : SegId) (r : Refusal) (rises : MapperCounts) → n ≡ m → OutcomeAt told m f (OpenSegment seg) (Err (troubles.Refused r)) n rises → OutcomeAt told n g (OpenSegment seg) (Err (troubles.Refused r)) n no_counts
+refused_again (Some h) m n f g seg r rises same o = subst (λ (x : Machine). plain.open_of x seg.0 (get h.pages seg.0) ≡ record { answer = Err (troubles.Refused r); next = n }) (sym same) o
+refused_again None m n f g seg r rises same o = record {
+  whole = o.whole;
+  whole_next = o.whole_next;
+  segments = o.segments;
+  whole_answer = Err (troubles.Refused r);
+  is = same ∙ o.is;
+  is_next = o.is_next;
+  pages = o.pages;
+  alike = refl;
+  outcome = subst (λ (a : Answer). plain_outcome.Outcome o.whole f (OpenSegment seg) o.segments a o.whole_next rises) (back o.whole_answer o.alike) o.outcome;
+}
+  where
+    back : (a : Answer) → IsAlike a (Err (troubles.Refused r)) → a ≡ Err (troubles.Refused r)
+    back (Ok (replies.Bytes bytes)) h = h
+    back a h = h
+
+-- The machine from which an opening leads: where nothing is told, with these pages stored.
+abbrev pub whole_for : Option Segments → ReferenceMachine → List Page → ReferenceMachine
+whole_for None r pages = record r { stored = λ x. Some pages }
+whole_for (Some h) r pages = r
+
+whole_caches : (told : Option Segments) (r : ReferenceMachine) (pages : List Page) → (whole_for told r pages).memory.caches ≡ r.memory.caches
+whole_caches None r pages = refl
+whole_caches (Some h) r pages = refl
+
+whole_stored : (told : Option Segments) (m : Machine) (cs : List Named) (seg : ℕ) (pages : List Page) → IfSome told (λ h. (references_seen m told cs).stored seg ≡ Some pages) → (whole_for told (references_seen m told cs) pages).stored seg ≡ Some pages
+whole_stored None m cs seg pages h = refl
+whole_stored (Some s) m cs seg pages h = h
+
+seen_opened : (told now : Option Segments) (m n : Machine) (cs : List Named) (ks : List Kept) (room : ℕ) (rs : List Mapped) (t : AreTied m told cs ks room rs) (seg : SegId) (anew : None ≡ position_from (first_of seg.0) 0 cs) (pages : List Page)
+    (d : Named) (of : d.seg.0 ≡ seg.0) (number : d.cache.0 ≡ number_next m) (one : d.openings ≡ 1) → Told m told now → n ≡ appended m (opened seg.0 pages) → IfNone told (m ≡ blank m) → IfNone now (n ≡ blank n)
+    → (before after : State) → before.references ≡ references_seen m told cs → after.references ≡ references_seen n now (cs ++ d ∷ [])
+    → AreSeen now before after (whole_for told (references_seen m told cs) pages) (opened_next (whole_for told (references_seen m told cs) pages) (number_next m) seg pages)
+seen_opened None None m n cs ks room rs t seg anew pages d of number one f next bare bare_then before after x y = (
+  x ∙ seen_blank m cs bare,
+  y ∙ ap (λ (z : Machine). references_seen z None (cs ++ d ∷ [])) next
+      ∙ seen_untold m cs ks room rs seg (sym anew) pages d of number one t (sym next ∙ bare_then ∙ ap blank next),
+)
+seen_opened None (Some u) m n cs ks room rs t seg anew pages d of number one f next bare bare_then before after x y = absurd (let wrong : Some u ≡ None = f.none refl in cc wrong)
+seen_opened (Some s) None m n cs ks room rs t seg anew pages d of number one f next bare bare_then before after x y = absurd (let u = f.some s refl in cc u.1)
+seen_opened (Some s) (Some u) m n cs ks room rs t seg anew pages d of number one f next bare bare_then before after x y =
+    let v = f.some s refl in
+    let same : v.0 ≡ u = (let e : Some u ≡ Some v.0 = v.1 in let is : u ≡ v.0 = cc e in sym is) in (
+      x,
+      y ∙ ap (λ (z : Machine). references_seen z (Some u) (cs ++ d ∷ [])) next
+          ∙ seen_told m cs ks room rs seg (sym anew) pages d of number one s u t (subst (λ (z : Segments). Follow m s z) same v.2),
+    )
+
+opened_of : (told : Option Segments) (m : Machine) (seg : ℕ) (cache : CacheId) (n : Machine) (rises : MapperCounts) → Ends told m seg (Ok (replies.Cache cache)) n rises → IsOpen told m seg (Ok (replies.Cache cache)) n
+opened_of told m seg cache n rises (made p) = p
+opened_of told m seg cache n rises (many e s) = absurd (cc e)
+opened_of told m seg cache n rises (nowhere e s h) = absurd (cc e)
+opened_of told m seg cache n rises (failed e s h) = absurd (cc e)
+opened_of told m seg cache n rises (lacks e s) = absurd (cc e)
+
+module _ {Manager X Chooser : Type 0} (M : GhostsOfMapper X) (G : GhostsOfGmi Manager X Chooser) (before : X) (old s1 : SegManager Manager) (seg : SegId) (can : CanCall G old (M.held before) (M.page_bytes before))
+    (anew : None ≡ position_from (first_of seg.0) 0 old.caches.items) (caches : s1.caches.items ≡ old.caches.items) (kept : s1.kept.items ≡ old.kept.items) (less : deque_capacity old.kept ≤ deque_capacity s1.kept) where
+  abbrev pub start : SegManager Manager
+  start = record old { caches = s1.caches; kept = s1.kept }
+
+  abbrev m0 : Machine
+  m0 = G.machine old.gmi (M.held before)
+
+  abbrev told0 : Option Segments
+  told0 = segments_of (M.held before)
+
+  pub start_can : CanCall G start (M.held before) (M.page_bytes before)
+  start_can = record {
+    valid = can.valid;
+    unlimited = can.unlimited;
+    fits = can.fits;
+    live = can.live;
+    few = can.few;
+    tied = subst (λ (cs : List Named). AreTied m0 told0 cs s1.kept.items (deque_capacity s1.kept) old.regions.items) (sym caches)
+        (subst (λ (ks : List Kept). AreTied m0 told0 old.caches.items ks (deque_capacity s1.kept) old.regions.items) (sym kept) (record {
+          caches = can.tied.caches;
+          regions = can.tied.regions;
+          apart = can.tied.apart;
+          kept = can.tied.kept;
+          named = can.tied.named;
+          once = can.tied.once;
+          fits = omega (arith, can.tied.fits, less);
+          backed = can.tied.backed;
+        }));
+    blank = can.blank;
+  }
+
+  pub start_credit : G.made old.gmi ≤ 2 ^ 61 → credit M G start before ≤ 2 ^ 61 + 2 ^ 32
+  start_credit h = omega (arith, h, credit_few M G start before start_can)
+
+  pub start_anew : None ≡ position_from (first_of seg.0) 0 start.caches.items
+  start_anew = anew ∙ ap (position_from (first_of seg.0) 0) (sym caches)
+
+  module _ (middle : X) (by : SegManager Manager) (thins : Thins M G before start middle by) where
+    abbrev m : Machine
+    m = G.machine by.gmi (M.held middle)
+
+    abbrev told : Option Segments
+    told = segments_of (M.held middle)
+
+    abbrev R : ReferenceMachine
+    R = seen_with M G by middle
+
+    anew_by : None ≡ position_from (first_of seg.0) 0 by.caches.items
+    anew_by = noted_none seg.0 0 by.caches.items (thins.among (first_of seg.0) (none_noted seg.0 0 start.caches.items start_anew))
+
+    seen_by : R ≡ seen_with M G old before
+    seen_by = thins.seen ∙ ap (references_seen m0 told0) caches
+
+    bare : IfNone told (R ≡ blank_references R)
+    bare = blank_seen told m by.caches.items (blank_told (M.held middle) m thins.can.blank)
+
+    number_R : number_in 1 R.memory.caches seg.0 ≡ None
+    number_R = ap (λ (xs : Caches). number_in 1 xs seg.0) (caches_seen told m by.caches.items) ∙ number_unseen m told by.caches.items by.kept.items (deque_capacity by.kept) by.regions.items thins.can.tied seg anew_by
+
+    as_many : length m.caches ≡ length m0.caches
+    as_many = sym (seen_length told m by.caches.items) ∙ ap (λ (r : ReferenceMachine). length r.memory.caches) thins.seen ∙ seen_length told0 m0 start.caches.items
+
+    kept_behind : AreBehind (kept_segments old.kept.items) (kept_segments by.kept.items)
+    kept_behind = (thins.kept.0, ap kept_segments (thins.kept.1 ∙ ap (drop thins.kept.0) kept) ∙ sym (drop-map (λ (k : Kept). k.seg.0) thins.kept.0 old.kept.items))
+
+    no_cache : (n : ℕ) → number_in 1 m0.caches seg.0 ≡ Some n → ⊥
+    no_cache n e = (let wrong : None ≡ Some n = sym (number_below m0 told0 old.caches.items old.kept.items (deque_capacity old.kept) old.regions.items can.tied seg anew) ∙ e in cc wrong)
+
+    -- Another cache couldn't make room.
+    module _ (after : X) (gmi : Manager) (call : MapperCall M (meanings_of G) middle by.gmi (OpenSegment seg) (Err (troubles.Refused refusals.TooMany)) after gmi) where
+      abbrev tried : SegManager Manager
+      tried = record by { gmi = gmi }
+
+      tried_same : G.machine gmi (M.held after) ≡ m
+      tried_same = open_leaves M G by middle thins.can seg anew_by (troubles.Refused refusals.TooMany) after gmi call
+
+      vain_outcome : (t : Trouble) → IsDestroyFault t → (rises : MapperCounts) → 0 < rises.faults → (h : Segments) → Outcome R None (commands.Plain (OpenSegment seg)) h 0 (Err t) R rises
+      vain_outcome (troubles.Mapper (faults.Page p)) d rises some h = (refl, some, number_R, goes_on_by R seg 0 (faults.Page p) number_R (R.stored seg.0) refl)
+      vain_outcome (troubles.Mapper (faults.Save k)) d rises some h = (refl, some, number_R, goes_on_by R seg 0 (faults.Save k) number_R (R.stored seg.0) refl)
+      vain_outcome t d rises some h = absurd d
+
+      never_many : (t : Trouble) → IsDestroyFault t → t ≡ troubles.Refused refusals.TooMany → ⊥
+      never_many (troubles.Mapper at) d e = absurd (cc e)
+      never_many t d e = absurd d
+
+      module _ (t : Trouble) (later : X) (new : SegManager Manager) (f : Fails M G after tried t later new) where
+        abbrev vain_rises : MapperCounts
+        vain_rises = counts_sum (counts_sum thins.rises (call_is M G by gmi middle after (OpenSegment seg) (Err (troubles.Refused refusals.TooMany)) thins.can call).rises) f.rises
+
+        vain_seen : seen_with M G new later ≡ R
+        vain_seen = f.seen ∙ seen_same M G by gmi middle after (OpenSegment seg) (Err (troubles.Refused refusals.TooMany)) thins.can call tried_same
+
+        vain_denied : option_map (λ (h : Segments). h.denied) (segments_of (M.held later)) ≡ option_map (λ (h : Segments). h.denied) told
+        vain_denied = f.denied ∙ denied_after M G by gmi middle after (OpenSegment seg) (Err (troubles.Refused refusals.TooMany)) thins.can call
+
+        pub in_vain : Acquires M G before old seg (Err t) later new
+        in_vain = record {
+          call = record {
+            can = f.can;
+            made = omega (arith, f.made, made_after M G by gmi middle after (OpenSegment seg) (Err (troubles.Refused refusals.TooMany)) thins.can call, thins.credit, credit_few M G start before start_can);
+            limit = ap (λ (x : SegManager Manager). x.limit) f.same ∙ thins.limit;
+            one = omega (arith, f.caches, ap (λ (x : Machine). length x.caches) tried_same, as_many);
+            rises = vain_rises;
+            rose = rise_then (M.counts before) (M.counts after) (M.counts later) (counts_sum thins.rises (call_is M G by gmi middle after (OpenSegment seg) (Err (troubles.Refused refusals.TooMany)) thins.can call).rises) f.rises
+                (rise_then (M.counts before) (M.counts middle) (M.counts after) thins.rises (call_is M G by gmi middle after (OpenSegment seg) (Err (troubles.Refused refusals.TooMany)) thins.can call).rises thins.rose (call_is M G by gmi middle after (OpenSegment seg) (Err (troubles.Refused refusals.TooMany)) thins.can call).rose) f.rose;
+            is = record {
+              step = step_whole (state_of G old (M.held before)) (state_of G new (M.held later)) (commands.Plain (OpenSegment seg)) (Err t) vain_rises R R
+                  (λ h. (0, vain_outcome t f.fault vain_rises (omega (arith, f.failed)) h))
+                  (same_seen told (segments_of (M.held later)) vain_denied (state_of G old (M.held before)) (state_of G new (M.held later)) R (sym seen_by) vain_seen bare);
+              denied = vain_denied ∙ thins.denied;
+            };
+          };
+          kept = behind_not (list_any (λ s. s == seg.0) (kept_segments old.kept.items)) seg.0 (kept_segments old.kept.items) (kept_segments new.kept.items) (Err t)
+              (not_kept m0 told0 old.caches.items old.kept.items (deque_capacity old.kept) old.regions.items can.tied seg anew)
+              (subst (AreBehind (kept_segments old.kept.items)) (sym (ap (λ (x : SegManager Manager). kept_segments x.kept.items) f.same)) kept_behind);
+          again = λ k e. absurd (no_cache k e);
+          too_many = λ e. absurd (never_many t f.fault (let s : t ≡ troubles.Refused refusals.TooMany = cc e in s));
+        }
+
+    -- It was asked, and wasn't opened.
+    module _ (t : Trouble) (after : X) (gmi : Manager) (call : MapperCall M (meanings_of G) middle by.gmi (OpenSegment seg) (Err t) after gmi) where
+      abbrev left : SegManager Manager
+      left = record by { gmi = gmi }
+
+      abbrev n : Machine
+      n = G.machine gmi (M.held after)
+
+      abbrev then_told : Option Segments
+      then_told = segments_of (M.held after)
+
+      same : n ≡ m
+      same = open_leaves M G by middle thins.can seg anew_by t after gmi call
+
+      abbrev its_rises : MapperCounts
+      its_rises = (call_is M G by gmi middle after (OpenSegment seg) (Err t) thins.can call).rises
+
+      abbrev rises : MapperCounts
+      rises = counts_sum thins.rises its_rises
+
+      abbrev Says : Trouble → Segments → Type 0
+      Says x h = Outcome R None (commands.Plain (OpenSegment seg)) h 0 (Err x) R rises
+
+      said : Ends then_told m seg.0 (Err t) n its_rises → (h : Segments) → Says t h
+      said (made p) h = absurd (let wrong : Err t ≡ Ok (replies.Cache (record { 0 = number_next m })) = p.answer in cc wrong)
+      said (many e s) h = subst (λ (x : Trouble). Says x h) (let is : troubles.Refused refusals.TooMany ≡ t = cc e in is) (inl (refl, number_R))
+      said (nowhere e s none) h =
+          subst (λ (x : Trouble). Says x h) (let is : troubles.Refused refusals.NoSegment ≡ t = cc e in is)
+          (nowhere_row R seg.0 0 number_R (stored_nothing told m by.caches.items seg.0
+          (stored_as m told then_told by.caches.items by.kept.items (deque_capacity by.kept) by.regions.items thins.can.tied seg anew_by (told_after M G by gmi middle after (OpenSegment seg) (Err t) thins.can call) None none)))
+      said (failed e s some) h =
+          subst (λ (x : Trouble). Says x h) (let is : troubles.Mapper faults.Opening ≡ t = cc e in is)
+          (refl, omega (arith, some), number_R, goes_on_by R seg 0 faults.Opening number_R (R.stored seg.0) refl)
+      said (lacks e s) h = subst (λ (x : Trouble). Says x h) (let is : troubles.Memory ≡ t = cc e in is) (refl, tt, tt)
+
+      denied_then : option_map (λ (h : Segments). h.denied) then_told ≡ option_map (λ (h : Segments). h.denied) told
+      denied_then = denied_after M G by gmi middle after (OpenSegment seg) (Err t) thins.can call
+
+      pub not_opened : (t ≡ troubles.Refused refusals.TooMany → left.kept.items ≡ []) → Acquires M G before old seg (Err t) after left
+      not_opened none = record {
+        call = record {
+          can = can_same M G by gmi middle after (OpenSegment seg) (Err t) thins.can call same;
+          made = omega (arith, made_after M G by gmi middle after (OpenSegment seg) (Err t) thins.can call, thins.credit, credit_few M G start before start_can);
+          limit = thins.limit;
+          one = omega (arith, ap (λ (x : Machine). length x.caches) same, as_many);
+          rises = rises;
+          rose = rise_then (M.counts before) (M.counts middle) (M.counts after) thins.rises its_rises thins.rose (call_is M G by gmi middle after (OpenSegment seg) (Err t) thins.can call).rose;
+          is = record {
+            step = step_whole (state_of G old (M.held before)) (state_of G left (M.held after)) (commands.Plain (OpenSegment seg)) (Err t) rises R R
+                (λ h. (0, said (open_ended M G by middle thins.can seg anew_by (Err t) after gmi call) h))
+                (same_seen told then_told denied_then (state_of G old (M.held before)) (state_of G left (M.held after)) R (sym seen_by) (seen_same M G by gmi middle after (OpenSegment seg) (Err t) thins.can call same) bare);
+            denied = denied_then ∙ thins.denied;
+          };
+        };
+        kept = behind_not (list_any (λ s. s == seg.0) (kept_segments old.kept.items)) seg.0 (kept_segments old.kept.items) (kept_segments left.kept.items) (Err t)
+            (not_kept m0 told0 old.caches.items old.kept.items (deque_capacity old.kept) old.regions.items can.tied seg anew) kept_behind;
+        again = λ k e. absurd (no_cache k e);
+        too_many = λ e. (let is : t ≡ troubles.Refused refusals.TooMany = cc e in (
+          none is,
+          refused_again then_told m n (forest M G by gmi middle after (OpenSegment seg) (Err t) thins.can call) (G.forest gmi (M.held after)) seg refusals.TooMany its_rises same
+              (subst (λ (x : Trouble). OutcomeAt then_told m (forest M G by gmi middle after (OpenSegment seg) (Err t) thins.can call) (OpenSegment seg) (Err x) n its_rises) is
+              (call_is M G by gmi middle after (OpenSegment seg) (Err t) thins.can call).is.outcome),
+        ));
+      }
+
+    -- It was opened, and is noted.
+    module _ (cache : CacheId) (after : X) (gmi : Manager) (call : MapperCall M (meanings_of G) middle by.gmi (OpenSegment seg) (Ok (replies.Cache cache)) after gmi) (later : SegManager Manager)
+        (pushed : later.caches.items ≡ by.caches.items ++ (record { seg = seg; cache = cache; openings = 1 }) ∷ []) (roomy : length by.caches.items + 1 ≤ deque_capacity by.kept) where
+      abbrev d : Named
+      d = record { seg = seg; cache = cache; openings = 1 }
+
+      abbrev then_caches : SegManager Manager
+      then_caches = record by { caches = later.caches }
+
+      abbrev final : SegManager Manager
+      final = record then_caches { gmi = gmi }
+
+      abbrev told_then : Option Segments
+      told_then = segments_of (M.held after)
+
+      abbrev n' : Machine
+      n' = G.machine gmi (M.held after)
+
+      abbrev open_rises : MapperCounts
+      open_rises = (call_is M G by gmi middle after (OpenSegment seg) (Ok (replies.Cache cache)) thins.can call).rises
+
+      p : IsOpen told_then m seg.0 (Ok (replies.Cache cache)) n'
+      p = opened_of told_then m seg.0 cache n' open_rises (open_ended M G by middle thins.can seg anew_by (Ok (replies.Cache cache)) after gmi call)
+
+      number_is : cache.0 ≡ number_next m
+      number_is = let same : cache ≡ (let x : CacheId = record { 0 = number_next m } in x) = cc p.answer in ap (λ (x : CacheId). x.0) same
+
+      tied_final : AreTied n' told_then later.caches.items by.kept.items (deque_capacity by.kept) by.regions.items
+      tied_final =
+          subst (λ (x : Machine). AreTied x told_then later.caches.items by.kept.items (deque_capacity by.kept) by.regions.items) (sym p.next)
+          (subst (λ (cs : List Named). AreTied (appended m (opened seg.0 p.pages)) told_then cs by.kept.items (deque_capacity by.kept) by.regions.items) (sym pushed)
+          (tied_anew m told by.caches.items by.kept.items (deque_capacity by.kept) by.regions.items thins.can.tied seg (sym anew_by) p.pages d refl number_is refl told_then roomy
+          (subst (λ (x : Machine). IfSome told_then (λ t. AreBacked x.caches t)) p.next (backed_next M G by gmi middle after (OpenSegment seg) (Ok (replies.Cache cache)) thins.can call))))
+
+      one_more : length n'.caches ≡ length m.caches + 1
+      one_more = omega (arith, ap (λ (x : Machine). length x.caches) p.next, length-append m.caches (Some (opened seg.0 p.pages) ∷ []))
+
+      final_can : CanCall G final (M.held after) (M.page_bytes after)
+      final_can = able_after M G by gmi middle after (OpenSegment seg) (Ok (replies.Cache cache)) thins.can call then_caches (omega (arith, one_more, p.few)) tied_final
+
+      abbrev whole : ReferenceMachine
+      whole = whole_for told R p.pages
+
+      abbrev next : ReferenceMachine
+      next = opened_next whole (number_next m) seg p.pages
+
+      whole_memory : whole.memory.caches ≡ used (whole_of m told by.caches.items) 1 m.caches
+      whole_memory = whole_caches told R p.pages ∙ caches_seen told m by.caches.items
+
+      leads : (h : Segments) (rises : MapperCounts) → (number : ℕ) × Outcome whole None (commands.Plain (OpenSegment seg)) h number (Ok (replies.Cache cache)) next rises
+      leads h rises = (
+        number_next m,
+        (
+          (
+            omega arith,
+            numbered_past whole.memory.caches (number_next m) (omega (arith, ap length whole_memory, length_used (whole_of m told by.caches.items) 1 m.caches)),
+          ),
+          anew_row whole seg.0 (number_next m) p.pages
+              (ap (λ (xs : Caches). number_in 1 xs seg.0) whole_memory ∙ number_unseen m told by.caches.items by.kept.items (deque_capacity by.kept) by.regions.items thins.can.tied seg anew_by)
+              (whole_stored told m by.caches.items seg.0 p.pages (stored_as m told told_then by.caches.items by.kept.items (deque_capacity by.kept) by.regions.items thins.can.tied seg anew_by
+              (told_after M G by gmi middle after (OpenSegment seg) (Ok (replies.Cache cache)) thins.can call) (Some p.pages) p.held))
+              ∙ ap (λ (x : Answered). x) (λ i. reply_cache (sym number_is i) next),
+        ),
+      )
+
+      open_denied : option_map (λ (h : Segments). h.denied) told_then ≡ option_map (λ (h : Segments). h.denied) told
+      open_denied = denied_after M G by gmi middle after (OpenSegment seg) (Ok (replies.Cache cache)) thins.can call
+
+      pub was_opened : Acquires M G before old seg (Ok cache) after final
+      was_opened = record {
+        call = record {
+          can = final_can;
+          made = omega (arith, made_after M G by gmi middle after (OpenSegment seg) (Ok (replies.Cache cache)) thins.can call, thins.credit, credit_few M G start before start_can);
+          limit = thins.limit;
+          one = omega (arith, one_more, as_many);
+          rises = counts_sum thins.rises open_rises;
+          rose = rise_then (M.counts before) (M.counts middle) (M.counts after) thins.rises open_rises thins.rose (call_is M G by gmi middle after (OpenSegment seg) (Ok (replies.Cache cache)) thins.can call).rose;
+          is = record {
+            step = step_whole (state_of G old (M.held before)) (state_of G final (M.held after)) (commands.Plain (OpenSegment seg)) (Ok (replies.Cache cache)) (counts_sum thins.rises open_rises) whole next
+                (λ h. leads h (counts_sum thins.rises open_rises))
+                (seen_opened told told_then m n' by.caches.items by.kept.items (deque_capacity by.kept) by.regions.items thins.can.tied seg anew_by p.pages d refl number_is refl
+                (told_after M G by gmi middle after (OpenSegment seg) (Ok (replies.Cache cache)) thins.can call) p.next (blank_told (M.held middle) m thins.can.blank) (blank_told (M.held after) n' final_can.blank)
+                (state_of G old (M.held before)) (state_of G final (M.held after)) (sym seen_by) (ap (references_seen n' told_then) pushed));
+            denied = open_denied ∙ thins.denied;
+          };
+        };
+        kept = behind_not (list_any (λ s. s == seg.0) (kept_segments old.kept.items)) seg.0 (kept_segments old.kept.items) (kept_segments final.kept.items) (Ok cache)
+            (not_kept m0 told0 old.caches.items old.kept.items (deque_capacity old.kept) old.regions.items can.tied seg anew) kept_behind;
+        again = λ k e. absurd (no_cache k e);
+        too_many = λ e. absurd (cc e);
+      }
+
+  -- There was no memory to note it.
+  pub lacks_start : Acquires M G before old seg (Err troubles.Memory) before start
+  lacks_start = record {
+    call = record {
+      can = start_can;
+      made = omega arith;
+      limit = refl;
+      one = omega arith;
+      rises = no_counts;
+      rose = rise_none (M.counts before);
+      is = record {
+        step = step_whole (state_of G old (M.held before)) (state_of G start (M.held before)) (commands.Plain (OpenSegment seg)) (Err troubles.Memory) no_counts (seen_with M G old before) (seen_with M G old before)
+            (λ h. (0, (refl, tt, tt)))
+            (same_seen told0 told0 refl (state_of G old (M.held before)) (state_of G start (M.held before)) (seen_with M G old before) refl (ap (references_seen m0 told0) caches)
+            (blank_seen told0 m0 old.caches.items (blank_told (M.held before) m0 can.blank)));
+        denied = refl;
+      };
+    };
+    kept = behind_not (list_any (λ s. s == seg.0) (kept_segments old.kept.items)) seg.0 (kept_segments old.kept.items) (kept_segments start.kept.items) (Err troubles.Memory)
+        (not_kept m0 told0 old.caches.items old.kept.items (deque_capacity old.kept) old.regions.items can.tied seg anew) (0, ap kept_segments kept);
+    again = λ k e. absurd (let wrong : None ≡ Some k = sym (number_below m0 told0 old.caches.items old.kept.items (deque_capacity old.kept) old.regions.items can.tied seg anew) ∙ e in cc wrong);
+    too_many = λ e. absurd (cc e);
+  }
+
+  -- What the tries came to
+  pub tried_not : (t : Trouble) (after : X) (s2 : SegManager Manager) → IsTried M G (OpenSegment seg) before start (Err t) after s2 → Acquires M G before old seg (Err t) after s2
+  tried_not t after s2 (inl r) =
+      let tr : Tries M G (OpenSegment seg) before start (Err t) after s2 = r.0 in
+      subst (λ (x : SegManager Manager). Acquires M G before old seg (Err t) after x) (sym tr.same)
+      (not_opened tr.middle tr.by tr.thins t after s2.gmi tr.call (λ e. sym (ap (λ (x : SegManager Manager). x.kept.items) tr.same) ∙ r.1 e))
+  tried_not t after s2 (inr v) =
+      in_vain v.tries.middle v.tries.by v.tries.thins v.middle v.by.gmi v.tries.call t after s2
+      (subst (λ (x : SegManager Manager). Fails M G v.middle x t after s2) v.tries.same v.fails)
+
+  pub tried_ok : (cache : CacheId) (after : X) (s2 new : SegManager Manager) → length s1.caches.items + 1 ≤ deque_capacity s1.kept → IsTried M G (OpenSegment seg) before start (Ok cache) after s2
+      → new.caches.items ≡ s2.caches.items ++ (record { seg = seg; cache = cache; openings = 1 }) ∷ [] → new ≡ record s2 { caches = new.caches } → Acquires M G before old seg (Ok cache) after new
+  tried_ok cache after s2 new all tr pushed same =
+      subst (λ (x : SegManager Manager). Acquires M G before old seg (Ok cache) after x) (sym (same ∙ (λ i. record (tr.same i) { caches = new.caches })))
+      (was_opened tr.middle tr.by tr.thins cache after s2.gmi tr.call new
+      (pushed ∙ ap (λ (x : SegManager Manager). x.caches.items ++ (record { seg = seg; cache = cache; openings = 1 }) ∷ []) tr.same)
+      (omega (arith, all, tr.thins.few, tr.thins.fits)))
+
+  -- The same by the calls that it makes
+  module _ (is : s1 ≡ start) where
+    pub lacks_by : Acquires M G before old seg (Err troubles.Memory) before s1
+    lacks_by = subst (λ (x : SegManager Manager). Acquires M G before old seg (Err troubles.Memory) before x) (sym is) lacks_start
+
+    pub can_by : CanCall G s1 (M.held before) (M.page_bytes before)
+    can_by = subst (λ (x : SegManager Manager). CanCall G x (M.held before) (M.page_bytes before)) (sym is) start_can
+
+    pub credit_by : G.made old.gmi ≤ 2 ^ 61 → credit M G s1 before ≤ 2 ^ 61 + 2 ^ 32
+    credit_by h = subst (λ (x : SegManager Manager). credit M G x before ≤ 2 ^ 61 + 2 ^ 32) (sym is) (start_credit h)
+
+    pub not_by : (t : Trouble) (after : X) (s2 : SegManager Manager) → IsTried M G (OpenSegment seg) before s1 (Err t) after s2 → Acquires M G before old seg (Err t) after s2
+    not_by t after s2 tried = tried_not t after s2 (subst (λ (x : SegManager Manager). IsTried M G (OpenSegment seg) before x (Err t) after s2) is tried)
+
+    pub ok_by : (cache : CacheId) (after : X) (s2 new : SegManager Manager) → length s1.caches.items + 1 ≤ deque_capacity s1.kept → IsTried M G (OpenSegment seg) before s1 (Ok cache) after s2
+        → new.caches.items ≡ s2.caches.items ++ (record { seg = seg; cache = cache; openings = 1 }) ∷ [] → new ≡ record s2 { caches = new.caches } → Acquires M G before old seg (Ok cache) after new
+    ok_by cache after s2 new all tried pushed same = tried_ok cache after s2 new all (subst (λ (x : SegManager Manager). IsTried M G (OpenSegment seg) before x (Ok cache) after s2) is tried) pushed same

@@ -1,0 +1,43 @@
+-- One answer after another of segments: what there is between two, and how one leads on.
+use Rattle.std.specs.Prelude.{◌≡◌, ℕ, Option, Some, None, option_map}
+use Rattle.vm_ids.specs.Counting.{MapperCounts}
+use Rattle.vm_ids.specs.Held.{Segments}
+use Rattle.vm_ids.specs.declared.command.KeepCommand.{KeepCommand}
+use Rattle.vm_model.specs.Answering.{Answer}
+use Rattle.vm_model.specs.Outcome.{blank}
+use Rattle.vm_model.specs.PageForest.{PageForest}
+use Rattle.gmi_calls.specs.Untold.{UntoldStep}
+use Rattle.seg_manager.specs.Outcome.{Outcome}
+use Rattle.seg_manager.specs.ReferenceMachine.{ReferenceMachine}
+
+-- What there is between two answers: the segments that are referred to, and what the mapper's
+-- segments hold where that is told.
+pub record State : Type 0 where
+  pub references : ReferenceMachine
+  pub segments : Option Segments
+
+-- what isn't known where nothing is told: the bytes, and what is stored
+abbrev pub blank_references : ReferenceMachine → ReferenceMachine
+blank_references m = record m { memory = blank m.memory; stored = λ seg. None }
+
+abbrev pub forget : State → State
+forget s = record s { references = blank_references s.references }
+
+-- One answer of the machine. A new cache has this number; and where a copy fails, this forest says
+-- how many saves could be done before.
+abbrev pub LeadsTo : Segments → State → KeepCommand → Answer → MapperCounts → State → Type 0
+LeadsTo h before command answer rises after = (number : ℕ) × (forest : Option PageForest)
+    × Outcome before.references forest command h number answer after.references rises
+
+-- One answer, where the mapper tells what it holds and where it doesn't.
+abbrev pub StepAt : Option Segments → State → KeepCommand → Answer → MapperCounts → State → Type 0
+StepAt None before command answer rises after =
+    UntoldStep forget (λ h whole a next. LeadsTo h whole command a rises next) before answer after
+StepAt (Some h) before command answer rises after = LeadsTo h before command answer rises after
+
+-- One answer of the manager of segments. The mapper denies the same pages then.
+pub record AnswerIs (before : State) (command : KeepCommand) (answer : Answer)
+    (rises : MapperCounts) (after : State) : Type 0 where
+  pub step : StepAt after.segments before command answer rises after
+  pub denied : option_map (λ (h : Segments). h.denied) after.segments
+      ≡ option_map (λ (h : Segments). h.denied) before.segments
