@@ -29,3 +29,6 @@ pub mod Lifting
 pub mod Temping
 pub mod Dropping
 pub mod Temporary
+pub mod Renaming
+pub mod Alike
+pub mod Limits
