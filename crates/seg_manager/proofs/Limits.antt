@@ -112,11 +112,11 @@ module _ {A : Type 0} (p : A → Bool) where
 
   any_filter : (keep : A → Bool) (xs : List A) → list_any p (filter keep xs) ≡ true → list_any p xs ≡ true
   any_filter keep [] e = e
-  any_filter keep (x ∷ xs) e = by (keep x) e
+  any_filter keep (x ∷ xs) e = by (keep x) (any_filter keep xs) e
     where
-      by : (b : Bool) → list_any p (cond b (x ∷ filter keep xs) (filter keep xs)) ≡ true → (p x || list_any p xs) ≡ true
-      by true e = any_more (p x) (filter keep xs) xs (any_filter keep xs) e
-      by false e = or_right (p x) (list_any p xs) (any_filter keep xs e)
+      by : (b : Bool) → (list_any p (filter keep xs) ≡ true → list_any p xs ≡ true) → list_any p (cond b (x ∷ filter keep xs) (filter keep xs)) ≡ true → (p x || list_any p xs) ≡ true
+      by true rest e = any_more (p x) (filter keep xs) xs rest e
+      by false rest e = or_right (p x) (list_any p xs) (rest e)
 
   any_change : (g : A → A) → ((x : A) → p (g x) ≡ true → p x ≡ true) → (xs : List A) → list_any p (map g xs) ≡ true → list_any p xs ≡ true
   any_change g f [] e = e
@@ -127,13 +127,13 @@ module _ {A : Type 0} (p : A → Bool) where
 
 any_insert : (p : Region → Bool) (x : Region) (rs : Actor) → list_any p (insert_region x rs) ≡ true → (p x ≡ true) ⊎ (list_any p rs ≡ true)
 any_insert p x [] e = either (p x) false e
-any_insert p x (y ∷ rs) e = by (nat_lt x.start y.start) e
+any_insert p x (y ∷ rs) e = by (nat_lt x.start y.start) (any_insert p x rs) e
   where
-    by : (b : Bool) → list_any p (cond b (x ∷ y ∷ rs) (y ∷ insert_region x rs)) ≡ true → (p x ≡ true) ⊎ ((p y || list_any p rs) ≡ true)
-    by true e = either (p x) (p y || list_any p rs) e
-    by false e = elim (either (p y) (list_any p (insert_region x rs)) e) [
+    by : (b : Bool) → (list_any p (insert_region x rs) ≡ true → (p x ≡ true) ⊎ (list_any p rs ≡ true)) → list_any p (cond b (x ∷ y ∷ rs) (y ∷ insert_region x rs)) ≡ true → (p x ≡ true) ⊎ ((p y || list_any p rs) ≡ true)
+    by true rest e = either (p x) (p y || list_any p rs) e
+    by false rest e = elim (either (p y) (list_any p (insert_region x rs)) e) [
       | inl q ↦ inr (ap (λ (b : Bool). b || list_any p rs) q)
-      | inr q ↦ elim (any_insert p x rs q) [
+      | inr q ↦ elim (rest q) [
         | inl s ↦ inl s
         | inr s ↦ inr (or_right (p y) (list_any p rs) s)
       ]
@@ -260,10 +260,10 @@ module _ (r : Renaming) (m n : ReferenceMachine) (M : Match r m n) where
         (λ i. option_map_or (λ c. put_cache n.memory (r k) (put_page p.page (overwrite p.byte bytes (sym (page_too p) i)) c)) (sym (M.memory.is.caches k) i) n.memory)
         (by (cache_of m.memory k) refl)
       where
-        abbrev k : ℕ
+        k : ℕ
         k = p.region.cache
 
-        abbrev change : Cache → Cache
+        change : Cache → Cache
         change = put_page p.page (overwrite p.byte bytes (page_at m.memory p))
 
         by : (o : Option Cache) → cache_of m.memory k ≡ o → Matches r (option_map_or (λ c. put_cache m.memory k (change c)) o m.memory) (option_map_or (λ c. put_cache n.memory (r k) (change c)) o n.memory)
@@ -302,7 +302,7 @@ module _ (r : Renaming) (m n : ReferenceMachine) (M : Match r m n) where
             ]));
       })))))))
     where
-      abbrev new : Region
+      new : Region
       new = region_of (m.memory.regions_made + 1) p
 
       overlap : (regions : Actor) → list_any (overlaps n.memory.page_bytes p.address p.extent.pages) (map f regions) ≡ list_any (overlaps m.memory.page_bytes p.address p.extent.pages) regions
@@ -472,7 +472,7 @@ go_on r m n M (s ∷ first) [] left right e d same = absurd same
 go_on r m n M (s ∷ first) (t ∷ second) left right e d same =
     (fits.answer, go_on (renaming_behind r s.answer t.answer) e.0 d.0 fits.next first second left right e.2 d.2 same.1)
   where
-    abbrev command : KeepCommand
+    command : KeepCommand
     command = renamed r s.command
 
     gives : Gives n command t.segments t.number t.answer d.0
