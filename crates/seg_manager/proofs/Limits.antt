@@ -15,6 +15,7 @@ use Rattle.vm_ids.specs.declared.command.KeepCommand.{KeepCommand}
 use Rattle.vm_ids.specs.declared.command.KeepCommand.TheVariants as commands
 use Rattle.vm_ids.specs.declared.command.Mapping.{Mapping}
 use Rattle.vm_ids.specs.declared.command.Span.{Span}
+use Rattle.vm_ids.specs.declared.numbers.CacheId.{CacheId}
 use Rattle.vm_ids.specs.declared.refusal.Refusal.{Refusal}
 use Rattle.vm_ids.specs.declared.refusal.Refusal.TheVariants as refusals
 use Rattle.vm_ids.specs.declared.reply.Reply.{Reply}
@@ -30,7 +31,7 @@ use Rattle.vm_model.specs.Regions.{region_with}
 use Rattle.vm_model.proofs.Parts.Lists.{numbered_place}
 use Rattle.seg_manager.specs.Answering.{Answered, MayHave, answer_of, close_of, leaving_by, make_temp_of, open_anew, open_by, open_of, refuse, reply, with_memory, within}
 use Rattle.seg_manager.specs.Laws.{Chain, Leads, Step}
-use Rattle.seg_manager.specs.Limits.{AreAlike, AreSameSteps, EndAlike, Renaming, RunsAreAlike, decided, is_decided, makes_cache, renamed, renamed_actors, renamed_answer, renamed_mapping, renamed_region, renamed_span, renaming_behind, same_numbers, with_pair}
+use Rattle.seg_manager.specs.Limits.{AreAlike, AreEqualSteps, AreSameSteps, EndAlike, EqualRunsAnswerEqually, Renaming, RunsAreAlike, TellTheSame, answers_of, decided, is_decided, makes_cache, renamed, renamed_actors, renamed_answer, renamed_mapping, renamed_region, renamed_span, renaming_behind, same_numbers, with_pair}
 use Rattle.seg_manager.specs.Outcome.{Gives, MayExceed, Outcome}
 use Rattle.seg_manager.specs.ReferenceMachine.{ReferenceMachine, Stored, add_cache, close_one, is_open, let_go, number_named, open_one, start, take_stored, with_cache}
 use Rattle.seg_manager.proofs.Alike.{Match, Matches, actor, at_by, both_let_go, locked, nowhere, number_same, same, segment, with_actors, with_new, with_put}
@@ -509,3 +510,48 @@ pub runs_are_alike : RunsAreAlike
 runs_are_alike frames page_bytes stored first second m n chain other same =
     go_on same_numbers (start frames page_bytes stored) (start frames page_bytes stored) (started frames page_bytes stored) (decided first) (decided second) m n
     (given_chain (start frames page_bytes stored) first m chain) (given_chain (start frames page_bytes stored) second n other) same
+
+-- Runs that number caches alike
+
+kept_command : (command : KeepCommand) → renamed same_numbers command ≡ command
+kept_command (commands.Plain (plain_commands.Copy span)) = refl
+kept_command (commands.Plain (plain_commands.Map a mapping)) = refl
+kept_command (commands.Plain command) = refl
+kept_command (commands.Close seg) = refl
+
+kept_answer : (a : Answer) → renamed_answer same_numbers a ≡ a
+kept_answer (Ok (replies.Cache cache)) = refl
+kept_answer (Ok x) = refl
+kept_answer (Err e) = refl
+
+kept_behind : (a b : Answer) → TellTheSame a b → renaming_behind same_numbers a b ≡ same_numbers
+kept_behind (Ok (replies.Cache j)) (Ok (replies.Cache k)) e =
+    ap (λ (x : CacheId). with_pair j.0 x.0 same_numbers) e ∙ pair_again j.0 same_numbers
+kept_behind (Ok (replies.Cache j)) (Err t) e = refl
+kept_behind (Ok x) (Ok y) e = refl
+kept_behind (Ok x) (Err t) e = refl
+kept_behind (Err t) b e = refl
+
+same_steps : (first second : List Step) → AreEqualSteps first second → AreSameSteps same_numbers first second
+same_steps [] [] e = tt
+same_steps [] (t ∷ second) e = absurd e
+same_steps (s ∷ first) [] e = absurd e
+same_steps (s ∷ first) (t ∷ second) e = (
+  record { command = e.0.command ∙ sym (kept_command s.command); denied = e.0.denied },
+  subst (λ (r : Renaming). AreSameSteps r first second) (sym (kept_behind s.answer t.answer e.0.numbers)) (same_steps first second e.1),
+)
+
+same_answers : (first second : List Step) (m n : ReferenceMachine) → AreEqualSteps first second → EndAlike same_numbers first second m n → answers_of second ≡ answers_of first
+same_answers [] [] m n e alike = refl
+same_answers [] (t ∷ second) m n e alike = absurd e
+same_answers (s ∷ first) [] m n e alike = absurd e
+same_answers (s ∷ first) (t ∷ second) m n e alike =
+    let kept = kept_behind s.answer t.answer e.0.numbers in
+    let here = alike.0 ∙ ap (λ (r : Renaming). renamed_answer r s.answer) kept ∙ kept_answer s.answer in
+    let rest = same_answers first second m n e.1 (subst (λ (r : Renaming). EndAlike r first second m n) kept alike.1) in
+    λ i. here i ∷ rest i
+
+pub equal_runs_answer_equally : EqualRunsAnswerEqually
+equal_runs_answer_equally frames page_bytes stored first second m n chain other same =
+    same_answers (decided first) (decided second) m n same
+    (runs_are_alike frames page_bytes stored first second m n chain other (same_steps (decided first) (decided second) same))

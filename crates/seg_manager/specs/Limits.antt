@@ -133,3 +133,31 @@ RunsAreAlike =
     → Chain (start frames page_bytes stored) second n
     → AreSameSteps same_numbers (decided first) (decided second)
     → EndAlike same_numbers (decided first) (decided second) m n
+
+-- two answers that both tell a cache tell the same number
+abbrev pub TellTheSame : Answer → Answer → Type 0
+TellTheSame (Ok (Cache first)) (Ok (Cache second)) = second ≡ first
+TellTheSame first second = Unit {0}
+
+-- The same command, where the mapper denies the same pages and a cache gets the same number.
+pub record IsEqualStep (s t : Step) : Type 0 where
+  pub command : t.command ≡ s.command
+  pub denied : t.segments.denied ≡ s.segments.denied
+  pub numbers : TellTheSame s.answer t.answer
+
+abbrev pub AreEqualSteps : List Step → List Step → Type 0
+AreEqualSteps [] [] = Unit {0}
+AreEqualSteps (s ∷ first) (t ∷ second) = IsEqualStep s t × AreEqualSteps first second
+AreEqualSteps first second = ⊥
+
+abbrev pub answers_of : List Step → List Answer
+answers_of steps = map (λ (s : Step). s.answer) steps
+
+-- So where caches get the same numbers in both, the answers are the same.
+abbrev pub EqualRunsAnswerEqually : Type 0
+EqualRunsAnswerEqually =
+    (frames page_bytes : ℕ) (stored : Stored) (first second : List Step) (m n : ReferenceMachine)
+    → Chain (start frames page_bytes stored) first m
+    → Chain (start frames page_bytes stored) second n
+    → AreEqualSteps (decided first) (decided second)
+    → answers_of (decided second) ≡ answers_of (decided first)

@@ -1,6 +1,6 @@
 // Laws of the definitions. Each function does nothing, and its contract is the laws.
 ghost use Rattle.seg_manager.specs.Laws.{ReopensAsItWas};
-ghost use Rattle.seg_manager.specs.Limits.{RunsAreAlike};
+ghost use Rattle.seg_manager.specs.Limits.{EqualRunsAnswerEqually, RunsAreAlike};
 ghost use Rattle.seg_manager.specs.Rows.{KeptCacheComesAgain, NothingIsKept};
 
 /// Worked scripts, computed by the definitions.
@@ -17,5 +17,6 @@ pub fn reopening()
 /// How many caches are kept for the next opening shows in the numbers of caches alone, and in which
 /// commands are answered a fault, want of memory, or too many.
 pub fn limits()
-    ensures { RunsAreAlike }
+    ensures runs_are_alike { RunsAreAlike }
+    ensures equal_runs_answer_equally { EqualRunsAnswerEqually }
 {}
