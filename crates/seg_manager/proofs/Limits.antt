@@ -23,7 +23,7 @@ use Rattle.vm_ids.specs.declared.reply.Reply.TheVariants as replies
 use Rattle.vm_ids.specs.declared.reply.Trouble.TheVariants as troubles
 use Rattle.vm_model.specs.declared.limits.TheConstants.{LIVING_ACTORS, MOST_MADE}
 use Rattle.vm_model.specs.Answering as plain
-use Rattle.vm_model.specs.Answering.{Answer, bytes_at, insert_region, is_any_denied, is_any_locked, is_denied_page, maps_in, opened, overlaps, overlaps_itself, overwrite, page_at, put_cache, put_page, put_pages, region_of, shares, temporary, unless, with_ok, with_some, without_region, write_at}
+use Rattle.vm_model.specs.Answering.{Answer, bytes_at, insert_region, is_any_denied, is_any_locked, is_denied_page, maps_in, opened, overlaps, overlaps_itself, overwrite, page_at, put_cache, put_page, put_pages, put_span, region_of, shares, temporary, unless, with_ok, with_some, without_region, write_at}
 use Rattle.vm_model.specs.Machine.{Actor, Cache, Machine, Page, Region, actor_of, cache_of, is_locked_page, living_actors, segment_of}
 use Rattle.vm_model.specs.PageForest.{PageForest}
 use Rattle.vm_model.specs.Place.{Place, place, place_of_actor}
@@ -31,7 +31,7 @@ use Rattle.vm_model.specs.Regions.{region_with}
 use Rattle.vm_model.proofs.Parts.Lists.{numbered_place}
 use Rattle.seg_manager.specs.Answering.{Answered, MayHave, answer_of, close_of, leaving_by, make_temp_of, open_anew, open_by, open_of, refuse, reply, with_memory, within}
 use Rattle.seg_manager.specs.Laws.{Chain, Leads, Step}
-use Rattle.seg_manager.specs.Limits.{AreAlike, AreEqualSteps, AreSameSteps, EndAlike, EqualRunsAnswerEqually, Renaming, RunsAreAlike, TellTheSame, answers_of, decided, is_decided, makes_cache, renamed, renamed_actors, renamed_answer, renamed_mapping, renamed_region, renamed_span, renaming_behind, same_numbers, with_pair}
+use Rattle.seg_manager.specs.Limits.{AreAlike, AreEqualSteps, AreSameSteps, EndAlike, EqualRunsAnswerEqually, NameTheSame, Renaming, RunsAreAlike, TellTheSame, answers_of, behind, decided, is_decided, makes_cache, renamed, renamed_actors, renamed_answer, renamed_mapping, renamed_region, renamed_span, renaming_behind, same_numbers, with_pair}
 use Rattle.seg_manager.specs.Outcome.{Gives, MayExceed, Outcome}
 use Rattle.seg_manager.specs.ReferenceMachine.{ReferenceMachine, Stored, add_cache, close_one, is_open, let_go, number_named, open_one, start, take_stored, with_cache}
 use Rattle.seg_manager.proofs.Alike.{Match, Matches, actor, at_by, both_let_go, locked, nowhere, number_same, same, segment, with_actors, with_new, with_put}
@@ -163,7 +163,7 @@ pub record Fits (r : Renaming) (a b : Answered) : Type 0 where
   pub answer : b.answer ≡ renamed_answer (renaming_behind r a.answer b.answer) a.answer
   pub next : Match (renaming_behind r a.answer b.answer) a.next b.next
 
-module _ (r : Renaming) (m n : ReferenceMachine) (M : Match r m n) where
+module _ (r : Renaming) (m n : ReferenceMachine) (M : Match r m n) (names : Renaming) (named : NameTheSame r m n names) where
   abbrev f : Region → Region
   f = renamed_region r
 
@@ -225,20 +225,43 @@ module _ (r : Renaming) (m n : ReferenceMachine) (M : Match r m n) where
       M.memory.is.regions_made
       (λ k e. M.memory.live k (any_change (maps_in k) (option_map (without_region number)) (without_maps k number) m.memory.actors e)))))
 
+  -- what commands name
+  named_cache : (k : ℕ) → cache_of n.memory (names k) ≡ cache_of m.memory k
+  named_cache k = elim (named k) [
+    | inl e ↦ ap (cache_of n.memory) e ∙ M.memory.is.caches k
+    | inr e ↦ e.1 ∙ sym e.0
+  ]
+
+  live_name : (k : ℕ) (c : Cache) → cache_of m.memory k ≡ Some c → names k ≡ r k
+  live_name k c there = elim (named k) [
+    | inl e ↦ e
+    | inr e ↦ absurd (let wrong : None ≡ Some c = sym e.0 ∙ there in cc wrong)
+  ]
+
   module _ (h g : Segments) (D : g.denied ≡ h.denied) where
     denied : (cache page : ℕ) → is_denied_page n.memory g (r cache) page ≡ is_denied_page m.memory h cache page
     denied cache page = λ i. option_map_or (λ seg. denies (D i) seg page) (segment r m.memory n.memory M.memory cache i) false
 
-    copy_row : (s : Span) → W (plain.copy_of m.memory s h) (plain.copy_of n.memory (renamed_span r s) g)
+    copy_row : (s : Span) → W (plain.copy_of m.memory s h) (plain.copy_of n.memory (renamed_span names s) g)
     unfolding plain.copy_of
     copy_row s =
-        both_there W m.memory n.memory (cache_of m.memory s.from.0) _ _ _ _ (M.memory.is.caches s.from.0) (refused _) (λ source from.
-        both_there W m.memory n.memory (cache_of m.memory s.to.0) _ _ _ _ (M.memory.is.caches s.to.0) (refused _) (λ destination to.
+        both_there W m.memory n.memory (cache_of m.memory s.from.0) _ _ _ _ (named_cache s.from.0) (refused _) (λ source from.
+        both_there W m.memory n.memory (cache_of m.memory s.to.0) _ _ _ _ (named_cache s.to.0) (refused _) (λ destination to.
+        let from_is = live_name s.from.0 source from in
+        let to_is = live_name s.to.0 destination to in
         both_unless W m.memory n.memory _ _ _ _ _ refl (refused _) (λ inside.
-        both_unless W m.memory n.memory _ _ _ _ _ (ap (λ (b : Bool). b && shares s.from_page.0 s.pages s.to_page.0 s.pages) (same r m.memory n.memory M.memory s.from.0 s.to.0)) (refused _) (λ apart.
-        both_unless W m.memory n.memory _ _ _ _ _ (ap (λ p. list_any p (range_with_len s.to_page.0 s.pages)) (fun_same (is_locked_page n.memory (r s.to.0)) (is_locked_page m.memory s.to.0) (locked r m.memory n.memory M.memory s.to.0))) (refused _) (λ unlocked.
-        both_unless W m.memory n.memory _ _ _ _ _ (ap (λ p. list_any p (range_with_len s.to_page.0 s.pages)) (fun_same (is_denied_page n.memory g (r s.to.0)) (is_denied_page m.memory h s.to.0) (denied s.to.0))) (refused _) (λ allowed.
-        done _ _ (with_put r m.memory n.memory M.memory s.to.0 destination _ to refl)))))))
+        both_unless W m.memory n.memory _ _ _ _ _ (ap (λ (b : Bool). b && shares s.from_page.0 s.pages s.to_page.0 s.pages) ((λ i. from_is i == to_is i) ∙ same r m.memory n.memory M.memory s.from.0 s.to.0)) (refused _) (λ apart.
+        both_unless W m.memory n.memory _ _ _ _ _ (of_pages s (is_locked_page n.memory) (is_locked_page m.memory s.to.0) to_is (locked r m.memory n.memory M.memory s.to.0)) (refused _) (λ unlocked.
+        both_unless W m.memory n.memory _ _ _ _ _ (of_pages s (is_denied_page n.memory g) (is_denied_page m.memory h s.to.0) to_is (denied s.to.0)) (refused _) (λ allowed.
+        done _ _ (subst (λ (k : ℕ). Matches r (put_span m.memory s source destination) (put_cache n.memory k (filled s source destination))) (sym to_is)
+        (with_put r m.memory n.memory M.memory s.to.0 destination (filled s source destination) to refl))))))))
+      where
+        filled : Span → Cache → Cache → Cache
+        filled s source destination = put_pages s.to_page.0 (take s.pages (drop s.from_page.0 source.pages)) destination
+
+        of_pages : (s : Span) (q : ℕ → ℕ → Bool) (p : ℕ → Bool) → names s.to.0 ≡ r s.to.0 → ((page : ℕ) → q (r s.to.0) page ≡ p page)
+            → list_any (q (names s.to.0)) (range_with_len s.to_page.0 s.pages) ≡ list_any p (range_with_len s.to_page.0 s.pages)
+        of_pages s q p e each = λ i. list_any ((ap q e ∙ fun_same (q (r s.to.0)) p each) i) (range_with_len s.to_page.0 s.pages)
 
     placed_too : (a address length : ℕ) → place n.memory a address length ≡ ok_map (placed_by r) (place m.memory a address length)
     placed_too a address length =
@@ -278,11 +301,11 @@ module _ (r : Renaming) (m n : ReferenceMachine) (M : Match r m n) where
         both_unless W m.memory n.memory _ _ _ _ _ (denied p.region.cache p.page) (refused _) (λ allowed.
         done _ _ (written p bytes))))
 
-  map_row : (a : ℕ) (p : Mapping) → W (plain.map_of m.memory a p) (plain.map_of n.memory a (renamed_mapping r p))
+  map_row : (a : ℕ) (p : Mapping) → W (plain.map_of m.memory a p) (plain.map_of n.memory a (renamed_mapping names p))
   unfolding plain.map_of
   map_row a p =
       both_some W m.memory n.memory (map f) (actor_of m.memory a) _ _ _ _ (actor r m.memory n.memory M.memory a) (refused _) (λ regions alive.
-      both_there W m.memory n.memory (cache_of m.memory p.extent.cache.0) _ _ _ _ (M.memory.is.caches p.extent.cache.0) (refused _) (λ c there.
+      both_there W m.memory n.memory (cache_of m.memory p.extent.cache.0) _ _ _ _ (named_cache p.extent.cache.0) (refused _) (λ c there.
       both_unless W m.memory n.memory _ _ _ _ _ (ap (λ (b : ℕ). not (p.address % b == 0)) M.memory.is.page_bytes) (refused _) (λ aligned.
       both_unless W m.memory n.memory _ _ _ _ _ (ap (λ (b : ℕ). nat_lt (2 ^ 48) (p.address + b * p.extent.pages)) M.memory.is.page_bytes) (refused _) (λ low.
       both_unless W m.memory n.memory _ _ _ _ _ refl (refused _) (λ inside.
@@ -290,7 +313,7 @@ module _ (r : Renaming) (m n : ReferenceMachine) (M : Match r m n) where
       both_unless W m.memory n.memory _ _ _ _ _ (ap (nat_le MOST_MADE) M.memory.is.regions_made) (refused _) (λ few. record {
         answer = ap (λ (k : ℕ). Ok (replies.Region (record { 0 = k + 1 }))) M.memory.is.regions_made;
         next = matched _ _ (with_actors r m.memory n.memory M.memory (set m.memory.actors (a - 1) (Some (insert_region new regions))) _ (m.memory.regions_made + 1) (n.memory.regions_made + 1)
-            ((λ i. set (M.memory.is.actors i) (a - 1) (Some (insert_region (f (region_of (M.memory.is.regions_made i + 1) p)) (map f regions))))
+            ((λ i. set (M.memory.is.actors i) (a - 1) (Some (insert_region (record (region_of (M.memory.is.regions_made i + 1) p) { cache = live_name p.extent.cache.0 c there i }) (map f regions))))
             ∙ ap (λ (rs : Actor). set (renamed_actors r m.memory.actors) (a - 1) (Some rs)) (insert_renamed r new regions)
             ∙ sym (map-set (option_map (map f)) m.memory.actors (a - 1) (Some (insert_region new regions))))
             (ap (λ (k : ℕ). k + 1) M.memory.is.regions_made)
@@ -389,8 +412,8 @@ module _ (r : Renaming) (m n : ReferenceMachine) (M : Match r m n) where
 
   -- the whole table
   rows : (command : KeepCommand) (h g : Segments) → g.denied ≡ h.denied → (j k : ℕ)
-      → IfOk (answer_of m command h j).answer (λ (x : Reply). MayHave m command j) → IfOk (answer_of n (renamed r command) g k).answer (λ (x : Reply). MayHave n (renamed r command) k)
-      → Fits r (answer_of m command h j) (answer_of n (renamed r command) g k)
+      → IfOk (answer_of m command h j).answer (λ (x : Reply). MayHave m command j) → IfOk (answer_of n (renamed names command) g k).answer (λ (x : Reply). MayHave n (renamed names command) k)
+      → Fits r (answer_of m command h j) (answer_of n (renamed names command) g k)
   unfolding make_temp_of
   rows (commands.Close seg) h g D j k may may_too = close_row seg.0
   rows (commands.Plain plain_commands.MakeActor) h g D j k may may_too = actor_row
@@ -464,17 +487,17 @@ given_chain m (s ∷ steps) after chain =
     by true given rest = (chain.0, record { may = given.0; gives = given.1 }, rest)
     by false stays rest = subst (λ (x : ReferenceMachine). GivenChain x (decided steps) after) stays rest
 
-go_on : (r : Renaming) (m n : ReferenceMachine) → Match r m n → (first second : List Step) (left right : ReferenceMachine) → GivenChain m first left → GivenChain n second right → AreSameSteps r first second → EndAlike r first second left right
+go_on : (r : Renaming) (m n : ReferenceMachine) → Match r m n → (first second : List Step) (left right : ReferenceMachine) → GivenChain m first left → GivenChain n second right → AreSameSteps r m n first second → EndAlike r first second left right
 go_on r m n M [] [] left right e d same =
     subst (λ (x : ReferenceMachine). AreAlike r x right) (sym e)
     (subst (AreAlike r m) (sym d) (record { memory = M.memory.is; stored = M.stored; openings = M.openings }))
 go_on r m n M [] (t ∷ second) left right e d same = absurd same
 go_on r m n M (s ∷ first) [] left right e d same = absurd same
 go_on r m n M (s ∷ first) (t ∷ second) left right e d same =
-    (fits.answer, go_on (renaming_behind r s.answer t.answer) e.0 d.0 fits.next first second left right e.2 d.2 same.1)
+    (fits.answer, go_on (renaming_behind r s.answer t.answer) e.0 d.0 fits.next first second left right e.2 d.2 rest)
   where
     command : KeepCommand
-    command = renamed r s.command
+    command = renamed same.0.names s.command
 
     gives : Gives n command t.segments t.number t.answer d.0
     gives = subst (λ (c : KeepCommand). Gives n c t.segments t.number t.answer d.0) same.0.command d.1.gives
@@ -483,7 +506,7 @@ go_on r m n M (s ∷ first) (t ∷ second) left right e d same =
     may = subst (λ (c : KeepCommand). IfOk t.answer (λ (x : Reply). MayHave n c t.number)) same.0.command d.1.may
 
     at_rows : Fits r (answer_of m s.command s.segments s.number) (answer_of n command t.segments t.number)
-    at_rows = rows r m n M s.command s.segments t.segments same.0.denied s.number t.number
+    at_rows = rows r m n M same.0.names same.0.same s.command s.segments t.segments same.0.denied s.number t.number
         (subst (λ (a : Answered). IfOk a.answer (λ (x : Reply). MayHave m s.command s.number)) (sym e.1.gives) e.1.may)
         (subst (λ (a : Answered). IfOk a.answer (λ (x : Reply). MayHave n command t.number)) (sym gives) may)
 
@@ -491,6 +514,11 @@ go_on r m n M (s ∷ first) (t ∷ second) left right e d same =
     fits =
         subst (λ (a : Answered). Fits r a (record { answer = t.answer; next = d.0 })) e.1.gives
         (subst (Fits r (answer_of m s.command s.segments s.number)) gives at_rows)
+
+    rest : AreSameSteps (renaming_behind r s.answer t.answer) e.0 d.0 first second
+    rest =
+        subst (λ (x : ReferenceMachine). AreSameSteps (renaming_behind r s.answer t.answer) x d.0 first second) (ap (λ (a : Answered). a.next) e.1.gives)
+        (subst (λ (x : ReferenceMachine). AreSameSteps (renaming_behind r s.answer t.answer) (behind m s) x first second) (ap (λ (a : Answered). a.next) d.1.gives) same.1)
 
 started : (frames page_bytes : ℕ) (stored : Stored) → Match same_numbers (start frames page_bytes stored) (start frames page_bytes stored)
 started frames page_bytes stored = record {
@@ -532,13 +560,13 @@ kept_behind (Ok x) (Ok y) e = refl
 kept_behind (Ok x) (Err t) e = refl
 kept_behind (Err t) b e = refl
 
-same_steps : (first second : List Step) → AreEqualSteps first second → AreSameSteps same_numbers first second
-same_steps [] [] e = tt
-same_steps [] (t ∷ second) e = absurd e
-same_steps (s ∷ first) [] e = absurd e
-same_steps (s ∷ first) (t ∷ second) e = (
-  record { command = e.0.command ∙ sym (kept_command s.command); denied = e.0.denied },
-  subst (λ (r : Renaming). AreSameSteps r first second) (sym (kept_behind s.answer t.answer e.0.numbers)) (same_steps first second e.1),
+same_steps : (m n : ReferenceMachine) (first second : List Step) → AreEqualSteps first second → AreSameSteps same_numbers m n first second
+same_steps m n [] [] e = tt
+same_steps m n [] (t ∷ second) e = absurd e
+same_steps m n (s ∷ first) [] e = absurd e
+same_steps m n (s ∷ first) (t ∷ second) e = (
+  record { names = same_numbers; same = λ k. inl refl; command = e.0.command ∙ sym (kept_command s.command); denied = e.0.denied },
+  subst (λ (r : Renaming). AreSameSteps r (behind m s) (behind n t) first second) (sym (kept_behind s.answer t.answer e.0.numbers)) (same_steps (behind m s) (behind n t) first second e.1),
 )
 
 same_answers : (first second : List Step) (m n : ReferenceMachine) → AreEqualSteps first second → EndAlike same_numbers first second m n → answers_of second ≡ answers_of first
@@ -554,4 +582,4 @@ same_answers (s ∷ first) (t ∷ second) m n e alike =
 pub equal_runs_answer_equally : EqualRunsAnswerEqually
 equal_runs_answer_equally frames page_bytes stored first second m n chain other same =
     same_answers (decided first) (decided second) m n same
-    (runs_are_alike frames page_bytes stored first second m n chain other (same_steps (decided first) (decided second) same))
+    (runs_are_alike frames page_bytes stored first second m n chain other (same_steps (start frames page_bytes stored) (start frames page_bytes stored) (decided first) (decided second) same))

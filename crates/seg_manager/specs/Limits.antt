@@ -1,7 +1,7 @@
 -- Two runs over one script, in which caches may get other numbers, as where managers keep more or
 -- fewer caches that nothing refers to. The contract of a function in src/laws.rt names the law, and
 -- so it is proved.
-use Rattle.std.specs.Prelude.{◌≡◌, ◌==◌, ℕ, Bool, false, true, not, List, [], ◌∷◌, filter, map, Option, option_map, Ok, Err, if◌then◌else◌}
+use Rattle.std.specs.Prelude.{◌≡◌, ◌==◌, ◌⊎◌, ℕ, Bool, false, true, not, List, [], ◌∷◌, filter, map, Option, None, option_map, Ok, Err, if◌then◌else◌}
 use Rattle.vm_ids.specs.declared.command.Command.{Command}
 use Rattle.vm_ids.specs.declared.command.Command.TheVariants as plain_commands
 use Rattle.vm_ids.specs.declared.command.KeepCommand.{KeepCommand}
@@ -14,6 +14,7 @@ use Rattle.vm_ids.specs.declared.reply.Reply.TheVariants.{Cache}
 use Rattle.vm_ids.specs.declared.reply.Trouble.TheVariants.{Mapper, Memory, Refused}
 use Rattle.vm_model.specs.Answering.{Answer}
 use Rattle.vm_model.specs.Machine.{Actor, Machine, Region, cache_of}
+use Rattle.seg_manager.specs.Answering.{answer_of}
 use Rattle.seg_manager.specs.Laws.{Chain, Step}
 use Rattle.seg_manager.specs.ReferenceMachine.{ReferenceMachine, Stored, start}
 
@@ -101,18 +102,34 @@ is_decided command answer = true
 abbrev pub decided : List Step → List Step
 decided steps = filter (λ (s : Step). is_decided s.command s.answer) steps
 
--- The same command, where the mapper denies the same pages.
-pub record IsSameStep (renaming : Renaming) (s t : Step) : Type 0 where
-  pub command : t.command ≡ renamed renaming s.command
+-- the machine behind such a step
+abbrev pub behind : ReferenceMachine → Step → ReferenceMachine
+behind m s = (answer_of m s.command s.segments s.number).next
+
+-- The names lead from each live cache as the renaming does, and from any other number to some
+-- number that no live cache has.
+abbrev pub NameTheSame : Renaming → ReferenceMachine → ReferenceMachine → Renaming → Type 0
+NameTheSame renaming m n names =
+    (number : ℕ)
+    → (names number ≡ renaming number)
+    ⊎ ((cache_of m.memory number ≡ None) × (cache_of n.memory (names number) ≡ None))
+
+-- The same command, which names the same caches, where the mapper denies the same pages.
+pub record IsSameStep (renaming : Renaming) (m n : ReferenceMachine) (s t : Step) : Type 0 where
+  pub names : Renaming
+  pub same : NameTheSame renaming m n names
+  pub command : t.command ≡ renamed names s.command
   pub denied : t.segments.denied ≡ s.segments.denied
 
--- one step after another
-abbrev pub AreSameSteps : Renaming → List Step → List Step → Type 0
-AreSameSteps renaming [] [] = Unit {0}
-AreSameSteps renaming (s ∷ first) (t ∷ second) =
-    IsSameStep renaming s t
-    × AreSameSteps (renaming_behind renaming s.answer t.answer) first second
-AreSameSteps renaming first second = ⊥
+-- one such step after another
+abbrev pub AreSameSteps : Renaming → ReferenceMachine → ReferenceMachine → List Step → List Step
+    → Type 0
+AreSameSteps renaming m n [] [] = Unit {0}
+AreSameSteps renaming m n (s ∷ first) (t ∷ second) =
+    IsSameStep renaming m n s t
+    × AreSameSteps (renaming_behind renaming s.answer t.answer) (behind m s) (behind n t)
+    first second
+AreSameSteps renaming m n first second = ⊥
 
 -- Each answer of the second run is that of the first, and the machines behind them are alike.
 abbrev pub EndAlike : Renaming → List Step → List Step → ReferenceMachine → ReferenceMachine
@@ -129,9 +146,9 @@ EndAlike renaming first second m n = ⊥
 abbrev pub RunsAreAlike : Type 0
 RunsAreAlike =
     (frames page_bytes : ℕ) (stored : Stored) (first second : List Step) (m n : ReferenceMachine)
-    → Chain (start frames page_bytes stored) first m
-    → Chain (start frames page_bytes stored) second n
-    → AreSameSteps same_numbers (decided first) (decided second)
+    → let from = start frames page_bytes stored in
+    Chain from first m → Chain from second n
+    → AreSameSteps same_numbers from from (decided first) (decided second)
     → EndAlike same_numbers (decided first) (decided second) m n
 
 -- two answers that both tell a cache tell the same number
