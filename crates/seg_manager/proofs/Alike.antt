@@ -1,6 +1,6 @@
 -- Two machines of which the second is the first but for the numbers of caches: what they have in
 -- common, and how they stay so.
-use Rattle.std.proofs.Common.{◌≡◌, ◌≢◌, ◌==◌, ◌⊎◌, inl, inr, ℕ, zero, suc, ◌+◌, ◌-◌, ◌<◌, ◌≤◌, Bool, true, false, cond, List, [], ◌∷◌, ◌++◌, length, map, replicate, set, Option, Some, None, refl, sym, ap, subst, ◌∙◌, arith}
+use Rattle.std.proofs.Common.{◌≡◌, ◌≢◌, ◌==◌, inl, inr, ℕ, zero, suc, ◌+◌, ◌-◌, ◌<◌, ◌≤◌, Bool, true, false, cond, List, [], ◌∷◌, ◌++◌, length, map, replicate, set, Option, Some, None, refl, sym, ap, subst, ◌∙◌, arith}
 use Rattle.std.specs.Prelude.{◌||◌, IsSome, not, nat_le, nat_lt, option_and_then, option_map, slice_get}
 use Rattle.std.specs.List.{list_any}
 use Rattle.std.specs.Option.{option_map_or}
@@ -11,7 +11,7 @@ use Rattle.vm_model.specs.Machine.{Actor, Cache, Machine, actor_of, cache_of, is
 use Rattle.vm_model.proofs.Parts.ListParts.{at_some, at_zero, numbered_set, numbered_set_other, zero_or}
 use Rattle.vm_model.proofs.Parts.Lists.{get_set_other, get_set_same, numbered-map, numbered_place}
 use Rattle.seg_manager.specs.Limits.{IsRenamed, Renaming, renamed_actors, renamed_region, with_pair}
-use Rattle.seg_manager.specs.ReferenceMachine.{ReferenceMachine, goes, let_go, number_in, number_named, stored_from, used, used_at, with_cache}
+use Rattle.seg_manager.specs.ReferenceMachine.{ReferenceMachine, goes, let_go, number_in, number_named, stored_from, used_at, with_cache}
 use Rattle.seg_manager.proofs.Entries.{fun_same}
 use Rattle.seg_manager.proofs.Going.{Caches, numbered_used}
 use Rattle.seg_manager.proofs.Naming.{none_goes}

@@ -31,4 +31,5 @@ pub mod Dropping
 pub mod Temporary
 pub mod Renaming
 pub mod Alike
+pub mod AlikeRows
 pub mod Limits

@@ -1,14 +1,15 @@
 -- Numbers under a renaming, and what lists of regions with other numbers of caches tell.
-use Rattle.std.proofs.Common.{◌≡◌, ◌≢◌, ◌==◌, ◌⊎◌, inl, inr, ℕ, ◌+◌, ◌%◌, Bool, true, false, cond, List, [], ◌∷◌, map, Option, Some, None, refl, sym, ap, ◌∙◌}
-use Rattle.std.specs.Prelude.{◌&&◌, ◌||◌, nat_le, nat_lt, not, filter, is_some, option_map, Result, Ok, Err}
+use Rattle.std.proofs.Common.{◌≡◌, ◌≢◌, ◌==◌, ◌⊎◌, inl, inr, ℕ, zero, suc, ◌+◌, ◌%◌, Bool, true, false, cond, List, [], ◌∷◌, ◌++◌, map, set, Option, Some, None, refl, sym, ap, ◌∙◌}
+use Rattle.std.specs.Prelude.{◌&&◌, ◌||◌, count_by, filter, is_some, nat_le, nat_lt, not, option_map, Result, Ok, Err}
 use Rattle.std.specs.List.{list_any}
 use Rattle.std.specs.Option.{option_or}
 use Rattle.std.proofs.lemmas.Bool.{cases_eq, eq-eqb, ne_eqb}
+use Rattle.std.proofs.lemmas.List.Sums.{sum_by-cons}
 use Rattle.vm_ids.specs.declared.refusal.Refusal.{Refusal}
 use Rattle.vm_ids.specs.declared.refusal.Refusal.TheVariants.{Crosses}
-use Rattle.vm_model.specs.Answering.{insert_region, maps_in, overlaps, without_region}
+use Rattle.vm_model.specs.Answering.{insert_region, maps_in, without_region}
 use Rattle.vm_model.specs.Machine.{Actor, Region, locks, locks_any}
-use Rattle.vm_model.specs.Place.{Place, holds, place_among, place_of_actor, placed, region_at}
+use Rattle.vm_model.specs.Place.{Place, holds, place_of_actor, placed, region_at}
 use Rattle.vm_model.specs.Regions.{region_among, region_with}
 use Rattle.seg_manager.specs.Limits.{Renaming, renamed_actors, renamed_region, with_pair}
 use Rattle.seg_manager.proofs.Entries.{fun_same}
@@ -146,7 +147,11 @@ module _ (r : Renaming) where
     pub locked_renamed : (cache page : ℕ) (xs : List (Option Actor)) → list_any (locks_any (r cache) page) (renamed_actors r xs) ≡ list_any (locks_any cache page) xs
     locked_renamed cache page xs = any_map (locks_any cache page) (locks_any (r cache) page) (option_map (map f)) (locks_renamed cache page) xs
 
--- The same of two renamings that agree at the caches of these regions
+-- Truth of an or
+
+either : (a b : Bool) → (a || b) ≡ true → (a ≡ true) ⊎ (b ≡ true)
+either true b e = inl refl
+either false b e = inr e
 
 or_left : (a b : Bool) → a ≡ true → (a || b) ≡ true
 or_left true b e = refl
@@ -155,6 +160,8 @@ or_left false b e = absurd (cc e)
 or_right : (a b : Bool) → b ≡ true → (a || b) ≡ true
 or_right true b e = refl
 or_right false b e = e
+
+-- The same of two renamings that agree at the caches of these regions
 
 module _ (r s : Renaming) where
   regions_agree : (rs : Actor) → ((k : ℕ) → list_any (λ (x : Region). x.cache == k) rs ≡ true → r k ≡ s k) → map (renamed_region r) rs ≡ map (renamed_region s) rs
@@ -169,3 +176,73 @@ module _ (r s : Renaming) where
   actors_agree (Some rs ∷ xs) agree = λ i.
       Some (regions_agree rs (λ k e. agree k (or_left (list_any (λ (y : Region). y.cache == k) rs) (list_any (maps_in k) xs) e)) i)
       ∷ actors_agree xs (λ k e. agree k (or_right (list_any (λ (y : Region). y.cache == k) rs) (list_any (maps_in k) xs) e)) i
+
+-- What is mapped once actors changed
+
+module _ {A : Type 0} (p : A → Bool) where
+  any_more : (a : Bool) (xs ys : List A) → (list_any p xs ≡ true → list_any p ys ≡ true) → (a || list_any p xs) ≡ true → (a || list_any p ys) ≡ true
+  any_more true xs ys f e = refl
+  any_more false xs ys f e = f e
+
+  pub any_push : (xs : List A) (x : A) → p x ≡ false → list_any p (xs ++ x ∷ []) ≡ true → list_any p xs ≡ true
+  any_push [] x none e = absurd (let both : (p x || false) ≡ true = e in elim (either (p x) false both) [ | inl y ↦ cc (none, y) | inr y ↦ cc y ])
+  any_push (y ∷ xs) x none e = any_more (p y) (xs ++ x ∷ []) xs (any_push xs x none) e
+
+  pub any_set : (xs : List A) (i : ℕ) (x : A) → list_any p (set xs i x) ≡ true → (p x ≡ true) ⊎ (list_any p xs ≡ true)
+  any_set [] i x e = inr e
+  any_set (y ∷ xs) zero x e = elim (either (p x) (list_any p xs) e) [
+    | inl q ↦ inl q
+    | inr q ↦ inr (or_right (p y) (list_any p xs) q)
+  ]
+  any_set (y ∷ xs) (suc i) x e = elim (either (p y) (list_any p (set xs i x)) e) [
+    | inl q ↦ inr (ap (λ (b : Bool). b || list_any p xs) q)
+    | inr q ↦ elim (any_set xs i x q) [
+      | inl s ↦ inl s
+      | inr s ↦ inr (or_right (p y) (list_any p xs) s)
+    ]
+  ]
+
+  any_filter : (keep : A → Bool) (xs : List A) → list_any p (filter keep xs) ≡ true → list_any p xs ≡ true
+  any_filter keep [] e = e
+  any_filter keep (x ∷ xs) e = by (keep x) (any_filter keep xs) e
+    where
+      by : (b : Bool) → (list_any p (filter keep xs) ≡ true → list_any p xs ≡ true) → list_any p (cond b (x ∷ filter keep xs) (filter keep xs)) ≡ true → (p x || list_any p xs) ≡ true
+      by true rest e = any_more (p x) (filter keep xs) xs rest e
+      by false rest e = or_right (p x) (list_any p xs) (rest e)
+
+  pub any_change : (g : A → A) → ((x : A) → p (g x) ≡ true → p x ≡ true) → (xs : List A) → list_any p (map g xs) ≡ true → list_any p xs ≡ true
+  any_change g f [] e = e
+  any_change g f (x ∷ xs) e = elim (either (p (g x)) (list_any p (map g xs)) e) [
+    | inl q ↦ ap (λ (b : Bool). b || list_any p xs) (f x q)
+    | inr q ↦ or_right (p x) (list_any p xs) (any_change g f xs q)
+  ]
+
+pub any_insert : (p : Region → Bool) (x : Region) (rs : Actor) → list_any p (insert_region x rs) ≡ true → (p x ≡ true) ⊎ (list_any p rs ≡ true)
+any_insert p x [] e = either (p x) false e
+any_insert p x (y ∷ rs) e = by (nat_lt x.start y.start) (any_insert p x rs) e
+  where
+    by : (b : Bool) → (list_any p (insert_region x rs) ≡ true → (p x ≡ true) ⊎ (list_any p rs ≡ true)) → list_any p (cond b (x ∷ y ∷ rs) (y ∷ insert_region x rs)) ≡ true → (p x ≡ true) ⊎ ((p y || list_any p rs) ≡ true)
+    by true rest e = either (p x) (p y || list_any p rs) e
+    by false rest e = elim (either (p y) (list_any p (insert_region x rs)) e) [
+      | inl q ↦ inr (ap (λ (b : Bool). b || list_any p rs) q)
+      | inr q ↦ elim (rest q) [
+        | inl s ↦ inl s
+        | inr s ↦ inr (or_right (p y) (list_any p rs) s)
+      ]
+    ]
+
+pub without_maps : (k number : ℕ) (o : Option Actor) → maps_in k (option_map (without_region number) o) ≡ true → maps_in k o ≡ true
+without_maps k number None e = e
+without_maps k number (Some rs) e = any_filter (λ (r : Region). r.cache == k) (λ (r : Region). not (r.number == number)) rs e
+
+-- as many actors live
+pub living_renamed : (r : Renaming) (xs : List (Option Actor)) → count_by is_some (renamed_actors r xs) ≡ count_by is_some xs
+living_renamed r [] = refl
+living_renamed r (x ∷ xs) =
+    sum_by-cons (λ (o : Option Actor). cond (is_some o) 1 0) (option_map (map (renamed_region r)) x) (renamed_actors r xs)
+    ∙ (λ i. cond (as_there x i) 1 0 + living_renamed r xs i)
+    ∙ sym (sum_by-cons (λ (o : Option Actor). cond (is_some o) 1 0) x xs)
+  where
+    as_there : (o : Option Actor) → is_some (option_map (map (renamed_region r)) o) ≡ is_some o
+    as_there None = refl
+    as_there (Some a) = refl

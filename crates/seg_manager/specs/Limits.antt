@@ -2,7 +2,6 @@
 -- fewer caches that nothing refers to. The contract of a function in src/laws.rt names the law, and
 -- so it is proved.
 use Rattle.std.specs.Prelude.{◌≡◌, ◌==◌, ◌⊎◌, ℕ, Bool, false, true, not, List, [], ◌∷◌, filter, map, Option, None, option_map, Ok, Err, if◌then◌else◌}
-use Rattle.vm_ids.specs.declared.command.Command.{Command}
 use Rattle.vm_ids.specs.declared.command.Command.TheVariants as plain_commands
 use Rattle.vm_ids.specs.declared.command.KeepCommand.{KeepCommand}
 use Rattle.vm_ids.specs.declared.command.KeepCommand.TheVariants as commands
