@@ -185,7 +185,7 @@ module _ {A : Type 0} (p : A → Bool) where
   any_more false xs ys f e = f e
 
   pub any_push : (xs : List A) (x : A) → p x ≡ false → list_any p (xs ++ x ∷ []) ≡ true → list_any p xs ≡ true
-  any_push [] x none e = absurd (let both : (p x || false) ≡ true = e in elim (either (p x) false both) [ | inl y ↦ cc (none, y) | inr y ↦ cc y ])
+  any_push [] x none e = absurd (let both : (p x || false) ≡ true = e in elim (either (p x) false both) [ inl y ↦ cc (none, y) | inr y ↦ cc y ])
   any_push (y ∷ xs) x none e = any_more (p y) (xs ++ x ∷ []) xs (any_push xs x none) e
 
   pub any_set : (xs : List A) (i : ℕ) (x : A) → list_any p (set xs i x) ≡ true → (p x ≡ true) ⊎ (list_any p xs ≡ true)

@@ -25,8 +25,8 @@ Renaming = ℕ → ℕ
 abbrev pub same_numbers : Renaming
 same_numbers number = number
 
--- This number of the second run stands for this one of the first from now on; and for the number
--- for which it stood, what stood for this one. So numbers of no live cache stand for such numbers.
+-- From now on the second of these numbers stands for the first, and what stood for the first stands
+-- for the number for which the second stood: so a number that no live cache has stands for another.
 abbrev pub with_pair : ℕ → ℕ → Renaming → Renaming
 with_pair first second renaming number =
     if number == first then second
@@ -141,7 +141,8 @@ EndAlike renaming first second m n = ⊥
 
 -- From one start two runs go on alike: whatever numbers new caches get in each, where the commands
 -- that are decided in the second are those of the first, naming the same caches, the answers are
--- the same and tell the same caches, and the machines in which they end are alike.
+-- the same and tell the same caches, and the machines in which they end are alike. That holds of
+-- each beginning of two runs too, so the machines are alike all the way.
 abbrev pub RunsAreAlike : Type 0
 RunsAreAlike =
     (frames page_bytes : ℕ) (stored : Stored) (first second : List Step) (m n : ReferenceMachine)
