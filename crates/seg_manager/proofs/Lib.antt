@@ -38,3 +38,7 @@ pub mod Served
 pub mod Mapping
 pub mod Noting
 pub mod Adding
+pub mod Renaming
+pub mod Alike
+pub mod AlikeRows
+pub mod Limits

@@ -30,7 +30,7 @@ or_true : (a b : Bool) → b ≡ true → (a || b) ≡ true
 or_true true b e = refl
 or_true false b e = e
 
-any_at : {A : Type 0} (p : A → Bool) (xs : List A) (i : ℕ) (x : A) → slice_get xs i ≡ Some x → p x ≡ true → list_any p xs ≡ true
+pub any_at : {A : Type 0} (p : A → Bool) (xs : List A) (i : ℕ) (x : A) → slice_get xs i ≡ Some x → p x ≡ true → list_any p xs ≡ true
 any_at p [] i x e is = absurd (cc e)
 any_at p (y ∷ xs) zero x e is = let same : y ≡ x = cc e in ap (λ (b : Bool). b || list_any p xs) (ap p same ∙ is)
 any_at p (y ∷ xs) (suc i) x e is = or_true (p y) (list_any p xs) (any_at p xs i x e is)

@@ -132,11 +132,11 @@ slice_get_past (x ∷ xs) zero h = absurd (omega (arith, h))
 slice_get_past (x ∷ xs) (suc i) h = slice_get_past xs i (omega (arith, h))
 
 -- a number that was never given is that of no cache
-past : (cs : List (Option Cache)) (n : ℕ) → length cs < n → numbered cs n ≡ None
+pub past : (cs : List (Option Cache)) (n : ℕ) → length cs < n → numbered cs n ≡ None
 past cs n h = at_some cs n (omega (arith, h)) ∙ ap (option_and_then (λ x. x)) (slice_get_past cs (n - 1) (omega (arith, h)))
 
 -- a segment whose cache has no number names none
-no_number : (seg k : ℕ) (cs : List (Option Cache)) → number_in k cs seg ≡ None → has_named seg cs ≡ false
+pub no_number : (seg k : ℕ) (cs : List (Option Cache)) → number_in k cs seg ≡ None → has_named seg cs ≡ false
 no_number seg k [] e = refl
 no_number seg k (c ∷ cs) e =
     by (is_named_by seg c) refl (λ n. no_number seg (k + 1) cs (sym (ap (λ (b : Bool). cond b (Some k) (number_in (k + 1) cs seg)) n) ∙ e))

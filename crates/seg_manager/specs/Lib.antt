@@ -3,6 +3,7 @@ pub mod Answering
 pub mod Outcome
 pub mod Rows
 pub mod Laws
+pub mod Limits
 pub mod Stepping
 pub mod Seen
 pub mod Tying

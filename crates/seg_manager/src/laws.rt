@@ -1,5 +1,6 @@
 // Laws of the definitions. Each function does nothing, and its contract is the laws.
 ghost use Rattle.seg_manager.specs.Laws.{ReopensAsItWas};
+ghost use Rattle.seg_manager.specs.Limits.{EqualRunsAnswerEqually, RunsAreAlike};
 ghost use Rattle.seg_manager.specs.Rows.{KeptCacheComesAgain, NothingIsKept};
 
 /// Worked scripts, computed by the definitions.
@@ -11,4 +12,11 @@ pub fn worked_scripts()
 /// What a segment's cache held when its last reference went is what the next opening finds.
 pub fn reopening()
     ensures { ReopensAsItWas }
+{}
+
+/// How many caches are kept for the next opening shows in the numbers of caches alone, and in which
+/// commands are answered a fault, want of memory, or too many.
+pub fn limits()
+    ensures runs_are_alike { RunsAreAlike }
+    ensures equal_runs_answer_equally { EqualRunsAnswerEqually }
 {}

@@ -5,8 +5,9 @@
 //! the stored pages of each segment beside it (`ReferenceMachine`), with the answer to each command
 //! (`Answering`) and what a call may answer besides (`Outcome`); it knows no cache that is kept for
 //! the next opening, and no manager. [`SegManager`] keeps such caches over any manager of the
-//! interface. [`laws`] has worked scripts, and that opening anew finds what was left. The crate
-//! stands on the interface and the plain types alone, and names no manager.
+//! interface. [`laws`] has worked scripts, that opening anew finds what was left, and that runs in
+//! which caches get other numbers, as where more or fewer are kept, answer alike. The crate stands
+//! on the interface and the plain types alone, and names no manager.
 #![tactic(auto)]
 
 mod answering;
