@@ -13,10 +13,13 @@
 #![tactic(auto)]
 
 mod asked;
+mod at_once;
 mod commands;
 mod generating;
 mod ports;
 mod processes;
+mod replaying;
+mod segments;
 mod status;
 #[cfg(test)]
 mod tests;
