@@ -29,3 +29,5 @@ pub mod Lifting
 pub mod Temping
 pub mod Dropping
 pub mod Temporary
+pub mod Staying
+pub mod Temped

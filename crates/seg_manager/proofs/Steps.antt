@@ -35,7 +35,7 @@ pub step_by : (before after : State) (command : KeepCommand) (a : Answer) (rises
 step_by before after command a rises next outcome seen = by after.segments refl seen
   where
     by : (o : Option Segments) → after.segments ≡ o → IsSeen o before after next → StepAt o before command a rises after
-    by (Some h) e seen = let r = outcome h in (r.0, subst (λ (x : ReferenceMachine). Outcome before.references None command h r.0 a x rises) (sym seen) r.1)
+    by (Some h) e seen = let r = outcome h in (r.0, None, subst (λ (x : ReferenceMachine). Outcome before.references None command h r.0 a x rises) (sym seen) r.1)
     by None e seen = record {
       whole = before;
       whole_next = record { references = next; segments = after.segments };
@@ -44,7 +44,7 @@ step_by before after command a rises next outcome seen = by after.segments refl 
       is = λ i. record { references = seen.0 i; segments = before.segments };
       is_next = λ i. record { references = seen.1 i; segments = after.segments };
       alike = alike_self a;
-      leads = outcome no_segments;
+      leads = (let r = outcome no_segments in (r.0, None, r.1));
     }
 
 -- Without bytes the same caches go.
@@ -105,7 +105,7 @@ pub step_whole : (before after : State) (command : KeepCommand) (a : Answer) (ri
 step_whole before after command a rises whole next outcome seen = by after.segments refl seen
   where
     by : (o : Option Segments) → after.segments ≡ o → AreSeen o before after whole next → StepAt o before command a rises after
-    by (Some h) e seen = let r = outcome h in (r.0, subst (λ (x : ReferenceMachine). Outcome x None command h r.0 a after.references rises) (sym seen.0) (subst (λ (x : ReferenceMachine). Outcome whole None command h r.0 a x rises) (sym seen.1) r.1))
+    by (Some h) e seen = let r = outcome h in (r.0, None, subst (λ (x : ReferenceMachine). Outcome x None command h r.0 a after.references rises) (sym seen.0) (subst (λ (x : ReferenceMachine). Outcome whole None command h r.0 a x rises) (sym seen.1) r.1))
     by None e seen = record {
       whole = record { references = whole; segments = before.segments };
       whole_next = record { references = next; segments = after.segments };
@@ -114,5 +114,5 @@ step_whole before after command a rises whole next outcome seen = by after.segme
       is = λ i. record { references = seen.0 i; segments = before.segments };
       is_next = λ i. record { references = seen.1 i; segments = after.segments };
       alike = alike_self a;
-      leads = outcome no_segments;
+      leads = (let r = outcome no_segments in (r.0, None, r.1));
     }

@@ -9,9 +9,8 @@ use Rattle.std.proofs.lemmas.Bool.{cases_eq}
 use Rattle.std.proofs.lemmas.Bool.Decides.{nat_tests}
 use Rattle.std.proofs.lemmas.List.{append-nil, drop-map, length-append, map-append}
 use Rattle.vm_ids.specs.Held.{Segments}
-use Rattle.vm_model.specs.Answering.{temporary}
-use Rattle.vm_model.specs.Machine.{Cache, Machine, cache_named, cache_of, is_named_by, segment_of}
-use Rattle.vm_model.specs.Outcome.{blank, blank_cache}
+use Rattle.vm_model.specs.Machine.{Cache, Machine, Page, cache_named, cache_of, is_named_by, segment_of}
+use Rattle.vm_model.specs.Outcome.{blank, blank_cache, seen_at}
 use Rattle.vm_model.proofs.Parts.ListParts.{numbered_past, numbered_push, numbered_pushed}
 use Rattle.vm_model.proofs.Parts.Pairs.{each_by}
 use Rattle.gmi_calls.specs.Backing.{AreBacked}
@@ -30,19 +29,23 @@ use Rattle.seg_manager.proofs.Opened.{appended, number_next}
 use Rattle.seg_manager.proofs.Pushed.{Follow, Told}
 use Rattle.seg_manager.proofs.Steps.{AreSeen, blank_used, seen_blank}
 
--- a temporary cache behind the others is named by no segment
-named_push : (x : ℕ) (cs : Caches) (b pages : ℕ) → has_named x (cs ++ Some (temporary b pages) ∷ []) ≡ has_named x cs
-named_push x [] b pages = refl
-named_push x (o ∷ cs) b pages = by o (is_named_by x o) (named_push x cs b pages)
+-- a cache of these pages that no segment names
+abbrev pub nameless : List Page → Cache
+nameless pages = record { segment = None; pages = pages }
+
+-- behind the others it is named by no segment
+named_push : (x : ℕ) (cs : Caches) (pages : List Page) → has_named x (cs ++ Some (nameless pages) ∷ []) ≡ has_named x cs
+named_push x [] pages = refl
+named_push x (o ∷ cs) pages = by o (is_named_by x o) (named_push x cs pages)
   where
-    by : (o : Option Cache) (c : Bool) → has_named x (cs ++ Some (temporary b pages) ∷ []) ≡ has_named x cs
-        → is_some (cond c o (cache_named (cs ++ Some (temporary b pages) ∷ []) x)) ≡ is_some (cond c o (cache_named cs x))
+    by : (o : Option Cache) (c : Bool) → has_named x (cs ++ Some (nameless pages) ∷ []) ≡ has_named x cs
+        → is_some (cond c o (cache_named (cs ++ Some (nameless pages) ∷ []) x)) ≡ is_some (cond c o (cache_named cs x))
     by o true e = refl
     by o false e = e
 
-module _ (m : Machine) (pages : ℕ) where
+module _ (m : Machine) (pages : List Page) where
   abbrev c : Cache
-  c = temporary m.page_bytes pages
+  c = nameless pages
 
   abbrev pub n : Machine
   n = appended m c
@@ -110,29 +113,29 @@ module _ (m : Machine) (pages : ℕ) where
       beside x = by (has_named x m.caches) refl
         where
           by : (b : Bool) → has_named x m.caches ≡ b → cond (has_named x n.caches) None (get u.pages x) ≡ cond (has_named x m.caches) None (get s.pages x)
-          by true e = ap (λ (b : Bool). cond b None (get u.pages x)) (named_push x m.caches m.page_bytes pages ∙ e) ∙ sym (ap (λ (b : Bool). cond b None (get s.pages x)) e)
-          by false e = ap (λ (b : Bool). cond b None (get u.pages x)) (named_push x m.caches m.page_bytes pages ∙ e) ∙ f.beside x e ∙ sym (ap (λ (b : Bool). cond b None (get s.pages x)) e)
+          by true e = ap (λ (b : Bool). cond b None (get u.pages x)) (named_push x m.caches pages ∙ e) ∙ sym (ap (λ (b : Bool). cond b None (get s.pages x)) e)
+          by false e = ap (λ (b : Bool). cond b None (get u.pages x)) (named_push x m.caches pages ∙ e) ∙ f.beside x e ∙ sym (ap (λ (b : Bool). cond b None (get s.pages x)) e)
 
       stored_same : stored_from (whole_of n (Some u) cs) 1 n.caches ≡ stored_from (whole_of m (Some s) cs) 1 m.caches
       stored_same = fun_same (stored_from (whole_of n (Some u) cs) 1 n.caches) (stored_from (whole_of m (Some s) cs) 1 m.caches) (λ x. stored_push (whole_of m (Some s) cs) (whole_of n (Some u) cs) refl refl x (beside x) 1 m.caches (Some c) refl)
 
-  seen_untold : (cs : List Named) (ks : List Kept) (room : ℕ) (rs : List Mapped) (t : AreTied m None cs ks room rs) → n ≡ blank n → references_seen n None cs ≡ blank_references (add_cache (references_seen m None cs) (number_next m) c)
-  seen_untold cs ks room rs t bare = λ i. record {
+  seen_untold : (cs : List Named) (ks : List Kept) (room : ℕ) (rs : List Mapped) (t : AreTied m None cs ks room rs) → references_seen (blank n) None cs ≡ blank_references (add_cache (references_seen m None cs) (number_next m) c)
+  seen_untold cs ks room rs t = λ i. record {
     memory = record m {
-      caches = (ap (used (whole_of n None cs) 1) (ap (λ (x : Machine). x.caches) bare) ∙ sym (blank_used (whole_of n None cs) 1 n.caches)
+      caches = (used_same (whole_of n None cs) (whole_of (blank n) None cs) refl refl 1 (blank n).caches ∙ sym (blank_used (whole_of n None cs) 1 n.caches)
           ∙ ap (map (option_map blank_cache)) (caches_temp None None cs ks room rs t)) i;
     };
     stored = λ x. None;
     openings = openings_in cs;
   }
 
-  pub seen_temp : (told now : Option Segments) (cs : List Named) (ks : List Kept) (room : ℕ) (rs : List Mapped) (t : AreTied m told cs ks room rs) → Told m told now → IfNone told (m ≡ blank m) → IfNone now (n ≡ blank n)
-      → (before after : State) → before.references ≡ references_seen m told cs → after.references ≡ references_seen n now cs
+  pub seen_temp : (told now : Option Segments) (later : Machine) (cs : List Named) (ks : List Kept) (room : ℕ) (rs : List Mapped) (t : AreTied m told cs ks room rs) → Told m told now → later ≡ seen_at now n → IfNone told (m ≡ blank m)
+      → (before after : State) → before.references ≡ references_seen m told cs → after.references ≡ references_seen later now cs
       → AreSeen now before after (references_seen m told cs) (add_cache (references_seen m told cs) (number_next m) c)
-  seen_temp None None cs ks room rs t f bare bare_then before after x y = (x ∙ seen_blank m cs bare, y ∙ seen_untold cs ks room rs t bare_then)
-  seen_temp None (Some u) cs ks room rs t f bare bare_then before after x y = absurd (let wrong : Some u ≡ None = f.none refl in cc wrong)
-  seen_temp (Some s) None cs ks room rs t f bare bare_then before after x y = absurd (let u = f.some s refl in cc u.1)
-  seen_temp (Some s) (Some u) cs ks room rs t f bare bare_then before after x y =
+  seen_temp None None later cs ks room rs t f is bare before after x y = (x ∙ seen_blank m cs bare, y ∙ ap (λ (z : Machine). references_seen z None cs) is ∙ seen_untold cs ks room rs t)
+  seen_temp None (Some u) later cs ks room rs t f is bare before after x y = absurd (let wrong : Some u ≡ None = f.none refl in cc wrong)
+  seen_temp (Some s) None later cs ks room rs t f is bare before after x y = absurd (let u = f.some s refl in cc u.1)
+  seen_temp (Some s) (Some u) later cs ks room rs t f is bare before after x y =
       let v = f.some s refl in
       let same : v.0 ≡ u = (let e : Some u ≡ Some v.0 = v.1 in let is : u ≡ v.0 = cc e in sym is) in
-      (x, y ∙ seen_told s u cs ks room rs t (subst (λ (z : Segments). Follow m s z) same v.2))
+      (x, y ∙ ap (λ (z : Machine). references_seen z (Some u) cs) is ∙ seen_told s u cs ks room rs t (subst (λ (z : Segments). Follow m s z) same v.2))

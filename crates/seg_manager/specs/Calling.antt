@@ -39,6 +39,14 @@ IsServed (plain_commands.Store actor address piece) = Unit {0}
 IsServed (plain_commands.PageOut count) = Unit {0}
 IsServed command = ⊥
 
+-- those that are passed on as they are: they name no cache, and take no reference away
+abbrev pub IsPassed : Command → Type 0
+IsPassed plain_commands.MakeActor = Unit {0}
+IsPassed (plain_commands.Load actor address length) = Unit {0}
+IsPassed (plain_commands.Store actor address piece) = Unit {0}
+IsPassed (plain_commands.PageOut count) = Unit {0}
+IsPassed command = ⊥
+
 -- the number that bounds the counters of the manager below
 abbrev pub made_by : {Manager Mapper Chooser : Type 0} → GhostsOfGmi Manager Mapper Chooser
     → SegManager Manager → ℕ
@@ -141,3 +149,11 @@ AnswersKept M G before old (plain_commands.MakeTemp pages) answer after new =
     × (answer ≡ Err (Refused TooMany) → (new.kept.items ≡ [])
     × HasNoRoom G new.gmi (M.held after) (plain_commands.MakeTemp pages))
 AnswersKept M G before old command answer after new = new.kept.items ≡ old.kept.items
+
+-- A command of the manager's own: what is answered, and which caches are kept then.
+pub record Serves {Manager Mapper Chooser : Type 0} (M : GhostsOfMapper Mapper)
+    (G : GhostsOfGmi Manager Mapper Chooser) (before : Mapper) (old : SegManager Manager)
+    (command : Command) (answer : Answer) (after : Mapper) (new : SegManager Manager)
+    : Type 0 where
+  pub call : SegmentCall M G before old (commands.Plain command) answer after new
+  pub kept : AnswersKept M G before old command answer after new

@@ -10,3 +10,4 @@ pub mod Inner
 pub mod Keeping
 pub mod Thinning
 pub mod Calling
+pub mod Asking

@@ -5,6 +5,7 @@ use Rattle.vm_ids.specs.Held.{Segments}
 use Rattle.vm_ids.specs.declared.command.KeepCommand.{KeepCommand}
 use Rattle.vm_model.specs.Answering.{Answer}
 use Rattle.vm_model.specs.Outcome.{blank}
+use Rattle.vm_model.specs.PageForest.{PageForest}
 use Rattle.gmi_calls.specs.Untold.{UntoldStep}
 use Rattle.seg_manager.specs.Outcome.{Outcome}
 use Rattle.seg_manager.specs.ReferenceMachine.{ReferenceMachine}
@@ -22,10 +23,11 @@ blank_references m = record m { memory = blank m.memory; stored = λ seg. None }
 abbrev pub forget : State → State
 forget s = record s { references = blank_references s.references }
 
--- One answer of the machine, which gives a new cache this number.
+-- One answer of the machine. A new cache has this number; and where a copy fails, this forest says
+-- how many saves could be done before.
 abbrev pub LeadsTo : Segments → State → KeepCommand → Answer → MapperCounts → State → Type 0
-LeadsTo h before command answer rises after = (number : ℕ)
-    × Outcome before.references None command h number answer after.references rises
+LeadsTo h before command answer rises after = (number : ℕ) × (forest : Option PageForest)
+    × Outcome before.references forest command h number answer after.references rises
 
 -- One answer, where the mapper tells what it holds and where it doesn't.
 abbrev pub StepAt : Option Segments → State → KeepCommand → Answer → MapperCounts → State → Type 0

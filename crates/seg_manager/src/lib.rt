@@ -9,8 +9,13 @@
 //! stands on the interface and the plain types alone, and names no manager.
 #![tactic(auto)]
 
+mod answering;
+mod commands;
+mod ending;
+mod keeping;
 pub mod laws;
 mod manager;
+mod openings;
 mod tables;
 #[cfg(test)]
 mod tests;

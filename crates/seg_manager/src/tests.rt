@@ -99,7 +99,7 @@ fn play(
         (copy(), Shown::Refused(Refusal::NoCache)),
     ];
     for (command, wanted) in script.iter() {
-        assert_eq!(rt; seen(manager.carry_out(command, mapper, chooser)), *wanted);
+        assert_eq!(rt; seen(manager.call(command, mapper, chooser)), *wanted);
     }
     Ok(())
 }
@@ -124,11 +124,11 @@ fn a_kept_cache_is_opened_again(rt: HostRuntime) -> Result<(), Fail> {
     let chooser = &mut Fifo::new();
     let open = KeepCommand::Plain(Command::OpenSegment(SegId(1)));
     assert_eq!(rt;
-        seen(manager.carry_out(&open, &mut mapper, chooser)),
+        seen(manager.call(&open, &mut mapper, chooser)),
         Shown::Cache(1)
     );
     assert_eq!(rt;
-        seen(manager.carry_out(&copy(), &mut mapper, chooser)),
+        seen(manager.call(&copy(), &mut mapper, chooser)),
         Shown::Done
     );
     Ok(())
@@ -145,11 +145,11 @@ fn where_none_is_kept_a_segment_is_opened_anew(rt: HostRuntime) -> Result<(), Fa
     let chooser = &mut Fifo::new();
     let open = KeepCommand::Plain(Command::OpenSegment(SegId(1)));
     assert_eq!(rt;
-        seen(manager.carry_out(&open, &mut mapper, chooser)),
+        seen(manager.call(&open, &mut mapper, chooser)),
         Shown::Cache(3)
     );
     assert_eq!(rt;
-        seen(manager.carry_out(&copy(), &mut mapper, chooser)),
+        seen(manager.call(&copy(), &mut mapper, chooser)),
         Shown::Refused(Refusal::NoCache)
     );
     Ok(())

@@ -1,0 +1,62 @@
+-- A command that leaves what is seen: what such a call of the manager of segments comes to.
+use Rattle.std.proofs.Common.{◌≡◌, ℕ, ◌+◌, ◌*◌, ◌^◌, ◌≤◌, List, length, Option, Some, None, refl, sym, ap, ◌∙◌, arith}
+use Rattle.std.specs.Prelude.{IfNone, Err, option_map}
+use Rattle.vm_ids.specs.Counting.{MapperCounts, Rise}
+use Rattle.vm_ids.specs.Held.{Segments, segments_of}
+use Rattle.vm_ids.specs.declared.command.KeepCommand.{KeepCommand}
+use Rattle.vm_ids.specs.declared.reply.Trouble.{Trouble}
+use Rattle.vm_model.specs.Machine.{Machine}
+use Rattle.vm_model.specs.Outcome.{blank}
+use Rattle.vm_port.specs.declared.traits.mapper.Mapper.{Ghosts as GhostsOfMapper}
+use Rattle.gmi_calls.specs.declared.gmi.Gmi.{Ghosts as GhostsOfGmi}
+use Rattle.seg_manager.specs.Calling.{SegmentCall, call_budget}
+use Rattle.seg_manager.specs.Outcome.{Outcome}
+use Rattle.seg_manager.specs.ReferenceMachine.{ReferenceMachine}
+use Rattle.seg_manager.specs.Seen.{references_seen, state_of}
+use Rattle.seg_manager.specs.Stepping.{State, blank_references}
+use Rattle.seg_manager.specs.Thinning.{denied_by, machine_at, seen_with}
+use Rattle.seg_manager.specs.Tying.{CanCall}
+use Rattle.seg_manager.specs.declared.manager.SegManager.{SegManager}
+use Rattle.seg_manager.specs.declared.tables.Named.{Named}
+use Rattle.seg_manager.proofs.Releasing.{blank_told}
+use Rattle.seg_manager.proofs.Steps.{AreSeen, seen_blank, step_whole}
+
+-- without bytes, where nothing is told
+pub blank_seen : (told : Option Segments) (m : Machine) (cs : List Named) → IfNone told (m ≡ blank m) → IfNone told (references_seen m told cs ≡ blank_references (references_seen m told cs))
+blank_seen None m cs bare = seen_blank m cs bare
+blank_seen (Some h) m cs bare = tt
+
+pub same_seen : (was now : Option Segments) → option_map (λ (h : Segments). h.denied) now ≡ option_map (λ (h : Segments). h.denied) was → (before after : State) (r : ReferenceMachine) → before.references ≡ r → after.references ≡ r
+    → IfNone was (r ≡ blank_references r) → AreSeen now before after r r
+same_seen None None e before after r x y bare = (x ∙ bare, y ∙ bare)
+same_seen None (Some h) e before after r x y bare = absurd (cc e)
+same_seen (Some h) None e before after r x y bare = absurd (cc e)
+same_seen (Some h) (Some g) e before after r x y bare = (x, y)
+
+module _ {Manager X Chooser : Type 0} (M : GhostsOfMapper X) (G : GhostsOfGmi Manager X Chooser) (before : X) (old : SegManager Manager) (able : CanCall G old (M.held before) (M.page_bytes before)) where
+  -- The same caches are seen then.
+  pub record Stays (after : X) (new : SegManager Manager) (rises : MapperCounts) : Type 0 where
+    pub can : CanCall G new (M.held after) (M.page_bytes after)
+    pub made : G.made new.gmi ≤ G.made old.gmi + call_budget
+    pub limit : new.limit ≡ old.limit
+    pub many : length (machine_at M G new after).caches ≡ length (machine_at M G old before).caches
+    pub rose : Rise (M.counts before) (M.counts after) rises
+    pub seen : seen_with M G new after ≡ seen_with M G old before
+    pub denied : denied_by M G after ≡ denied_by M G before
+
+  pub stays_call : (after : X) (new : SegManager Manager) (command : KeepCommand) (t : Trouble) (rises : MapperCounts) → Stays after new rises
+      → ((h : Segments) → Outcome (seen_with M G old before) None command h 0 (Err t) (seen_with M G old before) rises) → SegmentCall M G before old command (Err t) after new
+  stays_call after new command t rises s outcome = record {
+    can = s.can;
+    made = s.made;
+    limit = s.limit;
+    one = omega (arith, s.many);
+    rises = rises;
+    rose = s.rose;
+    is = record {
+      step = step_whole (state_of G old (M.held before)) (state_of G new (M.held after)) command (Err t) rises (seen_with M G old before) (seen_with M G old before) (λ h. (0, outcome h))
+          (same_seen (segments_of (M.held before)) (segments_of (M.held after)) s.denied (state_of G old (M.held before)) (state_of G new (M.held after)) (seen_with M G old before) refl s.seen
+          (blank_seen (segments_of (M.held before)) (machine_at M G old before) old.caches.items (blank_told (M.held before) (machine_at M G old before) able.blank)));
+      denied = s.denied;
+    };
+  }
