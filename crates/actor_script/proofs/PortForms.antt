@@ -1,16 +1,11 @@
--- Lines of scripts of message ports: which are none of their own, and how the forms go together.
-use Rattle.std.proofs.Common.{◌≡◌, ◌<◌, ◌⊎◌, ℕ, Bool, true, false, List, [], ◌∷◌, length, Option, None, Some, Ok, Err, refl, arith, nat_lt}
-use Rattle.std.specs.Prelude.{option_and_then, bytes_eq, codes, ok_or, Result, if◌then◌else◌}
-use Rattle.std.specs.Option.{option_or}
-use Rattle.vm_ids.specs.declared.command.Command.{Command}
+-- Lines of scripts of message ports: which are none of their own.
+use Rattle.std.proofs.Common.{◌≡◌, ◌<◌, ◌⊎◌, ℕ, Bool, true, false, List, [], ◌∷◌, length, Option, None, Some, Err, refl, arith}
+use Rattle.std.specs.Prelude.{option_and_then, bytes_eq, codes, if◌then◌else◌}
 use Rattle.vm_ids.specs.declared.command.PortCommand.{PortCommand}
-use Rattle.vm_ids.specs.declared.command.PortCommand.TheVariants as commands
-use Rattle.vm_ids.specs.declared.refusal.Refusal.{Refusal}
 use Rattle.vm_ids.specs.declared.refusal.Refusal.TheVariants.{BadLine}
-use Rattle.vm_model.specs.Run.{Read}
 use Rattle.actor_script.specs.Words.{words_of}
-use Rattle.actor_script.specs.Forms.{asked_by, command_of, extent_of, form_of}
-use Rattle.actor_script.specs.PortForms.{port_of, port_form, send_form, receive_form, port_verb_form, own_form_of, is_shared, shared, port_command_of}
+use Rattle.actor_script.specs.Forms.{asked_by, extent_of}
+use Rattle.actor_script.specs.PortForms.{port_of, port_form, send_form, receive_form, port_verb_form, own_form_of}
 use Rattle.actor_script.proofs.Forms.{not_asked}
 
 -- none of the forms has more than six operands

@@ -1,5 +1,5 @@
 -- Lines of scripts that have some of the commands of actors, and forms of their own besides.
-use Rattle.std.proofs.Common.{◌≡◌, ℕ, Bool, true, false, List, length, Option, None, Some, Ok, Err, refl, nat_lt, sym, subst}
+use Rattle.std.proofs.Common.{◌≡◌, ℕ, Bool, true, false, List, length, Option, None, Some, Ok, Err, refl, nat_lt}
 use Rattle.std.specs.Prelude.{option_and_then, ok_or, Result, if◌then◌else◌, IfOk, IfSome}
 use Rattle.std.specs.Option.{option_or}
 use Rattle.vm_ids.specs.declared.command.Command.{Command}
@@ -60,7 +60,6 @@ module _ {C : Type 0} (has : Command → Bool) (plain : Command → C) (own : Li
     line_is true o h = tt
     line_is false o h = read_form P o h
 
-    pub formed : (line : List ℕ) (command : C) → Ok command ≡ asked_by (form_with has plain own) line → P command
-    formed line command is =
-        subst (λ (r : Result C Refusal). IfOk r P) (sym is)
-        (line_is (nat_lt 256 (length line)) _ (with_is (form_of (words_of line)) (own (words_of line)) (form (words_of line)) (owns (words_of line))))
+    pub formed : (line : List ℕ) → IfOk (asked_by (form_with has plain own) line) P
+    formed line =
+        line_is (nat_lt 256 (length line)) _ (with_is (form_of (words_of line)) (own (words_of line)) (form (words_of line)) (owns (words_of line)))

@@ -26,8 +26,8 @@ pub record Replayed {Source Sink : Type 0} (S : GhostsOfSource Source) (K : Ghos
 pub record Untouched {S K M C D : Type 0} (source source_now : S) (sink sink_now : K)
     (mapper mapper_now : M) (chooser chooser_now : C) (dispatcher dispatcher_now : D)
     : Type 0 where
-  pub source : source_now ≡ source
-  pub sink : sink_now ≡ sink
-  pub mapper : mapper_now ≡ mapper
-  pub chooser : chooser_now ≡ chooser
-  pub dispatcher : dispatcher_now ≡ dispatcher
+  pub same_source : source_now ≡ source
+  pub same_sink : sink_now ≡ sink
+  pub same_mapper : mapper_now ≡ mapper
+  pub same_chooser : chooser_now ≡ chooser
+  pub same_dispatcher : dispatcher_now ≡ dispatcher

@@ -40,17 +40,17 @@ use vm_port::{Chooser, Dispatcher, Mapper, Sink, Source};
 /// the same script. The replies to a script of processes are those of processes that have plain
 /// pages of bytes, which a fork copies at once; those to a script of message ports are those of
 /// ports at which plain pages of bytes wait, first in, first out. With both no segment changes. The
-/// replies to a script of segments are those of segments whose pages are plain bytes, and don't
-/// depend on K but in the numbers of caches.
+/// replies to a script of segments are those of a machine in which a segment's cache lives while an
+/// opening or a region refers to it; K is no part of what that machine is.
 ///
 /// - `Done`: where a script is read, the source has nothing left, and each line is answered; else
 ///   all is written.
 /// - `Usage` exactly where the words aren't those, but for want of memory. The options stand in any
 ///   order, each once at most, as two words or as one with `=`, in a trial also before and between
-///   N and L. F is from 3 to 65,536; K is up to 1,024; B is 512, 1,024, 2,048, 4,096 (where it isn't given), 8,192,
-///   16,384, 32,768 or 65,536; N is up to 4,294,967,295; L is from 1 to 1,000,000; all are decimal
-///   with no leading zero, and F times B is 268,435,456 at most; DIR isn't empty, and no hyphen
-///   begins it. Nothing was read or written.
+///   N and L. F is from 3 to 65,536; B is 512, 1,024, 2,048, 4,096 (where it isn't given), 8,192,
+///   16,384, 32,768 or 65,536; K is up to 1,024; N is up to 4,294,967,295; L is from 1 to 1,000,000;
+///   all are decimal with no leading zero, and F times B is 268,435,456 at most; DIR isn't empty,
+///   and no hyphen begins it. Nothing was read or written.
 /// - `SourceFault`, where a script is read, only where the source's count of faults rose; each line
 ///   that ended before is answered, or is a load or a store that waits for its page.
 /// - `SinkFault` only where the sink's count of faults rose; a front of the text was written.

@@ -6,7 +6,6 @@ ghost use Rattle.actor_script.specs.Forms.{command_of};
 ghost use Rattle.line_service.specs.Serving.{answer_budget};
 ghost use Rattle.replay.specs.Ending.{Summed, TellsCounts, TrialEnds, lines_made, outside_of};
 ghost use Rattle.replay.specs.Managing.{CanCall, scene_of_manager};
-ghost use Rattle.replay.specs.Replaying.{Untouched};
 
 use crate::Status;
 use crate::asked::Generated;
@@ -92,8 +91,9 @@ pub fn trial<K: Sink, M: Mapper, C: Chooser, D: Dispatcher>(
         ⊎ (result ≡ Status.NoMemory) }
     ensures sink_fault { result ≡ Status.SinkFault →
         Rose (K.faults sink.old) (K.faults sink.new) }
-    ensures untouched { result ≡ Status.NoMemory → Untouched sink.old sink.new sink.old sink.new
-        mapper.old mapper.new chooser.old chooser.new dispatcher.old dispatcher.new }
+    ensures untouched { result ≡ Status.NoMemory → (sink.new ≡ sink.old)
+        × (mapper.new ≡ mapper.old) × (chooser.new ≡ chooser.old)
+        × (dispatcher.new ≡ dispatcher.old) }
 {
     let manager = match Pvm::new(alloc, frames, PAGE as u32) {
         Ok(manager) => manager,
