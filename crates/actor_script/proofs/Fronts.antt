@@ -6,6 +6,7 @@ use Rattle.std.proofs.lemmas.List.{take_all, length-take}
 use Rattle.vm_ids.specs.declared.refusal.Refusal.TheVariants.{BadLine}
 use Rattle.actor_script.specs.Words.{words_of}
 use Rattle.actor_script.specs.Forms.{asked_by, command_of, form_of}
+use Rattle.actor_script.specs.KeepForms.{keep_command_of, keep_form_of}
 use Rattle.actor_script.specs.MixForms.{mix_command_of, mix_form_of}
 use Rattle.actor_script.specs.PortForms.{port_command_of, port_form_of}
 
@@ -32,3 +33,7 @@ mix_command_of-front line = asked_by-front mix_form_of line
 pub port_command_of-front : (line : List ℕ) → port_command_of (take 257 line) ≡ port_command_of line
 unfolding port_command_of
 port_command_of-front line = asked_by-front port_form_of line
+
+pub keep_command_of-front : (line : List ℕ) → keep_command_of (take 257 line) ≡ keep_command_of line
+unfolding keep_command_of
+keep_command_of-front line = asked_by-front keep_form_of line

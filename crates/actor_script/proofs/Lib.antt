@@ -2,6 +2,9 @@ pub mod Digits
 pub mod Forms
 pub mod Generated
 pub mod Hexadecimal
+-- Lines of scripts of segments that are opened again.
+pub mod KeepForms
+pub mod KeepWorked
 -- Lines of scripts of processes.
 pub mod MixForms
 pub mod MixWorked
@@ -14,6 +17,8 @@ pub mod Operands
 -- Bytes, read from two digits each.
 pub mod Pieces
 pub mod Replies
+-- Lines of scripts that have some commands of actors, and others besides.
+pub mod Sharing
 pub mod Splitting
 pub mod Tallied
 pub mod Verbs

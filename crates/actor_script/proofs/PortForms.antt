@@ -1,16 +1,11 @@
--- Lines of scripts of message ports: which are none of their own, and how the forms go together.
-use Rattle.std.proofs.Common.{◌≡◌, ◌<◌, ◌⊎◌, ℕ, Bool, true, false, List, [], ◌∷◌, length, Option, None, Some, Ok, Err, refl, arith, nat_lt}
-use Rattle.std.specs.Prelude.{option_and_then, bytes_eq, codes, ok_or, Result, if◌then◌else◌}
-use Rattle.std.specs.Option.{option_or}
-use Rattle.vm_ids.specs.declared.command.Command.{Command}
+-- Lines of scripts of message ports: which are none of their own.
+use Rattle.std.proofs.Common.{◌≡◌, ◌<◌, ◌⊎◌, ℕ, Bool, true, false, List, [], ◌∷◌, length, Option, None, Some, Err, refl, arith}
+use Rattle.std.specs.Prelude.{option_and_then, bytes_eq, codes, if◌then◌else◌}
 use Rattle.vm_ids.specs.declared.command.PortCommand.{PortCommand}
-use Rattle.vm_ids.specs.declared.command.PortCommand.TheVariants as commands
-use Rattle.vm_ids.specs.declared.refusal.Refusal.{Refusal}
 use Rattle.vm_ids.specs.declared.refusal.Refusal.TheVariants.{BadLine}
-use Rattle.vm_model.specs.Run.{Read}
 use Rattle.actor_script.specs.Words.{words_of}
-use Rattle.actor_script.specs.Forms.{asked_by, command_of, extent_of, form_of}
-use Rattle.actor_script.specs.PortForms.{port_of, port_form, send_form, receive_form, port_verb_form, own_form_of, is_shared, shared, port_command_of}
+use Rattle.actor_script.specs.Forms.{asked_by, extent_of}
+use Rattle.actor_script.specs.PortForms.{port_of, port_form, send_form, receive_form, port_verb_form, own_form_of}
 use Rattle.actor_script.proofs.Forms.{not_asked}
 
 -- none of the forms has more than six operands
@@ -59,36 +54,3 @@ no_longer (verb ∷ operands) h = no_verb verb operands (omega arith)
 
 pub not_own : (line : List ℕ) → (256 < length line) ⊎ (7 < length (words_of line)) → asked_by own_form_of line ≡ Err BadLine
 not_own line h = not_asked own_form_of no_longer line h
-
--- what is read of a line, of which this is the command of actors
-
-abbrev within : Bool → Option PortCommand → Result PortCommand Refusal
-within b o = if b then Err BadLine else ok_or o BadLine
-
-shared_read : (b : Bool) (o : Option Command) (own : Option PortCommand) (c : Command) → (let r : Read = if b then Err BadLine else ok_or o BadLine in r) ≡ Ok c → is_shared c ≡ true → within b (option_or (option_and_then shared o) own) ≡ Ok (commands.Plain c)
-shared_read true o own c read is = absurd (cc read)
-shared_read false None own c read is = absurd (cc read)
-shared_read false (Some d) own c read is = let e : d ≡ c = cc read in rw e (rw is refl)
-
-other_read : (b : Bool) (o : Option Command) (own : Option PortCommand) (c : Command) → (let r : Read = if b then Err BadLine else ok_or o BadLine in r) ≡ Ok c → is_shared c ≡ false → within b (option_or (option_and_then shared o) own) ≡ within b own
-other_read true o own c read is = refl
-other_read false None own c read is = refl
-other_read false (Some d) own c read is = let e : d ≡ c = cc read in rw e (rw is refl)
-
-none_read : (b : Bool) (o : Option Command) (own : Option PortCommand) (r : Refusal) → (let read : Read = if b then Err BadLine else ok_or o BadLine in read) ≡ Err r → within b (option_or (option_and_then shared o) own) ≡ within b own
-none_read true o own r read = refl
-none_read false None own r read = refl
-none_read false (Some d) own r read = absurd (cc read)
-
-module _ (line : List ℕ) where
-  pub of_shared : (c : Command) → command_of line ≡ Ok c → is_shared c ≡ true → port_command_of line ≡ Ok (commands.Plain c)
-  unfolding command_of port_command_of
-  of_shared c read is = shared_read (nat_lt 256 (length line)) (form_of (words_of line)) (own_form_of (words_of line)) c read is
-
-  pub of_other : (c : Command) → command_of line ≡ Ok c → is_shared c ≡ false → port_command_of line ≡ asked_by own_form_of line
-  unfolding command_of port_command_of
-  of_other c read is = other_read (nat_lt 256 (length line)) (form_of (words_of line)) (own_form_of (words_of line)) c read is
-
-  pub of_none : (r : Refusal) → command_of line ≡ Err r → port_command_of line ≡ asked_by own_form_of line
-  unfolding command_of port_command_of
-  of_none r read = none_read (nat_lt 256 (length line)) (form_of (words_of line)) (own_form_of (words_of line)) r read

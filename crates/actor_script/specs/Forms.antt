@@ -1,5 +1,6 @@
 -- The command of a line.
-use Rattle.std.specs.Prelude.{ℕ, List, [], ◌∷◌, length, nat_lt, bytes_eq, codes, Option, Some, None, option_map, option_and_then, ok_or, Result, Err, if◌then◌else◌}
+use Rattle.std.specs.Prelude.{ℕ, Bool, List, [], ◌∷◌, length, nat_lt, bytes_eq, codes, Option, Some, None, option_map, option_and_then, ok_or, Result, Err, if◌then◌else◌}
+use Rattle.std.specs.Option.{option_or}
 use Rattle.vm_ids.specs.declared.command.Command.{Command}
 use Rattle.vm_ids.specs.declared.command.Command.TheVariants as commands
 use Rattle.vm_ids.specs.declared.command.Extent.{Extent}
@@ -235,6 +236,17 @@ verb_form verb operands =
 abbrev pub form_of : List (List ℕ) → Option Command
 form_of [] = None
 form_of (verb ∷ operands) = verb_form verb operands
+
+-- a command of actors, where a script of other commands has such commands too
+abbrev pub shared_by : {C : Type 0} → (Command → Bool) → (Command → C) → Command → Option C
+shared_by has plain command = if has command then Some (plain command) else None
+
+-- What some words ask in such a script: a command of actors that it has, or else one of its own.
+-- No other words are one of the forms.
+abbrev pub form_with : {C : Type 0} → (Command → Bool) → (Command → C)
+    → (List (List ℕ) → Option C) → List (List ℕ) → Option C
+form_with has plain own words =
+    option_or (option_and_then (shared_by has plain) (form_of words)) (own words)
 
 -- What a line asks that has at most 256 bytes, and whose words have one of some forms.
 abbrev pub asked_by : {C : Type 0} → (List (List ℕ) → Option C) → List ℕ → Result C Refusal

@@ -1,5 +1,6 @@
 pub mod Forms
 pub mod Generator
+pub mod KeepForms
 pub mod MixForms
 pub mod Operands
 pub mod PortForms

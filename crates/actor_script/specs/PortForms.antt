@@ -1,13 +1,12 @@
 -- The command of a line of a script of message ports.
 use Rattle.std.specs.Prelude.{ℕ, Bool, true, false, List, [], ◌∷◌, nat_le, bytes_eq, codes, Option, Some, None, option_and_then, Result, if◌then◌else◌}
-use Rattle.std.specs.Option.{option_or}
 use Rattle.vm_ids.specs.declared.command.Command.{Command}
 use Rattle.vm_ids.specs.declared.command.Command.TheVariants as plain_commands
 use Rattle.vm_ids.specs.declared.command.PortCommand.{PortCommand}
 use Rattle.vm_ids.specs.declared.command.PortCommand.TheVariants as commands
 use Rattle.vm_ids.specs.declared.numbers.PortId.{PortId}
 use Rattle.vm_ids.specs.declared.refusal.Refusal.{Refusal}
-use Rattle.actor_script.specs.Forms.{◌>>=◌, asked_by, extent_of, form_of}
+use Rattle.actor_script.specs.Forms.{◌>>=◌, asked_by, extent_of, form_with}
 use Rattle.actor_script.specs.Operands.{number_of, count_of, lettered}
 
 -- `q` and a number
@@ -71,13 +70,9 @@ is_shared (plain_commands.Store actor address piece) = true
 is_shared (plain_commands.PageOut count) = true
 is_shared command = false
 
-abbrev pub shared : Command → Option PortCommand
-shared command = if is_shared command then Some (commands.Plain command) else None
-
--- What some words ask: such a command of actors, or else one that scripts of ports alone have. No
--- other words are one of the forms.
+-- What some words ask: such a command of actors, or one that scripts of ports alone have.
 abbrev pub port_form_of : List (List ℕ) → Option PortCommand
-port_form_of words = option_or (option_and_then shared (form_of words)) (own_form_of words)
+port_form_of words = form_with is_shared commands.Plain own_form_of words
 
 -- The command of a line, which has at most 256 bytes and one of the forms.
 unfoldable pub port_command_of : List ℕ → Result PortCommand Refusal

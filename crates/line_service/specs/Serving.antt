@@ -11,7 +11,7 @@ use Rattle.vm_model.specs.Steps.{Semantics}
 
 -- An answer raises the number that bounds a service's counters by no more than this.
 abbrev pub answer_budget : ℕ
-answer_budget = 2 ^ 30
+answer_budget = 2 ^ 32
 
 -- it is read in some line
 abbrev pub IsReadSomewhere : {Read : Type 0} → (List ℕ → Read) → Read → Type 0

@@ -16,3 +16,5 @@ pub mod Trials
 pub mod Answered
 -- The lines of scripts of message ports ask only well-formed commands.
 pub mod PortsFormed
+-- And those of scripts of segments that are opened again.
+pub mod KeepsFormed

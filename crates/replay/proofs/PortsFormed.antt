@@ -1,46 +1,44 @@
 -- The lines of scripts of message ports ask only well-formed commands.
-use Rattle.std.proofs.Common.{◌≡◌, ◌≤◌, ℕ, Bool, true, false, List, [], ◌∷◌, length, Option, Some, None, Ok, Err, nat_lt, nat_le, sym, subst}
-use Rattle.std.specs.Prelude.{bytes_eq, codes, ok_or, Result, if◌then◌else◌, IfOk, IfSome, option_and_then}
-use Rattle.std.specs.Option.{option_or}
+use Rattle.std.proofs.Common.{◌≡◌, ◌≤◌, ℕ, Bool, true, false, List, [], ◌∷◌, Option}
+use Rattle.std.specs.Prelude.{bytes_eq, codes, if◌then◌else◌, IfOk, IfSome}
 use Rattle.vm_ids.specs.declared.command.Command.{Command}
 use Rattle.vm_ids.specs.declared.command.Command.TheVariants as plain_commands
 use Rattle.vm_ids.specs.declared.command.Extent.{Extent}
 use Rattle.vm_ids.specs.declared.command.PortCommand.{PortCommand}
-use Rattle.vm_ids.specs.declared.refusal.Refusal.{Refusal}
-use Rattle.vm_ids.specs.declared.refusal.Refusal.TheVariants.{BadLine}
+use Rattle.vm_ids.specs.declared.command.PortCommand.TheVariants as commands
 use Rattle.vm_model.specs.Asking.{IsWellFormed}
-use Rattle.actor_script.specs.Forms.{extent_of, form_of}
+use Rattle.actor_script.specs.Forms.{extent_of}
 use Rattle.actor_script.specs.Operands.{count_of, lettered, number_of}
-use Rattle.actor_script.specs.PortForms.{depth_of, port_of, port_form, send_form, receive_form, port_verb_form, own_form_of, shared, port_command_of}
-use Rattle.actor_script.specs.Words.{words_of}
-use Rattle.actor_script.proofs.WellFormed.{any_then, such_then, counts, form}
+use Rattle.actor_script.specs.PortForms.{depth_of, is_shared, own_form_of, port_command_of, port_form, port_of, port_verb_form, receive_form, send_form}
+use Rattle.actor_script.proofs.Sharing.{formed as with_formed}
+use Rattle.actor_script.proofs.WellFormed.{any_then, counts, such_then}
 use Rattle.transit_ipc.specs.Asking.{IsPortWellFormed}
 
--- a plain command of these kinds
-shared_is : (c : Command) → IsWellFormed c → IfSome (shared c) IsPortWellFormed
-shared_is plain_commands.MakeActor h = (tt, h)
-shared_is (plain_commands.ExitActor actor) h = tt
-shared_is (plain_commands.MakeTemp pages) h = (tt, h)
-shared_is (plain_commands.OpenSegment seg) h = tt
-shared_is (plain_commands.Destroy cache) h = tt
-shared_is (plain_commands.Copy span) h = tt
-shared_is (plain_commands.Move span) h = tt
-shared_is (plain_commands.Map actor mapping) h = (tt, h)
-shared_is (plain_commands.Split region pages) h = tt
-shared_is (plain_commands.Protect region prot) h = tt
-shared_is (plain_commands.Lock region) h = tt
-shared_is (plain_commands.Unlock region) h = tt
-shared_is (plain_commands.Unmap region) h = tt
-shared_is (plain_commands.Status region) h = tt
-shared_is (plain_commands.Find actor address) h = tt
-shared_is (plain_commands.Load actor address length) h = (tt, h)
-shared_is (plain_commands.Store actor address piece) h = (tt, h)
-shared_is (plain_commands.Sync extent) h = tt
-shared_is (plain_commands.Flush extent) h = tt
-shared_is (plain_commands.Invalidate extent) h = tt
-shared_is (plain_commands.PageOut count) h = (tt, h)
-shared_is (plain_commands.Chain cache page) h = tt
-shared_is plain_commands.Stat h = tt
+-- a command of actors that these scripts have
+shared_is : (c : Command) → is_shared c ≡ true → IsWellFormed c → IsPortWellFormed (commands.Plain c)
+shared_is plain_commands.MakeActor is h = (tt, h)
+shared_is (plain_commands.ExitActor actor) is h = absurd (cc is)
+shared_is (plain_commands.MakeTemp pages) is h = (tt, h)
+shared_is (plain_commands.OpenSegment seg) is h = absurd (cc is)
+shared_is (plain_commands.Destroy cache) is h = absurd (cc is)
+shared_is (plain_commands.Copy span) is h = absurd (cc is)
+shared_is (plain_commands.Move span) is h = absurd (cc is)
+shared_is (plain_commands.Map actor mapping) is h = (tt, h)
+shared_is (plain_commands.Split region pages) is h = absurd (cc is)
+shared_is (plain_commands.Protect region prot) is h = absurd (cc is)
+shared_is (plain_commands.Lock region) is h = absurd (cc is)
+shared_is (plain_commands.Unlock region) is h = absurd (cc is)
+shared_is (plain_commands.Unmap region) is h = absurd (cc is)
+shared_is (plain_commands.Status region) is h = absurd (cc is)
+shared_is (plain_commands.Find actor address) is h = absurd (cc is)
+shared_is (plain_commands.Load actor address length) is h = (tt, h)
+shared_is (plain_commands.Store actor address piece) is h = (tt, h)
+shared_is (plain_commands.Sync extent) is h = absurd (cc is)
+shared_is (plain_commands.Flush extent) is h = absurd (cc is)
+shared_is (plain_commands.Invalidate extent) is h = absurd (cc is)
+shared_is (plain_commands.PageOut count) is h = (tt, h)
+shared_is (plain_commands.Chain cache page) is h = absurd (cc is)
+shared_is plain_commands.Stat is h = absurd (cc is)
 
 -- the forms that scripts of ports alone have
 
@@ -87,10 +85,6 @@ if_both : (b : Bool) (o p : Option PortCommand) → IfSome o IsPortWellFormed �
 if_both true o p e f = e
 if_both false o p e f = f
 
-or_both : (o p : Option PortCommand) → IfSome o IsPortWellFormed → IfSome p IsPortWellFormed → IfSome (option_or o p) IsPortWellFormed
-or_both None p e f = f
-or_both (Some c) p e f = e
-
 own_is : (words : List (List ℕ)) → IfSome (own_form_of words) IsPortWellFormed
 unfolding port_verb_form
 own_is [] = tt
@@ -100,17 +94,6 @@ own_is (verb ∷ xs) =
     if_both (bytes_eq verb (codes "receive")) _ _ (receive_is xs) tt))
 
 -- and so is what a line asks
-
-read : (b : Bool) (o : Option PortCommand) → IfSome o IsPortWellFormed → IfOk (let r : Result PortCommand Refusal = if b then Err BadLine else ok_or o BadLine in r) IsPortWellFormed
-read true o h = tt
-read false None h = tt
-read false (Some c) h = h
-
-line_is : (line : List ℕ) → IfOk (port_command_of line) IsPortWellFormed
+pub formed : (line : List ℕ) → IfOk (port_command_of line) IsPortWellFormed
 unfolding port_command_of
-line_is line = read (nat_lt 256 (length line)) _ (or_both (option_and_then shared (form_of (words_of line))) (own_form_of (words_of line))
-    (such_then (form_of (words_of line)) shared IsWellFormed IsPortWellFormed (form (words_of line)) shared_is)
-    (own_is (words_of line)))
-
-pub formed : (line : List ℕ) (command : PortCommand) → Ok command ≡ port_command_of line → IsPortWellFormed command
-formed line command is = subst (λ (r : Result PortCommand Refusal). IfOk r IsPortWellFormed) (sym is) (line_is line)
+formed line = with_formed is_shared commands.Plain own_form_of IsPortWellFormed shared_is own_is line

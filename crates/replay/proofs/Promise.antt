@@ -20,12 +20,15 @@ use Rattle.vm_model.specs.declared.limits.TheConstants.{LIVE_PAGES, LIVING_ACTOR
 use Rattle.vm_model.proofs.WholeRuns.Chains.{runs_are_chains}
 use Rattle.vm_model.proofs.WholeRuns.Runs.{runs_are_followed}
 use Rattle.actor_script.specs.Forms.{command_of}
+use Rattle.actor_script.specs.KeepForms.{keep_command_of}
 use Rattle.actor_script.specs.MixForms.{mix_command_of}
 use Rattle.actor_script.specs.PortForms.{port_command_of}
 use Rattle.actor_script.proofs.WellFormed.{well_formed}
 use Rattle.gmi_calls.specs.Calling.{Fits}
 use Rattle.vm_ids.specs.declared.access.Parked.{Parked}
 use Rattle.vm_port.specs.declared.traits.mapper.Mapper.{Ghosts as GhostsOfMapper}
+use Rattle.vm_port.specs.declared.traits.sink.Sink.{Ghosts as GhostsOfSink}
+use Rattle.vm_port.specs.declared.traits.source.Source.{Ghosts as GhostsOfSource}
 use Rattle.line_service.specs.Ending.{Ends, Ran, Told, Took}
 use Rattle.line_service.specs.Serving.{answer_budget}
 use Rattle.line_service.specs.Underway.{CanAnswer}
@@ -44,9 +47,16 @@ use Rattle.transit_ipc.specs.Calling.{beginning as ports_beginning}
 use Rattle.transit_ipc.specs.PortMachine.{PortMachine}
 use Rattle.transit_ipc.specs.Stepping.{State as PortState}
 use Rattle.transit_ipc.specs.Tying.{IsBare as IsBareForPorts}
-use Rattle.replay.specs.Ending.{CommandScene, EndsAs, MixEnds, Outside, PortEnds, RunEnds, scene_of_ports, scene_of_processes, scene_with, status_of}
+use Rattle.seg_manager.specs.Calling.{beginning as segments_beginning}
+use Rattle.seg_manager.specs.ReferenceMachine.{ReferenceMachine}
+use Rattle.seg_manager.specs.ReferenceMachine.{start as no_openings}
+use Rattle.seg_manager.specs.Stepping.{State as SegmentState}
+use Rattle.seg_manager.specs.Tying.{IsBare as IsBareForSegments}
+use Rattle.replay.specs.Ending.{CommandScene, EndsAs, KeepEnds, MixEnds, Outside, PortEnds, RunEnds, scene_of_ports, scene_of_processes, scene_of_segments, scene_with, status_of, stored_in}
 use Rattle.replay.specs.Posting.{port_semantics}
 use Rattle.replay.specs.Processing.{process_semantics}
+use Rattle.replay.specs.Reopening.{keep_semantics}
+use Rattle.replay.specs.Replaying.{Replayed, Untouched}
 use Rattle.replay.specs.declared.status.Status.{Status}
 use Rattle.replay.specs.declared.asked.Asked.{Asked}
 use Rattle.replay.specs.declared.asked.Size.{Size}
@@ -149,7 +159,27 @@ port_ends status frames old now l k begun m machine begins starts ends = record 
       (begins ∙ ap (λ (x : Machine). ports_beginning x old.segments) starts) ends;
 }
 
+nothing_open : (frames : ℕ) (told : Option Segments) → segments_beginning (start frames PAGE) told ≡ record { references = no_openings frames PAGE (stored_in told); segments = told }
+nothing_open frames None = refl
+nothing_open frames (Some h) = refl
+
+-- the promise for a script of segments, from a replay that began with none open, over a manager that
+-- began
+pub keep_ends : (status : Status) (frames : ℕ) (old now : Outside) (l k : Option (List ℕ)) (begun : SegmentState) (m : Machine) (machine : ReferenceMachine)
+    → begun ≡ segments_beginning m old.segments → m ≡ start frames PAGE
+    → EndsAs status keep_semantics keep_command_of (record { state = begun; counts = old.counts; turns = old.turns; written = old.written }) (scene_of_segments now machine) l k
+    → KeepEnds status frames old now l k
+keep_ends status frames old now l k begun m machine begins starts ends = record {
+  last = machine;
+  ends = subst (λ (s : SegmentState). EndsAs status keep_semantics keep_command_of (record { state = s; counts = old.counts; turns = old.turns; written = old.written }) (scene_of_segments now machine) l k)
+      (begins ∙ ap (λ (x : Machine). segments_beginning x old.segments) starts ∙ nothing_open frames old.segments) ends;
+}
+
 -- the mapper takes pages of the size that was asked for
+
+pub pages_are : (told : Option ℕ) (named bytes : ℕ) → IfSome told (λ n. n ≡ named) → named ≡ bytes → IfSome told (λ n. n ≡ bytes)
+pages_are told named bytes h e = subst (λ (b : ℕ). IfSome told (λ n. n ≡ b)) e h
+
 pub fits_start : (told : Option ℕ) (frames bytes named : ℕ) (m : Machine) → IfSome told (λ n. n ≡ named) → named ≡ bytes → m ≡ start frames bytes → Fits told m
 fits_start told frames bytes named m h same e = subst (Fits told) (sym e) (by told h)
   where
@@ -178,6 +208,17 @@ bare_ports G gmi told page_bytes frames named valid unlimited pages same starts 
   fits = fits_start page_bytes frames PAGE named (G.machine gmi told) pages same starts;
   caches = ap (λ (m : Machine). m.caches) starts;
   unmapped = λ cache. ap (λ (m : Machine). is_mapped m cache) starts;
+}
+
+-- and to keep segments
+pub bare_segments : {Manager Mapper Chooser : Type 0} (G : GhostsOfGmi Manager Mapper Chooser) (gmi : Manager) (told : Option Held) (page_bytes : Option ℕ) (frames named : ℕ)
+    → G.valid gmi told → G.room gmi ≡ None → IfSome page_bytes (λ n. n ≡ named) → named ≡ PAGE → G.machine gmi told ≡ start frames PAGE → IsBareForSegments G gmi told page_bytes
+bare_segments G gmi told page_bytes frames named valid unlimited pages same starts = record {
+  valid = valid;
+  unlimited = unlimited;
+  fits = fits_start page_bytes frames PAGE named (G.machine gmi told) pages same starts;
+  caches = ap (λ (m : Machine). m.caches) starts;
+  actors = ap (λ (m : Machine). m.actors) starts;
 }
 
 pub as_asked : (asked : Asked) (words : Option Asked) (P : Asked → Type 0) → Some asked ≡ words → P asked → IfSome words P
@@ -274,6 +315,17 @@ module _ (S : Semantics) (read : List ℕ → S.Read) where
   began statuses.Usage a b l k h e = h
   began statuses.NoMemory a b l k h e = h
 
+  -- what is known of the source and the sink
+  pub replayed : {Source Sink : Type 0} (F : GhostsOfSource Source) (K : GhostsOfSink Sink) (status : Status) (a b : Scene S Told) (source source_now : Source) (sink sink_now : Sink) → EndsAs status S read a b (F.left source) (F.left source_now)
+      → (status ≡ statuses.SourceFault → Rose (F.faults source) (F.faults source_now)) → (status ≡ statuses.SinkFault → Rose (K.faults sink) (K.faults sink_now)) → Replayed F K status source source_now sink sink_now
+  replayed F K status a b source source_now sink sink_now ends of_source of_sink = record {
+    not_usage = λ e. began status a b _ _ ends (inl e);
+    source_fault = of_source;
+    sink_fault = of_sink;
+    too_long = limited status a b _ _ ends;
+    complete = λ few r rl w wl. complete status a b _ _ _ _ _ _ ends of_source of_sink few r rl w wl;
+  }
+
   -- by the exit status, as the replay ends
   pub ends_as : (e : Ended) (a b : Scene S Told) (l k : Option (List ℕ)) → Ends e S read a b l k → EndsAs (status_of e) S read a b l k
   ends_as ended.Done a b l k h = h
@@ -283,6 +335,24 @@ module _ (S : Semantics) (read : List ℕ → S.Read) where
 
   pub ends_at : (status : Status) (e : Ended) (a b : Scene S Told) (l k : Option (List ℕ)) → status ≡ status_of e → Ends e S read a b l k → EndsAs status S read a b l k
   ends_at status e a b l k is h = subst (λ (s : Status). EndsAs s S read a b l k) (sym is) (ends_as e a b l k h)
+
+-- where there was no memory to begin with
+pub unbegun : {Source Sink : Type 0} (F : GhostsOfSource Source) (K : GhostsOfSink Sink) (source : Source) (sink : Sink) → Replayed F K statuses.NoMemory source source sink sink
+unbegun F K source sink = record {
+  not_usage = λ e. cc;
+  source_fault = λ e. absurd (cc e);
+  sink_fault = λ e. absurd (cc e);
+  too_long = limited_same (F.left source) _ (λ e. cc);
+  complete = λ few r rl w wl. inr refl;
+}
+
+-- a replay that ended so touched nothing
+pub untouched : {S K M C D : Type 0} (status : Status) (source source_now : S) (sink sink_now : K) (mapper mapper_now : M) (chooser chooser_now : C) (dispatcher dispatcher_now : D) → (status ≡ statuses.Usage → ⊥)
+    → (status ≡ statuses.NoMemory → Untouched source source_now sink sink_now mapper mapper_now chooser chooser_now dispatcher dispatcher_now) → (status ≡ statuses.Usage) ⊎ (status ≡ statuses.NoMemory)
+    → (source_now ≡ source) × (sink_now ≡ sink) × (mapper_now ≡ mapper) × (chooser_now ≡ chooser) × (dispatcher_now ≡ dispatcher)
+untouched status source source_now sink sink_now mapper mapper_now chooser chooser_now dispatcher dispatcher_now never same (inl e) = absurd (never e)
+untouched status source source_now sink sink_now mapper mapper_now chooser chooser_now dispatcher dispatcher_now never same (inr e) =
+    let u = same e in (u.same_source, u.same_sink, u.same_mapper, u.same_chooser, u.same_dispatcher)
 
 -- what it takes to answer the first line, where nothing is parked
 pub can_start : {Service Mapper Chooser : Type 0} (V : GhostsOfService Service Mapper Chooser) (M : GhostsOfMapper Mapper) (service : Service) (mapper : Mapper) (waits : List Parked) → waits ≡ [] → V.able service (M.held mapper) (M.page_bytes mapper) → V.made service ≤ answer_budget → CanAnswer V M 1 service mapper waits

@@ -27,6 +27,11 @@ abbrev pub StepIs : {State Command : Type 0} → Answering State Command → Sta
 StepIs is before (Err r) answer rises after = NothingRead before r answer rises after
 StepIs is before (Ok command) answer rises after = is before command answer rises after
 
+-- What commands of a kind mean that are answered at once: the states, and how one is answered.
+pub record Meaning (Command : Type 0) : Type 1 where
+  pub State : Type 0
+  pub Is : Answering State Command
+
 -- no line is an access that waits
 abbrev pub no_actor : {Command : Type 0} → Read Command → Option ℕ
 no_actor read = None
@@ -34,12 +39,12 @@ no_actor read = None
 abbrev pub NeverWaits : {State Command : Type 0} → State → Read Command → Type 0
 NeverWaits state read = ⊥
 
--- what lines mean whose commands are answered so
-abbrev pub at_once : {State Command : Type 0} → Answering State Command → Semantics
-at_once {State} {Command} is = record {
-  State = State;
+-- what lines mean whose commands mean this
+abbrev pub at_once : {Command : Type 0} → Meaning Command → Semantics
+at_once {Command} meaning = record {
+  State = meaning.State;
   Read = Read Command;
   actor_of = no_actor;
-  StepIs = StepIs is;
+  StepIs = StepIs meaning.Is;
   Admits = NeverWaits;
 }

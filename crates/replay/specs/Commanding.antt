@@ -49,6 +49,10 @@ run_options = codes "frames" ∷ codes "page" ∷ codes "segments" ∷ []
 abbrev pub plain_options : List (List ℕ)
 plain_options = codes "frames" ∷ codes "segments" ∷ []
 
+-- and of `keep`
+abbrev pub keep_options : List (List ℕ)
+keep_options = codes "frames" ∷ codes "limit" ∷ codes "segments" ∷ []
+
 -- a name, with the hyphens
 abbrev pub hyphened : List ℕ → List ℕ
 hyphened name = 45 ∷ 45 ∷ name
@@ -192,8 +196,30 @@ trial_of words options = option_and_then
 abbrev pub trial_behind : List (List ℕ) → Option Asked
 trial_behind words = trial_of (others_among false words) (options_among false words)
 
+-- how many caches to which nothing refers may be kept, 0 to 1,024
+abbrev pub if_limit : ℕ → Option ℕ
+if_limit n = if nat_le n 1024 then Some n else None
+
+-- and as a word spells it
+abbrev pub limit_of : List ℕ → Option ℕ
+limit_of word = option_and_then if_limit (number_of word)
+
+-- What a size and the value of `--limit` ask for.
+abbrev pub keep_with : Values → Size → Option Asked
+keep_with values size = option_map (λ limit. asks.Keep limit size.frames)
+    (option_and_then limit_of (values (codes "limit")))
+
+-- what the values of the options of `keep` ask for
+abbrev pub keep_of : Values → Option Asked
+keep_of values = option_and_then (keep_with values) (size_of values)
+
+-- and what words ask for that are its options
+abbrev pub keep_behind : List (List ℕ) → Option Asked
+keep_behind words = option_and_then keep_of (values_behind keep_options words)
+
 -- What the words of a command line ask for: they are `run` and its options, `generate` and a
--- script, `trial`, a script and options, or `mix` or `ipc` and options. None for other words.
+-- script, `trial`, a script and options, or `mix`, `ipc` or `keep` and options. None for other
+-- words.
 unfoldable pub asked_by : List (List ℕ) → Option Asked
 asked_by [] = None
 asked_by (command ∷ words) =
@@ -202,6 +228,7 @@ asked_by (command ∷ words) =
     else if bytes_eq command (codes "trial") then trial_behind words
     else if bytes_eq command (codes "mix") then option_map asks.Mix (frames_behind words)
     else if bytes_eq command (codes "ipc") then option_map asks.Ipc (frames_behind words)
+    else if bytes_eq command (codes "keep") then keep_behind words
     else None
 
 -- the folder that words name, or the working folder

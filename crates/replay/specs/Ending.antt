@@ -1,6 +1,7 @@
 -- What was answered and written when the program ends.
 use Rattle.std.specs.Prelude.{◌≡◌, ◌≤◌, ℕ, Bool, true, false, List, [], ◌++◌, length, map, codes, Option, Some, IfSome, IsSomeAnd, Ok}
 use Rattle.std.specs.List.{flat_map}
+use Rattle.std.specs.FinMap.{get}
 use Rattle.vm_ids.specs.Counting.{MapperCounts, no_counts}
 use Rattle.vm_ids.specs.Held.{Segments, segments_of}
 use Rattle.vm_ids.specs.declared.command.Command.TheVariants.{Stat}
@@ -16,6 +17,7 @@ use Rattle.vm_model.specs.Run.{AnswerIs, Read, State, command_semantics}
 use Rattle.vm_model.specs.Steps.{Semantics, Step}
 use Rattle.actor_script.specs.Forms.{command_of}
 use Rattle.actor_script.specs.Generator.{generated}
+use Rattle.actor_script.specs.KeepForms.{keep_command_of}
 use Rattle.actor_script.specs.MixForms.{mix_command_of}
 use Rattle.actor_script.specs.PortForms.{port_command_of}
 use Rattle.actor_script.specs.Summary.{summary_of, tally_of}
@@ -32,8 +34,11 @@ use Rattle.mix_process.specs.ProcessMachine.{ProcessMachine}
 use Rattle.mix_process.specs.ProcessMachine.{start as no_processes}
 use Rattle.transit_ipc.specs.PortMachine.{PortMachine}
 use Rattle.transit_ipc.specs.PortMachine.{start as no_ports}
+use Rattle.seg_manager.specs.ReferenceMachine.{ReferenceMachine, Stored}
+use Rattle.seg_manager.specs.ReferenceMachine.{start as no_openings}
 use Rattle.replay.specs.Posting.{port_semantics}
 use Rattle.replay.specs.Processing.{process_semantics}
+use Rattle.replay.specs.Reopening.{keep_semantics}
 use Rattle.replay.specs.declared.status.Status.{Status}
 use Rattle.replay.specs.declared.status.Status.TheVariants as statuses
 use Rattle.replay.specs.declared.asked.Asked.{Asked}
@@ -54,6 +59,11 @@ ProcessScene = Scene process_semantics Told
 -- And of a script of message ports: the plain machine with the ports, and the same besides.
 abbrev pub PortScene : Type 0
 PortScene = Scene port_semantics Told
+
+-- And of a script of segments that are opened again: the machine of referenced segments, and the
+-- same besides.
+abbrev pub SegmentScene : Type 0
+SegmentScene = Scene keep_semantics Told
 
 -- What a scene has besides: the mapper's segments, where they are told, its counts, the turns that
 -- the dispatcher has left, and what was written.
@@ -94,6 +104,15 @@ scene_of_processes o processes usage = record {
 abbrev pub scene_of_ports : Outside → PortMachine → PortScene
 scene_of_ports o ports = record {
   state = record { ports = ports; segments = o.segments };
+  counts = o.counts;
+  turns = o.turns;
+  written = o.written;
+}
+
+-- the scene of referenced segments
+abbrev pub scene_of_segments : Outside → ReferenceMachine → SegmentScene
+scene_of_segments o references = record {
+  state = record { references = references; segments = o.segments };
   counts = o.counts;
   turns = o.turns;
   written = o.written;
@@ -145,6 +164,20 @@ pub record PortEnds (status : Status) (frames : ℕ) (before now : Outside) (lef
   pub last : PortMachine
   pub ends : EndsAs status port_semantics port_command_of
       (scene_of_ports before (no_ports frames PAGE)) (scene_of_ports now last) left left_now
+
+-- the pages of each segment, where they are told
+abbrev pub stored_in : Option Segments → Stored
+stored_in None seg = None
+stored_in (Some segments) seg = get segments.pages seg
+
+-- How a script of segments that are opened again ends: it began with no segment open, over those
+-- that the mapper has. How many caches may be kept is no part of it.
+pub record KeepEnds (status : Status) (frames : ℕ) (before now : Outside) (left left_now : Told)
+    : Type 0 where
+  pub last : ReferenceMachine
+  pub ends : EndsAs status keep_semantics keep_command_of
+      (scene_of_segments before (no_openings frames PAGE (stored_in before.segments)))
+      (scene_of_segments now last) left left_now
 
 -- All of a text was written; or, where a write failed, a front of it.
 abbrev pub WritesAs : Status → Option (List ℕ) → Option (List ℕ) → List ℕ → Type 0
@@ -209,12 +242,15 @@ AskedEnds status (asks.Mix frames) before now left left_now =
     MixEnds status before now left left_now
 AskedEnds status (asks.Ipc frames) before now left left_now =
     PortEnds status frames before now left left_now
+AskedEnds status (asks.Keep limit frames) before now left left_now =
+    KeepEnds status frames before now left left_now
 
 -- only the replay of a script reads the source
 abbrev pub reads_source : Asked → Bool
 reads_source (asks.Run size) = true
 reads_source (asks.Mix frames) = true
 reads_source (asks.Ipc frames) = true
+reads_source (asks.Keep limit frames) = true
 reads_source asked = false
 
 -- What is asked for reads no source, or one that tells no more bytes than a script may have.
@@ -222,4 +258,6 @@ abbrev pub IsWithinLimit : Asked → Option (List ℕ) → Type 0
 IsWithinLimit (asks.Run size) left = IsSomeAnd left (λ all. length all ≤ most_bytes)
 IsWithinLimit (asks.Mix frames) left = IsSomeAnd left (λ all. length all ≤ most_bytes)
 IsWithinLimit (asks.Ipc frames) left = IsSomeAnd left (λ all. length all ≤ most_bytes)
+IsWithinLimit (asks.Keep limit frames) left =
+    IsSomeAnd left (λ all. length all ≤ most_bytes)
 IsWithinLimit asked left = Unit {0}

@@ -7,9 +7,10 @@ use Rattle.vm_ids.specs.Held.{Held}
 use Rattle.vm_model.specs.Machine.{actor_of}
 use Rattle.vm_model.proofs.Parts.Distinct.{AreDistinct as AreApart}
 use Rattle.actor_script.specs.Forms.{command_of}
+use Rattle.actor_script.specs.KeepForms.{keep_command_of}
 use Rattle.actor_script.specs.MixForms.{mix_command_of}
 use Rattle.actor_script.specs.PortForms.{port_command_of}
-use Rattle.actor_script.proofs.Fronts.{command_of-front, mix_command_of-front, port_command_of-front}
+use Rattle.actor_script.proofs.Fronts.{command_of-front, keep_command_of-front, mix_command_of-front, port_command_of-front}
 use Rattle.gmi_calls.specs.declared.gmi.Gmi.{Ghosts as GhostsOfGmi}
 use Rattle.gmi_calls.proofs.FewAlive.{few_alive}
 use Rattle.replay.specs.Managing.{CanCall}
@@ -36,6 +37,9 @@ mix_fronts line = mix_command_of-front line
 
 pub port_fronts : (line : List ℕ) → port_command_of (front_of_line line) ≡ port_command_of line
 port_fronts line = port_command_of-front line
+
+pub keep_fronts : (line : List ℕ) → keep_command_of (front_of_line line) ≡ keep_command_of line
+keep_fronts line = keep_command_of-front line
 
 -- where nobody is alive, few are
 pub nobody : (actors : List ℕ) → AreDistinct actors → AllByRecursion (λ actor. ⊥) actors

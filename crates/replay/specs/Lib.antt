@@ -6,3 +6,5 @@ pub mod Managing
 pub mod Posting
 pub mod Processing
 pub mod Reading
+pub mod Reopening
+pub mod Replaying

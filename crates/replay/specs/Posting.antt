@@ -1,8 +1,12 @@
 -- What the lines of a script of message ports mean.
+use Rattle.vm_ids.specs.declared.command.PortCommand.{PortCommand}
 use Rattle.vm_model.specs.Steps.{Semantics}
-use Rattle.transit_ipc.specs.Stepping.{AnswerIs}
-use Rattle.replay.specs.AtOnce.{at_once}
+use Rattle.transit_ipc.specs.Stepping.{AnswerIs, State}
+use Rattle.replay.specs.AtOnce.{Meaning, at_once}
 
--- what the commands of a script of message ports mean
+-- what its commands mean
+abbrev pub port_meaning : Meaning PortCommand
+port_meaning = record { State = State; Is = AnswerIs }
+
 abbrev pub port_semantics : Semantics
-port_semantics = at_once AnswerIs
+port_semantics = at_once port_meaning

@@ -7,22 +7,14 @@ ghost use Rattle.line_service.specs.Script.{most_bytes};
 
 use crate::Status;
 use crate::asked::Asked;
-use crate::commands::Commands;
 use crate::generating::generate;
-use crate::ports::PortLines;
-use crate::processes::Processes;
+use crate::replaying::{replay_commands, replay_messages, replay_processes, replay_segments};
 use crate::trying::trial;
 use crate::words::read_words;
-use line_service::replay;
-use mix_process::Mix;
-use pull_wait::PullWait;
-use pvm_core::Pvm;
 use std::alloc::Global;
-use transit_ipc::Ports;
-use vm_ids::PAGE;
 use vm_port::{Chooser, Dispatcher, Mapper, Sink, Source};
 
-/// Runs the program for the words of a command line, which ask for one of five things:
+/// Runs the program for the words of a command line, which ask for one of six things:
 ///
 /// - `run --frames F [--page B] [--segments DIR]` replays the script that the source has left, over
 ///   a demand-paged manager of F page frames of B bytes, and writes a reply for each line. The
@@ -35,6 +27,9 @@ use vm_port::{Chooser, Dispatcher, Mapper, Sink, Source};
 ///   over a manager of F page frames of 4,096 bytes, and writes a reply for each line.
 /// - `ipc --frames F [--segments DIR]` replays the script of message ports that the source has left,
 ///   over a manager of F page frames of 4,096 bytes, and writes a reply for each line.
+/// - `keep --limit K --frames F [--segments DIR]` replays the script of segments that the source has
+///   left, which are opened again and again, over a manager of F page frames of 4,096 bytes, and
+///   writes a reply for each line. K caches to which nothing refers are kept.
 ///
 /// Whatever the source, the sink, the mapper, the chooser and the dispatcher: the lines written
 /// are, in the order written, the replies of a machine that keeps each cache as plain bytes and
@@ -44,16 +39,18 @@ use vm_port::{Chooser, Dispatcher, Mapper, Sink, Source};
 /// its command's rule and agrees with that machine at the end. However reads cut the script, it is
 /// the same script. The replies to a script of processes are those of processes that have plain
 /// pages of bytes, which a fork copies at once; those to a script of message ports are those of
-/// ports at which plain pages of bytes wait, first in, first out. With both no segment changes.
+/// ports at which plain pages of bytes wait, first in, first out. With both no segment changes. The
+/// replies to a script of segments are those of a machine in which a segment's cache lives while an
+/// opening or a region refers to it; K is no part of what that machine is.
 ///
 /// - `Done`: where a script is read, the source has nothing left, and each line is answered; else
 ///   all is written.
 /// - `Usage` exactly where the words aren't those, but for want of memory. The options stand in any
 ///   order, each once at most, as two words or as one with `=`, in a trial also before and between
 ///   N and L. F is from 3 to 65,536; B is 512, 1,024, 2,048, 4,096 (where it isn't given), 8,192,
-///   16,384, 32,768 or 65,536; N is up to 4,294,967,295; L is from 1 to 1,000,000; all are decimal
-///   with no leading zero, and F times B is 268,435,456 at most; DIR isn't empty, and no hyphen
-///   begins it. Nothing was read or written.
+///   16,384, 32,768 or 65,536; K is up to 1,024; N is up to 4,294,967,295; L is from 1 to 1,000,000;
+///   all are decimal with no leading zero, and F times B is 268,435,456 at most; DIR isn't empty,
+///   and no hyphen begins it. Nothing was read or written.
 /// - `SourceFault`, where a script is read, only where the source's count of faults rose; each line
 ///   that ended before is answered, or is a load or a store that waits for its page.
 /// - `SinkFault` only where the sink's count of faults rose; a front of the text was written.
@@ -115,85 +112,20 @@ pub fn run<S: Source, K: Sink, M: Mapper, C: Chooser, D: Dispatcher>(
     };
     match asked {
         Asked::Run(size) => {
-            let manager = match Pvm::new(alloc, size.frames, size.page_bytes) {
-                Ok(manager) => manager,
-                Err(_) => return Status::NoMemory,
-            };
-            let mut waits = match PullWait::new(alloc) {
-                Ok(waits) => waits,
-                Err(_) => return Status::NoMemory,
-            };
-            let mut commands = Commands { gmi: manager };
-            Status::of(replay(
-                &mut commands,
-                mapper,
-                chooser,
-                &mut waits,
-                dispatcher,
-                source,
-                sink,
-            ))
+            replay_commands(alloc, size, source, sink, mapper, chooser, dispatcher)
         }
         Asked::Generate(script) => generate(script, sink),
         Asked::Trial(script, frames) => {
-            let manager = match Pvm::new(alloc, frames, PAGE as u32) {
-                Ok(manager) => manager,
-                Err(_) => return Status::NoMemory,
-            };
-            let mut waits = match PullWait::new(alloc) {
-                Ok(waits) => waits,
-                Err(_) => return Status::NoMemory,
-            };
-            let mut commands = Commands { gmi: manager };
-            trial(
-                &mut commands,
-                mapper,
-                chooser,
-                &mut waits,
-                dispatcher,
-                sink,
-                script,
-            )
+            trial(alloc, script, frames, sink, mapper, chooser, dispatcher)
         }
         Asked::Mix { frames } => {
-            let manager = match Pvm::new(alloc, frames, PAGE as u32) {
-                Ok(manager) => manager,
-                Err(_) => return Status::NoMemory,
-            };
-            let mut waits = match PullWait::new(alloc) {
-                Ok(waits) => waits,
-                Err(_) => return Status::NoMemory,
-            };
-            let mut processes = Processes {
-                mix: Mix::new::<M, C>(alloc, manager),
-            };
-            let ended = replay(
-                &mut processes,
-                mapper,
-                chooser,
-                &mut waits,
-                dispatcher,
-                source,
-                sink,
-            );
-            Status::of(ended)
+            replay_processes(alloc, frames, source, sink, mapper, chooser, dispatcher)
         }
         Asked::Ipc { frames } => {
-            let manager = match Pvm::new(alloc, frames, PAGE as u32) {
-                Ok(manager) => manager,
-                Err(_) => return Status::NoMemory,
-            };
-            let mut waits = match PullWait::new(alloc) {
-                Ok(waits) => waits,
-                Err(_) => return Status::NoMemory,
-            };
-            let mut lines = PortLines {
-                ports: Ports::new::<M, C>(alloc, manager),
-            };
-            let outcome = replay(
-                &mut lines, mapper, chooser, &mut waits, dispatcher, source, sink,
-            );
-            Status::of(outcome)
+            replay_messages(alloc, frames, source, sink, mapper, chooser, dispatcher)
         }
+        Asked::Keep { limit, frames } => replay_segments(
+            alloc, frames, limit, source, sink, mapper, chooser, dispatcher,
+        ),
     }
 }

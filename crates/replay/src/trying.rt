@@ -1,10 +1,10 @@
 // The lines of a script that a number makes, answered and counted.
-ghost use Rattle.std.specs.Prelude.{◌≡◌, ◌≤◌, [], map};
+ghost use Rattle.std.specs.Prelude.{◌≡◌, ◌≢◌, ◌≤◌, ◌⊎◌, ◌^◌, [], map, IfSome};
 ghost use Rattle.vm_ids.specs.Counting.{Rose};
 ghost use Rattle.vm_model.specs.Run.{command_semantics, state_of};
 ghost use Rattle.actor_script.specs.Forms.{command_of};
 ghost use Rattle.line_service.specs.Serving.{answer_budget};
-ghost use Rattle.replay.specs.Ending.{lines_made, Summed, TellsCounts};
+ghost use Rattle.replay.specs.Ending.{Summed, TellsCounts, TrialEnds, lines_made, outside_of};
 ghost use Rattle.replay.specs.Managing.{CanCall, scene_of_manager};
 
 use crate::Status;
@@ -14,12 +14,14 @@ use actor_script::{Gen, Tally, write_summary};
 use gmi_calls::Gmi;
 use line_service::answer_made;
 use pull_wait::PullWait;
-use vm_ids::Counts;
+use pvm_core::Pvm;
+use std::alloc::Global;
+use vm_ids::{Counts, PAGE};
 use vm_port::{Chooser, Dispatcher, Mapper, Sink};
 
-/// Answers each line of the script, and writes the summary of the answers. Accesses may wait for
-/// their pages. Beside the calls of the manager it takes no memory.
-pub fn trial<G: Gmi<M, C>, M: Mapper, C: Chooser, D: Dispatcher, K: Sink>(
+// Answers each line of the script, and writes the summary of the answers. Accesses may wait for
+// their pages. Beside the calls of the manager it takes no memory.
+fn answer_all<G: Gmi<M, C>, M: Mapper, C: Chooser, D: Dispatcher, K: Sink>(
     commands: &mut Commands<G>,
     mapper: &mut M,
     chooser: &mut C,
@@ -40,6 +42,7 @@ pub fn trial<G: Gmi<M, C>, M: Mapper, C: Chooser, D: Dispatcher, K: Sink>(
         (scene_of_manager G.Gmi M.Mapper commands.new.gmi mapper.new (D.turns dispatcher.new)
         (K.written sink.new))
         (map command_of (lines_made script)) counts }
+    ensures ended { (result ≡ Status.Done) ⊎ (result ≡ Status.SinkFault) }
     ensures sink_fault { result ≡ Status.SinkFault →
         Rose (K.faults sink.old) (K.faults sink.new) }
 {
@@ -64,4 +67,50 @@ pub fn trial<G: Gmi<M, C>, M: Mapper, C: Chooser, D: Dispatcher, K: Sink>(
         Ok(()) => Status::Done,
         Err(_) => Status::SinkFault,
     }
+}
+
+/// Answers each line of the script over a manager of so many page frames, and writes the summary of
+/// the answers. `NoMemory` where there is none to begin with.
+pub fn trial<K: Sink, M: Mapper, C: Chooser, D: Dispatcher>(
+    alloc: Global,
+    script: Generated,
+    frames: u32,
+    sink: &mut K,
+    mapper: &mut M,
+    chooser: &mut C,
+    dispatcher: &mut D,
+) -> Status
+    requires lines { script.lines ≤ 1000000 }
+    requires few { 3 ≤ frames }
+    requires frames { frames ≤ 2 ^ 16 }
+    requires page { IfSome (M.page_bytes mapper.old) (λ bytes. bytes ≡ PAGE) }
+    ensures ends { result ≢ Status.NoMemory → TrialEnds result script frames
+        (outside_of M.Mapper mapper.old (D.turns dispatcher.old) (K.written sink.old))
+        (outside_of M.Mapper mapper.new (D.turns dispatcher.new) (K.written sink.new)) }
+    ensures ended { (result ≡ Status.Done) ⊎ (result ≡ Status.SinkFault)
+        ⊎ (result ≡ Status.NoMemory) }
+    ensures sink_fault { result ≡ Status.SinkFault →
+        Rose (K.faults sink.old) (K.faults sink.new) }
+    ensures untouched { result ≡ Status.NoMemory → (sink.new ≡ sink.old)
+        × (mapper.new ≡ mapper.old) × (chooser.new ≡ chooser.old)
+        × (dispatcher.new ≡ dispatcher.old) }
+{
+    let manager = match Pvm::new(alloc, frames, PAGE as u32) {
+        Ok(manager) => manager,
+        Err(_) => return Status::NoMemory,
+    };
+    let mut waits = match PullWait::new(alloc) {
+        Ok(waits) => waits,
+        Err(_) => return Status::NoMemory,
+    };
+    let mut commands = Commands { gmi: manager };
+    answer_all(
+        &mut commands,
+        mapper,
+        chooser,
+        &mut waits,
+        dispatcher,
+        sink,
+        script,
+    )
 }

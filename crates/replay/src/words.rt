@@ -1,7 +1,7 @@
 // The words of a command line.
 ghost use Rattle.std.specs.Prelude.{◌≡◌, ◌≤◌, ◌^◌, false, map, true, option_map, IfErr, IfOk, IsSome};
 ghost use Rattle.clap.specs.Words.{app_of, first_value as found_first, found_of, kind_of};
-ghost use Rattle.replay.specs.Commanding.{asked_by, first_value, folder_of, frames_behind, frames_of, is_value, page_of, page_size_of, size_behind, size_of, value_in, values_behind};
+ghost use Rattle.replay.specs.Commanding.{asked_by, first_value, folder_of, frames_behind, frames_of, is_value, keep_behind, keep_of, limit_of, page_of, page_size_of, size_behind, size_of, value_in, values_behind};
 ghost use Rattle.replay.specs.Reading.{are_named, bare_command, has_escape, have_values, values_in, with_options};
 
 use crate::asked::{Asked, Size};
@@ -29,6 +29,12 @@ const RUN_OPTIONS: [&str; 3] = ["frames", "page", "segments"];
 // The names of the options of each word whose pages have 4,096 bytes.
 const PLAIN_OPTIONS: [&str; 2] = ["frames", "segments"];
 
+// The names of the options of `keep`.
+const KEEP_OPTIONS: [&str; 3] = ["frames", "limit", "segments"];
+
+// So many caches to which nothing refers may be kept, at most.
+const MOST_KEPT: u32 = 1024;
+
 // The word behind which clap takes each word as it stands. It lets it stand last, too.
 const ESCAPE: &str = "--";
 
@@ -51,6 +57,18 @@ fn page_in(word: &str) -> Option<u32>
     let size = read_number(word.as_bytes())?;
     if PAGE_SIZES.contains(&size) {
         Some(size)
+    } else {
+        None
+    }
+}
+
+// How many caches may be kept, as a word spells it.
+fn limit_in(word: &str) -> Option<u32>
+    ensures { result ≡ limit_of word.now }
+{
+    let limit = read_number(word.as_bytes())?;
+    if limit <= MOST_KEPT {
+        Some(limit)
     } else {
         None
     }
@@ -94,6 +112,18 @@ fn size_in(matches: &ArgMatches<'_>) -> Option<Size>
         return None;
     }
     Some(Size { frames, page_bytes })
+}
+
+// What the values ask for which clap found behind `keep`.
+fn keep_in(matches: &ArgMatches<'_>) -> Option<Asked>
+    ensures { result ≡ keep_of (found_first (found_of matches.now)) }
+{
+    let size = size_in(matches)?;
+    let limit = limit_in(matches.get_str("limit")?)?;
+    Some(Asked::Keep {
+        limit,
+        frames: size.frames,
+    })
 }
 
 // A command that takes no program's name and knows no option.
@@ -195,10 +225,20 @@ pub fn frames_behind(alloc: Global, words: &[&str]) -> Result<Option<u32>, NoMem
     }
 }
 
+// What words ask for which are options of `keep`: `None` exactly for other words.
+fn keep_behind(alloc: Global, words: &[&str]) -> Result<Option<Asked>, NoMemory>
+    ensures { IfOk result (λ asked. asked ≡ keep_behind (map (λ w. w.now) words.now)) }
+{
+    match values_behind(alloc, &KEEP_OPTIONS, words)? {
+        Some(values) => Ok(keep_in(&values)),
+        None => Ok(None),
+    }
+}
+
 /// What the words of a command line ask for, which are `run --frames F [--page B] [--segments
-/// DIR]`, `generate N L`, `trial N L --frames F [--segments DIR]`, `mix --frames F [--segments DIR]`
-/// or `ipc --frames F [--segments DIR]`: `None` exactly for other words. `NoMemory` where there is
-/// none to read them.
+/// DIR]`, `generate N L`, `trial N L --frames F [--segments DIR]`, `mix --frames F [--segments
+/// DIR]`, `ipc --frames F [--segments DIR]` or `keep --limit K --frames F [--segments DIR]`: `None`
+/// exactly for other words. `NoMemory` where there is none to read them.
 #[tactic(auto, unfolding(crate::specs::Commanding::asked_by))]
 pub fn read_words(alloc: Global, words: &[&str]) -> Result<Option<Asked>, NoMemory>
     ensures { IfOk result (λ asked. asked ≡ asked_by (map (λ w. w.now) words.now)) }
@@ -223,6 +263,7 @@ pub fn read_words(alloc: Global, words: &[&str]) -> Result<Option<Asked>, NoMemo
             Some(frames) => Ok(Some(Asked::Ipc { frames })),
             None => Ok(None),
         },
+        [command, options @ ..] if *command == "keep" => keep_behind(alloc, options),
         _ => Ok(None),
     }
 }

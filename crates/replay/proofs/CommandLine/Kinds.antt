@@ -1,5 +1,5 @@
 -- What words are that ask for something.
-use Rattle.std.proofs.Common.{◌≡◌, ◌≤◌, ◌^◌, ℕ, Bool, true, false, cond, List, [], ◌∷◌, Option, Some, refl, sym, ap, ◌∙◌, subst, codes, bytes_eq, arith, nat_le, option_map}
+use Rattle.std.proofs.Common.{◌≡◌, ◌≤◌, ◌^◌, ℕ, Bool, true, false, cond, List, [], ◌∷◌, Option, Some, refl, sym, ap, ◌∙◌, subst, codes, bytes_eq, arith, nat_le, option_and_then, option_map}
 use Rattle.std.specs.Prelude.{◌&&◌, IfOk, Result, Ok, Err}
 use Rattle.std.proofs.lemmas.Bool.{and_parts, leb-true}
 use Rattle.vm_ids.specs.declared.numbers.TheConstants.{PAGE}
@@ -8,7 +8,7 @@ use Rattle.replay.specs.declared.asked.Asked.{Asked}
 use Rattle.replay.specs.declared.asked.Asked.TheVariants as asks
 use Rattle.replay.specs.declared.asked.Generated.{Generated}
 use Rattle.replay.specs.declared.asked.Size.{Size}
-use Rattle.replay.specs.Commanding.{asked_by, first_value, frames_behind, if_lines, line_count_of, options_among, others_among, page_size_of, plain_options, run_options, script_of, size_behind, trial_behind, trial_of}
+use Rattle.replay.specs.Commanding.{asked_by, first_value, frames_behind, if_lines, keep_behind, keep_of, keep_options, keep_with, limit_of, line_count_of, options_among, others_among, page_size_of, plain_options, run_options, script_of, size_behind, size_of, trial_behind, trial_of, values_behind}
 use Rattle.replay.proofs.CommandLine.First.{no_page, no_page_among, page_behind, page_or}
 use Rattle.replay.proofs.CommandLine.Right.{Made, few_frames, made_by_map, made_by_test, made_by_then, sized, small_page}
 use Rattle.replay.proofs.CommandLine.Values.{same_text}
@@ -30,6 +30,7 @@ IsKind words (asks.Generate script) = IsWord (codes "generate") (λ rest. script
 IsKind words (asks.Trial script frames) = IsWord (codes "trial") (IsTrial script frames) words
 IsKind words (asks.Mix frames) = IsWord (codes "mix") (λ rest. frames_behind rest ≡ Some frames) words
 IsKind words (asks.Ipc frames) = IsWord (codes "ipc") (λ rest. frames_behind rest ≡ Some frames) words
+IsKind words (asks.Keep limit frames) = IsWord (codes "keep") (λ rest. Made (size_behind keep_options rest) (λ size. size.frames ≡ frames)) words
 
 -- what a word asks for is made of what its words are
 mapped : {A : Type 0} (name : List ℕ) (rest : List (List ℕ)) (make : A → Asked) (o : Option A) (asked : Asked) → ((x : A) → o ≡ Some x → IsKind (name ∷ rest) (make x)) → option_map make o ≡ Some asked → IsKind (name ∷ rest) asked
@@ -42,6 +43,13 @@ trial_is rest asked e =
     let script = made_by_then (λ (script : Generated). option_map (asks.Trial script) (frames_behind (options_among false rest))) (script_of (others_among false rest)) asked e in
     mapped (codes "trial") rest (asks.Trial script.value) (frames_behind (options_among false rest)) asked
     (λ frames is. record { rest = rest; words_are = refl; holds = record { script_is = script.is; frames_are = is } }) script.holds
+
+keep_is : (rest : List (List ℕ)) (asked : Asked) → keep_behind rest ≡ Some asked → IsKind (codes "keep" ∷ rest) asked
+keep_is rest asked e =
+    let values = made_by_then keep_of (values_behind keep_options rest) asked e in
+    let size = made_by_then (keep_with values.value) (size_of values.value) asked values.holds in
+    mapped (codes "keep") rest (λ limit. asks.Keep limit size.value.frames) (option_and_then limit_of (values.value (codes "limit"))) asked
+    (λ limit is. record { rest = rest; words_are = refl; holds = record { value = size.value; is = ap (option_and_then size_of) values.is ∙ size.is; holds = refl } }) size.holds
 
 -- a word is this one, or one of the others
 this_or : (name command : List ℕ) (rest : List (List ℕ)) (asked : Asked) (this others : Option Asked) → cond (bytes_eq command name) this others ≡ Some asked
@@ -61,7 +69,8 @@ kind_of_words (command ∷ rest) asked e =
     (λ e. this_or (codes "trial") command rest asked _ _ e (trial_is rest asked)
     (λ e. this_or (codes "mix") command rest asked _ _ e (mapped (codes "mix") rest asks.Mix _ asked (λ frames is. record { rest = rest; words_are = refl; holds = is }))
     (λ e. this_or (codes "ipc") command rest asked _ _ e (mapped (codes "ipc") rest asks.Ipc _ asked (λ frames is. record { rest = rest; words_are = refl; holds = is }))
-    (λ e. absurd (cc))))))
+    (λ e. this_or (codes "keep") command rest asked _ _ e (keep_is rest asked)
+    (λ e. absurd (cc)))))))
 
 -- words whose pages have 4,096 bytes ask for a size, too
 plain_size : (words : List (List ℕ)) (frames : ℕ) → frames_behind words ≡ Some frames → Made (size_behind plain_options words) (λ size. size.frames ≡ frames)
@@ -97,6 +106,12 @@ ipc_page words frames e =
     let ipc = kind_of_words words (asks.Ipc frames) e in
     ap page_size_of ipc.words_are ∙ plain_page ipc.rest frames ipc.holds
 
+pub keep_page : (words : List (List ℕ)) (limit frames : ℕ) → asked_by words ≡ Some (asks.Keep limit frames) → page_size_of words ≡ PAGE
+keep_page words limit frames e =
+    let keep = kind_of_words words (asks.Keep limit frames) e in
+    let s = sized keep_options keep.rest keep.holds.value keep.holds.is in
+    ap page_size_of keep.words_are ∙ ap page_or (no_page keep_options refl keep.rest s.values s.values_are)
+
 -- bounds
 
 pub record HasBounds (count bytes : ℕ) : Type 0 where
@@ -112,11 +127,13 @@ size_bounds known words size e =
     let page = small_page _ size.page_bytes s.forms.page_is in
     record { few = frames.0; frames = omega (arith, frames.1); some = page.0; page = page.1 }
 
-plain_bounds : (words : List (List ℕ)) (frames : ℕ) → frames_behind words ≡ Some frames → HasBounds frames PAGE
-plain_bounds words frames e =
-    let size = plain_size words frames e in
-    let h = size_bounds plain_options words size.value size.is in
+of_size : (known words : List (List ℕ)) (frames : ℕ) → Made (size_behind known words) (λ size. size.frames ≡ frames) → HasBounds frames PAGE
+of_size known words frames size =
+    let h = size_bounds known words size.value size.is in
     record { few = omega (arith, h.few, size.holds); frames = omega (arith, h.frames, size.holds); some = omega arith; page = omega arith }
+
+plain_bounds : (words : List (List ℕ)) (frames : ℕ) → frames_behind words ≡ Some frames → HasBounds frames PAGE
+plain_bounds words frames e = of_size plain_options words frames (plain_size words frames e)
 
 pub run_bounds : (words : List (List ℕ)) (size : Size) → asked_by words ≡ Some (asks.Run size) → HasBounds size.frames size.page_bytes
 run_bounds words size e = let run = kind_of_words words (asks.Run size) e in size_bounds run_options run.rest size run.holds
@@ -131,6 +148,9 @@ mix_bounds words frames e = let mix = kind_of_words words (asks.Mix frames) e in
 
 pub ipc_bounds : (words : List (List ℕ)) (frames : ℕ) → asked_by words ≡ Some (asks.Ipc frames) → HasBounds frames PAGE
 ipc_bounds words frames e = let ipc = kind_of_words words (asks.Ipc frames) e in plain_bounds ipc.rest frames ipc.holds
+
+pub keep_bounds : (words : List (List ℕ)) (limit frames : ℕ) → asked_by words ≡ Some (asks.Keep limit frames) → HasBounds frames PAGE
+keep_bounds words limit frames e = let keep = kind_of_words words (asks.Keep limit frames) e in of_size keep_options keep.rest frames keep.holds
 
 -- a script has 1 to 1,000,000 lines
 

@@ -22,6 +22,9 @@ mixes frames = Some (asks.Mix frames)
 abbrev posts : ℕ → Option Asked
 posts frames = Some (asks.Ipc frames)
 
+abbrev keeps : ℕ → ℕ → Option Asked
+keeps limit frames = Some (asks.Keep limit frames)
+
 abbrev line_asks : List ℕ → Option Asked
 line_asks line = asked_by (words_of line)
 
@@ -78,6 +81,14 @@ rows = (codes "run --frames 8", runs 8 4096)
     ∷ (codes "ipc --segments d --frames=65536", posts 65536)
     ∷ (codes "ipc", None)
     ∷ (codes "ipc --frames 8 --page 4096", None)
+    ∷ (codes "keep --limit 0 --frames 3", keeps 0 3)
+    ∷ (codes "keep --frames=8 --segments d --limit=1024", keeps 1024 8)
+    ∷ (codes "keep --limit 1025 --frames 8", None)
+    ∷ (codes "keep --limit 01 --frames 8", None)
+    ∷ (codes "keep --frames 8", None)
+    ∷ (codes "keep --limit 1", None)
+    ∷ (codes "keep --limit 1 --frames 8 --page 4096", None)
+    ∷ (codes "mix --limit 1 --frames 8", None)
     ∷ (codes "help", None)
     ∷ []
 

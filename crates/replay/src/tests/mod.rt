@@ -6,6 +6,7 @@ mod draws;
 mod failing_calls;
 mod following;
 mod generated;
+mod keep;
 mod lines;
 mod lying;
 mod page_forest;

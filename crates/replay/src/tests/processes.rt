@@ -5,7 +5,7 @@ ghost use Rattle.replay.specs.Commanding.{page_size_of};
 
 use super::draws::Draws;
 use super::playing::{ROOM, said, text, written};
-use crate::processes::Processes;
+use crate::at_once::AtOnce;
 use actor_script::{read_mix, write_reply};
 use line_service::{Ended, replay};
 use mix_process::{Mix, PlainProcesses};
@@ -352,7 +352,7 @@ fn counts_below(rt: &impl Abort, alloc: Global, script: &str) -> Result<Counts, 
     let manager = Pvm::new(alloc, 8, PAGE as u32)?;
     let mut waits = PullWait::new(alloc)?;
     let mix = Mix::new::<MemoryMapper, Clock>(alloc, manager);
-    let mut processes = Processes { mix };
+    let mut processes = AtOnce { answerer: mix };
     let mut source = MemorySource::new(script.as_bytes(), &[]);
     let mut sink = MemorySink::new(alloc, ROOM, &[])?;
     let ended = replay(
@@ -369,7 +369,7 @@ fn counts_below(rt: &impl Abort, alloc: Global, script: &str) -> Result<Counts, 
         .lines()
         .any(|reply| !said(reply).starts_with("ok"));
     assert!(rt; !refused);
-    Ok(processes.mix.manager().stat())
+    Ok(processes.answerer.manager().stat())
 }
 
 // Forks of forks leave the pages of the opened image, and nothing else.

@@ -1,12 +1,17 @@
 use Rattle.std.proofs.Common.{sym, ◌∙◌}
-use Rattle.actor_script.proofs.PortForms.{of_shared, of_other, of_none}
+use Rattle.vm_ids.specs.declared.command.PortCommand.TheVariants.{Plain}
+use Rattle.actor_script.specs.PortForms.{is_shared, port_command_of, own_form_of}
+use Rattle.actor_script.proofs.Sharing.{of_shared, of_other, of_none}
 use Rattle.actor_script.proofs.reading.ports.read_ports.Goals as goal
 
 pub returns-then-is_shared : goal.returns-then-is_shared
-returns-then-is_shared c = sym (of_shared c.args.line.now c.in-Ok.command (sym c.in-Ok.ensures.command) (sym c.is_shared.ensures ∙ c.if-is_shared.true))
+unfolding port_command_of
+returns-then-is_shared c = sym (of_shared is_shared Plain own_form_of c.args.line.now c.in-Ok.command (sym c.in-Ok.ensures.command) (sym c.is_shared.ensures ∙ c.if-is_shared.true))
 
 pub returns-else-is_shared : goal.returns-else-is_shared
-returns-else-is_shared c = c.read_own.ensures ∙ sym (of_other c.args.line.now c.in-Ok.command (sym c.in-Ok.ensures.command) (sym c.is_shared.ensures ∙ c.if-is_shared.false))
+unfolding port_command_of
+returns-else-is_shared c = c.read_own.ensures ∙ sym (of_other is_shared Plain own_form_of c.args.line.now c.in-Ok.command (sym c.in-Ok.ensures.command) (sym c.is_shared.ensures ∙ c.if-is_shared.false))
 
 pub returns-in-Err : goal.returns-in-Err
-returns-in-Err c = c.read_own-in-Err.ensures ∙ sym (of_none c.args.line.now c.in-Err.field-0 (sym c.in-Err.ensures.command))
+unfolding port_command_of
+returns-in-Err c = c.read_own-in-Err.ensures ∙ sym (of_none is_shared Plain own_form_of c.args.line.now c.in-Err.field-0 (sym c.in-Err.ensures.command))

@@ -1,6 +1,6 @@
 use Rattle.replay.specs.declared.status.Status.TheVariants as statuses
 use Rattle.replay.proofs.Tallying.{summed, told_counts}
-use Rattle.replay.proofs.trying.trial.Goals as goal
+use Rattle.replay.proofs.trying.answer_all.Goals as goal
 
 pub returns-in-Ok-write_summary-clause-ends : goal.returns-in-Ok-write_summary-clause-ends
 returns-in-Ok-write_summary-clause-ends g c =

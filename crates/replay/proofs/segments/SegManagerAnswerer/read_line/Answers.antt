@@ -1,0 +1,7 @@
+use Rattle.std.proofs.Common.{sym, subst}
+use Rattle.std.specs.Prelude.{IfOk}
+use Rattle.replay.proofs.KeepsFormed.{formed}
+use Rattle.replay.proofs.segments.SegManagerAnswerer.read_line.Goals as goal
+
+pub returns-clause-formed : goal.returns-clause-formed
+returns-clause-formed g c = rw c.read_keep.ensures (formed c.args.line.now)
