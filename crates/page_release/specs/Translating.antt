@@ -1,5 +1,5 @@
 -- What becomes of translations while pages are replaced and frames fall free.
-use Rattle.std.specs.Prelude.{◌≡◌, ◌≢◌, ℕ, ◌==◌, Bool, true, false, if◌then◌else◌, ◌&&◌, ◌⊎◌, List, map, Option, Some, None, is_none, is_some, option_and_then}
+use Rattle.std.specs.Prelude.{◌≡◌, ◌≢◌, ℕ, ◌==◌, Bool, true, false, if◌then◌else◌, ◌&&◌, ◌⊎◌, List, [], map, Option, Some, None, is_none, is_some, option_and_then}
 use Rattle.std.specs.List.{list_any}
 use Rattle.vm_ids.specs.declared.node_name.NodeName.{NodeName}
 use Rattle.vm_ids.specs.declared.numbers.NodeId.{NodeId}
@@ -21,6 +21,10 @@ is_frame (Some that) frame = frame == that
 -- one of these pages is seen in this frame
 abbrev pub is_seen : Arena → List (Option NodeId) → List NodeName → ℕ → Bool
 is_seen a map names frame = list_any (λ x. is_frame (seen_in a map x) frame) names
+
+-- these pages, where a region maps their cache: no translation is of any other
+abbrev pub where_mapped : Bool → List NodeName → List NodeName
+where_mapped mapped names = if mapped then names else []
 
 -- the frame of the own page of the node of this name, where it has one in a frame
 abbrev pub own_in : Arena → List (Option NodeId) → NodeName → Option ℕ
@@ -66,18 +70,18 @@ pub record WasEntered (s : Store) (place : ℕ) (e : Entry) : Type 0 where
   pub there : entry_at s.tables place ≡ Some entry
   pub is : (e ≡ entry) ⊎ (e ≡ read_only entry)
 
--- What is left of the translations when the pages of some names were replaced, and those of others
--- got heirs.
+-- What is left of the translations when the pages of some names were replaced, of which those were
+-- sought that translations may be of, and those of others got heirs.
 --     was       each one that is left was there, or was for writing and is for reading alone now
---     unseen    it leads to no frame in which a replaced page was seen
+--     unseen    it leads to no frame in which a page was seen that was sought
 --     unshared  and where it is for writing, to none of a page that got an heir
 --     seen      each other page is seen in the frame in which it was seen, or in none still
 --     alone     and it is its node's alone where it was, unless it got an heir
-pub record Leaves (replaced shared : NodeName → Type 0) (a : Arena) (s : Store) (b : Arena)
+pub record Leaves (replaced sought shared : NodeName → Type 0) (a : Arena) (s : Store) (b : Arena)
     (t : Store) : Type 0 where
   pub was : (place : ℕ) (e : Entry) → entry_at t.tables place ≡ Some e → WasEntered s place e
   pub unseen : (place : ℕ) (e : Entry) → entry_at t.tables place ≡ Some e
-      → (x : NodeName) → replaced x → seen_in a s.map x ≢ Some e.to.frame.0
+      → (x : NodeName) → sought x → seen_in a s.map x ≢ Some e.to.frame.0
   pub unshared : (place : ℕ) (e : Entry) → entry_at t.tables place ≡ Some e → e.to.writable ≡ true
       → (x : NodeName) → shared x → IsAlone a x → seen_in a s.map x ≢ Some e.to.frame.0
   pub seen : (x : NodeName) → is_live x ≡ true → (replaced x → ⊥)

@@ -1,9 +1,8 @@
 -- The pages that a span names.
-use Rattle.std.proofs.Common.{◌≡◌, ℕ, ◌+◌, ◌-◌, ◌<◌, ◌≤◌, List, [], sym, subst, refl, ap, arith}
+use Rattle.std.proofs.Common.{◌≡◌, ℕ, ◌+◌, ◌<◌, List, sym, subst, refl}
 use Rattle.vm_ids.specs.declared.command.Span.{Span}
-use Rattle.vm_ids.specs.declared.numbers.CacheId.{CacheId}
 use Rattle.vm_ids.specs.declared.node_name.NodeName.{NodeName}
-use Rattle.vm_ids.specs.Forest.Commands.{firsts, page_name, page_names, page_pairs, seconds, span_pairs}
+use Rattle.vm_ids.specs.Forest.Commands.{firsts, page_name, page_names, seconds, span_pairs}
 use Rattle.vm_ids.specs.Forest.Laws.Commands.{CanCopy}
 use Rattle.vm_ids.specs.Forest.Laws.Ranges.{AreNodes}
 use Rattle.vm_ids.specs.Forest.Nodes.{Forest}

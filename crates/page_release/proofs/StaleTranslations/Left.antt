@@ -83,12 +83,12 @@ not_at at (y ∷ ys) f none x i e =
 
 -- Before the pages are changed
 
--- What is left of the translations of some pages that are to be replaced, and of others that are to
--- get heirs.
-pub record AreReady (replaced shared : NodeName → Type 0) (a : Arena) (s t : Store) : Type 0 where
+-- What is left of the translations of some pages, sought before they are replaced, and of others that
+-- are to get heirs.
+pub record AreReady (sought shared : NodeName → Type 0) (a : Arena) (s t : Store) : Type 0 where
   pub only : OnlyTables s t
   pub was : (place : ℕ) (e : Entry) → entry_at t.tables place ≡ Some e → WasEntered s place e
-  pub unseen : (place : ℕ) (e : Entry) → entry_at t.tables place ≡ Some e → (x : NodeName) → replaced x → seen_in a s.map x ≢ Some e.to.frame.0
+  pub unseen : (place : ℕ) (e : Entry) → entry_at t.tables place ≡ Some e → (x : NodeName) → sought x → seen_in a s.map x ≢ Some e.to.frame.0
   pub unshared : (place : ℕ) (e : Entry) → entry_at t.tables place ≡ Some e → e.to.writable ≡ true → (x : NodeName) → shared x → IsAlone a x → seen_in a s.map x ≢ Some e.to.frame.0
 
 module _ (a : Arena) (names : List NodeName) where
@@ -108,8 +108,8 @@ module _ (a : Arena) (names : List NodeName) where
         unshared = λ place e at w x none. absurd none;
       }
 
-  module _ (replaced : NodeName → Type 0) (s t u : Store) (ready : AreReady replaced (λ x. ⊥) a s t) where
-    pub ready_more : Dropped t u → AreReady (λ x. replaced x ⊎ (x ∈ names)) (λ x. ⊥) a s u
+  module _ (sought : NodeName → Type 0) (s t u : Store) (ready : AreReady sought (λ x. ⊥) a s t) where
+    pub ready_more : Dropped t u → AreReady (λ x. sought x ⊎ (x ∈ names)) (λ x. ⊥) a s u
     ready_more is =
         let left = is_left (is_seen a t.map names) t.tables u.tables (ap (λ (r : Store). r.tables) is) in
         record {
@@ -122,7 +122,7 @@ module _ (a : Arena) (names : List NodeName) where
           unshared = λ place e at w x none. absurd none;
         }
 
-    pub ready_shared : IsSound a → IsConsistent (forest_of a) → Narrowed t u → AreReady replaced (λ x. x ∈ names) a s u
+    pub ready_shared : IsSound a → IsConsistent (forest_of a) → Narrowed t u → AreReady sought (λ x. x ∈ names) a s u
     ready_shared sound consistent is =
         let now = is_narrowed (is_owned a t.map names) t.tables u.tables (ap (λ (r : Store). r.tables) is) in
         record {
@@ -157,8 +157,8 @@ module _ (a : Arena) (names : List NodeName) where
         }
 
 -- After that
-pub leaves : (replaced shared : NodeName → Type 0) (a : Arena) (s t : Store) (b : Arena) (u : Store) → AreReady replaced shared a s t → Replaces replaced shared a t b u → Leaves replaced shared a s b u
-leaves replaced shared a s t b u ready rest =
+pub leaves : (replaced sought shared : NodeName → Type 0) (a : Arena) (s t : Store) (b : Arena) (u : Store) → AreReady sought shared a s t → Replaces replaced shared a t b u → Leaves replaced sought shared a s b u
+leaves replaced sought shared a s t b u ready rest =
     let left = is_left (freed t.map u.map) t.tables u.tables rest.tables in
     record {
       was = λ place e at. ready.was place e (left place e at).there;

@@ -17,7 +17,7 @@ use Rattle.residency.specs.World.{IsTied, world}
 use Rattle.residency.proofs.Translations.Dropped.{twice, without_as, without_none}
 use Rattle.page_release.specs.Steps.{IsStoreTied}
 use Rattle.page_release.specs.Translating.{is_frame, narrowed_in, with_narrowed}
-use Rattle.page_release.proofs.Forgotten.Range.{names_end, names_start}
+use Rattle.page_release.proofs.Forgotten.Range.{names_end}
 
 -- the names of so many pages, and of those behind them
 names_apart : (c : CacheId) (p m r : ℕ) → page_names c p (m + r) ≡ page_names c p m ++ page_names c (p + m) r

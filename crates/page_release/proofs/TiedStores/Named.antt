@@ -1,7 +1,6 @@
 -- Which pages have homes: those of a cache that is named.
-use Rattle.std.proofs.Common.{◌≡◌, true, false, List, Option, Some, None, IsSome, is_some, option_map, refl, sym, ap, ◌∙◌, inl}
+use Rattle.std.proofs.Common.{◌≡◌, true, false, Option, Some, None, IsSome, is_some, option_map, refl, sym, ap, ◌∙◌, inl}
 use Rattle.std.specs.Prelude.{option_and_then}
-use Rattle.std.proofs.lemmas.Bool.{false≢true}
 use Rattle.vm_ids.specs.declared.node_name.NodeName.{NodeName}
 use Rattle.vm_ids.specs.declared.node_name.NodeName.TheVariants.{Live}
 use Rattle.vm_ids.specs.declared.numbers.CacheId.{CacheId}
@@ -13,7 +12,7 @@ use Rattle.local_cache.specs.Whole.{SameCaches, segment_of}
 use Rattle.local_cache.specs.Home.{home_named}
 use Rattle.residency.specs.declared.store.Store.{Store}
 use Rattle.residency.specs.World.{world}
-use Rattle.page_release.specs.Homes.{AreAllSaved, HasHome, IsUnclean, IsWritable, MayGo, is_named}
+use Rattle.page_release.specs.Homes.{HasHome, IsUnclean, MayGo, is_named}
 use Rattle.page_release.specs.Steps.{IsStoreTied}
 use Rattle.page_release.proofs.TiedStores.Backed.{homeless}
 

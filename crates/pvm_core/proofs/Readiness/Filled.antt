@@ -173,7 +173,7 @@ fills_later range a b s t q cells made copies same fills x frame live out apart 
     (sym (cells_seen a b cells made copies s.map x) ∙ k.0, k.1)
 
 -- where pages are replaced then, and frames fall free
-pub fills_then : (range : Extent) (replaced gone shared : NodeName → Type 0) (p : Manager) (a b : Arena) (s u : Store) (t : Actors) → ((x : NodeName) → gone x → replaced x) → FillsOnly range (λ x. ⊥) p (seen a s t) → Leaves gone shared a s b u → GivesBack (world None None a s) (world None None b u) → FillsOnly range replaced p (seen b u t)
-fills_then range replaced gone shared p a b s u t each fills leaves gives x frame live out apart shown =
+pub fills_then : (range : Extent) (replaced gone sought shared : NodeName → Type 0) (p : Manager) (a b : Arena) (s u : Store) (t : Actors) → ((x : NodeName) → gone x → replaced x) → FillsOnly range (λ x. ⊥) p (seen a s t) → Leaves gone sought shared a s b u → GivesBack (world None None a s) (world None None b u) → FillsOnly range replaced p (seen b u t)
+fills_then range replaced gone sought shared p a b s u t each fills leaves gives x frame live out apart shown =
     let k = fills x frame live (λ no. no) apart (sym (leaves.seen x live (λ g. out (each x g))) ∙ shown) in
     (k.0, ap (λ (bytes : List (List ℕ)). slice_index_or bytes frame []) gives.bytes ∙ k.1)

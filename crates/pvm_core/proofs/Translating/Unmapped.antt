@@ -1,5 +1,6 @@
 -- Translations stay right where the pages of a cache go that no region maps.
-use Rattle.std.proofs.Common.{◌≡◌, ◌≢◌, ℕ, zero, suc, ◌+◌, ◌==◌, Bool, true, false, cond, List, [], ◌∷◌, Option, Some, refl, sym, ap, ◌∙◌, inl, inr}
+use Rattle.std.proofs.Common.{◌≡◌, ◌≢◌, ℕ, zero, suc, ◌+◌, ◌==◌, Bool, true, false, cond, List, [], ◌∷◌, Option, Some, refl, sym, ap, ◌∙◌, subst, inl, inr}
+use Rattle.std.specs.Prelude.{Ok}
 use Rattle.std.proofs.lemmas.List.Elements.{All-nil, All-cons}
 use Rattle.std.specs.List.{All, list_any}
 use Rattle.vm_ids.specs.declared.node_name.NodeName.{NodeName}
@@ -8,16 +9,16 @@ use Rattle.vm_ids.specs.Forest.Commands.{page_name, page_names}
 use Rattle.vm_ids.specs.Forest.NameLists.{◌∈◌}
 use Rattle.vm_model.specs.Answering.{maps_in}
 use Rattle.vm_model.specs.Machine.{Actor, Region}
-use Rattle.vm_model.specs.Place.{holds, region_at}
+use Rattle.vm_model.specs.Place.{Place, holds, region_at}
 use Rattle.vm_model.proofs.Machines.Sound.{numbered-all}
 use Rattle.local_cache.specs.Arena.{Arena}
 use Rattle.page_tables.specs.Translations.{entry_at}
 use Rattle.page_tables.specs.declared.entry.Entry.{Entry}
 use Rattle.residency.specs.declared.store.Store.{Store}
 use Rattle.page_release.specs.Homes.{IsWritable}
-use Rattle.page_release.specs.Translating.{Replaces, freed}
+use Rattle.page_release.specs.Translating.{Replaces, freed, where_mapped}
 use Rattle.contexts.specs.Actors.{Actors}
-use Rattle.pvm_core.specs.Translated.{AreTranslationsRight, name_at}
+use Rattle.pvm_core.specs.Translated.{AreTranslationsRight, name_at, place_of_page}
 use Rattle.pvm_core.proofs.Destroying.Regions.{neither, other_number}
 use Rattle.pvm_core.proofs.Translating.Alike.{still_right}
 use Rattle.pvm_core.proofs.Translating.Dropped.{left_unless}
@@ -47,6 +48,21 @@ other_pages cache other first zero page apart i = absurd i
 other_pages cache other first (suc n) page apart (inl same) = (let e : other.0 ≡ cache.0 = cc same in apart e)
 other_pages cache other first (suc n) page apart (inr i) = other_pages cache other (first + 1) n page apart i
 
+-- no page that an actor sees is of that cache
+unmapped_place : (u : Actors) (cache : CacheId) → list_any (maps_in cache.0) u.actors ≡ false
+    → (actor page : ℕ) (at : Place) → place_of_page u actor page ≡ Ok at → at.region.cache ≢ cache.0
+unmapped_place u cache none actor page at is =
+    let there = lies_in u actor page at is in
+    other_cache u.page_bytes _ cache.0 there.regions at.region there.found (numbered-all (λ x. maps_in cache.0 x ≡ false) u.actors actor there.regions there.here (none_maps cache.0 u.actors none))
+
+-- so a page of a range that an actor sees is among those that are sought
+pub seen_sought : (u : Actors) (cache : CacheId) (first n : ℕ) (names : List NodeName) → names ≡ page_names cache first n
+    → (mapped : Bool) → (mapped ≡ false → list_any (maps_in cache.0) u.actors ≡ false)
+    → (actor page : ℕ) (at : Place) → place_of_page u actor page ≡ Ok at → name_at at ∈ names → name_at at ∈ where_mapped mapped names
+seen_sought u cache first n names are true none actor page at is i = i
+seen_sought u cache first n names are false none actor page at is i =
+    absurd (other_pages cache (record { 0 = at.region.cache }) first n at.page (unmapped_place u cache (none refl) actor page at is) (subst (λ xs. name_at at ∈ xs) are i))
+
 -- none that is left is for a page of that cache
 pub unmapped_right : (cache : CacheId) (pages : ℕ) (a b : Arena) (s t : Store) (u : Actors)
     → list_any (maps_in cache.0) u.actors ≡ false
@@ -56,7 +72,5 @@ pub unmapped_right : (cache : CacheId) (pages : ℕ) (a b : Arena) (s t : Store)
 unmapped_right cache pages a b s t u none l grants right place e is =
     let was = left_unless (λ (e : Entry). freed s.map t.map e.to.frame.0) s.tables place e (sym (ap (λ ts. entry_at ts place) l.tables) ∙ is) in
     let r = right place e was.0 in
-    let there = lies_in u e.actor.0 e.page r.at r.place in
-    let apart = other_cache u.page_bytes _ cache.0 there.regions r.at.region there.found (numbered-all (λ x. maps_in cache.0 x ≡ false) u.actors e.actor.0 there.regions there.here (none_maps cache.0 u.actors none)) in
-    let kept = other_pages cache (record { 0 = r.at.region.cache }) 0 pages r.at.page apart in
+    let kept = other_pages cache (record { 0 = r.at.region.cache }) 0 pages r.at.page (unmapped_place u cache none e.actor.0 e.page r.at r.place) in
     still_right a b s t u e r (λ seen. l.seen (name_at r.at) refl kept ∙ seen) (λ w. l.alone (name_at r.at) refl kept (λ h. h)) (grants (name_at r.at))

@@ -35,4 +35,4 @@ returns-clause-translations c =
     let s = c.args.store.now in
     let t = c.drop_seen.new.store in
     let names = page_names c.args.cache c.args.first.0 c.args.pages in
-    leaves (λ x. x ∈ names) (λ x. ⊥) a s t c.invalidate_and_settle.new.caches c.invalidate_and_settle.new.store (ready_first a names s t c.drop_seen.ensures) c.invalidate_and_settle.ensures.translations
+    leaves (λ x. x ∈ names) (λ x. x ∈ names) (λ x. ⊥) a s t c.invalidate_and_settle.new.caches c.invalidate_and_settle.new.store (ready_first a names s t c.drop_seen.ensures) c.invalidate_and_settle.ensures.translations

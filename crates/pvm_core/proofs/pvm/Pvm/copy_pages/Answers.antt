@@ -37,6 +37,7 @@ use Rattle.page_release.proofs.CommandSteps.Ranges.{destination_names}
 use Rattle.pvm_core.proofs.Readiness.Filled.{fills_but, fills_itself, fills_then}
 use Rattle.pvm_core.proofs.Readiness.Granted.{asked_itself, within_itself, within_then}
 use Rattle.pvm_core.proofs.Translating.Left.{left_right}
+use Rattle.pvm_core.proofs.Translating.Unmapped.{seen_sought}
 use Rattle.pvm_core.proofs.Translating.Writable.{homes_writable}
 use Rattle.pvm_core.proofs.Answering.Recorded.{asks_before, quiet_traffic, refused_mapper_call}
 use Rattle.gmi_calls.specs.Calling.{AsksFirst, done_by}
@@ -198,10 +199,13 @@ invariant_of-self g c = record {
   sound = (copied g c).0.sound;
   translated = (
       let j = c.self-2.inside in
+      let s = c.args.span in
       let e = c.copy_pages.ensures in
       let d = c.copy_pages.new.caches in
       let u = c.copy_pages.new.store in
-      left_right _ _ j.caches d j.store u j.contexts e.translations (homes_writable _ j.caches d e.kept.sizes e.kept.homes) c.self-2.invariant.translated
+      left_right _ _ _ j.caches d j.store u j.contexts e.translations
+      (seen_sought j.contexts s.to s.to_page.0 s.pages _ (destination_names s) _ c.may_be_mapped-mapped.ensures)
+      (homes_writable _ j.caches d e.kept.sizes e.kept.homes) c.self-2.invariant.translated
       );
 }
 
@@ -259,5 +263,5 @@ returns-clause-fills g c =
     let at = goal.at.returns-clause-fills g c in
     let j = c.self-2.inside in
     let e = c.copy_pages.ensures in
-    fills_then (replaced c.args.span) (λ x. x ∈ extent_names (replaced c.args.span)) (λ x. x ∈ firsts (span_pairs c.args.span)) (λ x. x ∈ seconds (span_pairs c.args.span)) c.args.self.now j.caches c.copy_pages.new.caches j.store c.copy_pages.new.store j.contexts (λ x i. subst (λ (xs : List NodeName). x ∈ xs) (destination_names c.args.span) i)
+    fills_then (replaced c.args.span) (λ x. x ∈ extent_names (replaced c.args.span)) (λ x. x ∈ firsts (span_pairs c.args.span)) _ (λ x. x ∈ seconds (span_pairs c.args.span)) c.args.self.now j.caches c.copy_pages.new.caches j.store c.copy_pages.new.store j.contexts (λ x i. subst (λ (xs : List NodeName). x ∈ xs) (destination_names c.args.span) i)
     (subst (FillsOnly (replaced c.args.span) (λ x. ⊥) c.args.self.now) (sym c.self-2.view_is) (filled g at.After-make_ready)) e.translations (e.kept.gives_back None None (ready_span g at.After-self-2).tied)

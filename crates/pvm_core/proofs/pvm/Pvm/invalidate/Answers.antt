@@ -270,7 +270,7 @@ invariant_of-self-3 g c = record {
       let e = c.invalidate_pages.ensures in
       let d = c.invalidate_pages.new.caches in
       let u = c.invalidate_pages.new.store in
-      left_right _ _ j.caches d j.store u j.contexts e.translations (homes_writable _ j.caches d e.kept.sizes e.kept.homes) c.self-2.invariant.translated
+      left_right _ _ _ j.caches d j.store u j.contexts e.translations (λ actor page at is i. i) (homes_writable _ j.caches d e.kept.sizes e.kept.homes) c.self-2.invariant.translated
       );
 }
 

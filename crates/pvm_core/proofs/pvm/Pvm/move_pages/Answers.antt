@@ -37,10 +37,11 @@ use Rattle.pvm_core.proofs.Meaning.Shown.{shown_size}
 use Rattle.pvm_core.proofs.Spanning.SpanRows.{IsOpen, is_movable, is_open, move_refused}
 use Rattle.pvm_core.proofs.Spanning.Transferring.{IsTransfer, IsUnready, copies_itself, nothing_given_back, unready}
 use Rattle.pvm_core.proofs.Spanning.Transfers.{move_follows, moved_outcome, moved_transfer, moved_valid, named_machine, named_there}
-use Rattle.page_release.proofs.CommandSteps.Ranges.{destination_names}
+use Rattle.page_release.proofs.CommandSteps.Ranges.{destination_names, source_names}
 use Rattle.pvm_core.proofs.Readiness.Filled.{fills_but, fills_itself, fills_then}
 use Rattle.pvm_core.proofs.Readiness.Granted.{asked_itself, within_itself, within_then}
 use Rattle.pvm_core.proofs.Translating.Left.{left_right}
+use Rattle.pvm_core.proofs.Translating.Unmapped.{seen_sought}
 use Rattle.pvm_core.proofs.Translating.Writable.{homes_writable}
 use Rattle.pvm_core.proofs.Answering.Recorded.{asks_before, quiet_traffic, refused_mapper_call}
 use Rattle.gmi_calls.specs.Calling.{AsksFirst, done_by}
@@ -230,10 +231,14 @@ invariant_of-self g c = record {
   sound = (moved g c).0.sound;
   translated = (
       let j = c.self-2.inside in
+      let s = c.args.span in
       let e = c.move_pages.ensures in
       let d = c.move_pages.new.caches in
       let u = c.move_pages.new.store in
-      left_right _ _ j.caches d j.store u j.contexts e.translations (homes_writable _ j.caches d e.kept.sizes e.kept.homes) c.self-2.invariant.translated
+      left_right _ _ _ j.caches d j.store u j.contexts e.translations (λ actor page at is i. elim i [
+        | inl to ↦ inl (seen_sought j.contexts s.to s.to_page.0 s.pages _ (destination_names s) _ c.may_be_mapped-to_mapped.ensures actor page at is to)
+        | inr from ↦ inr (seen_sought j.contexts s.from s.from_page.0 s.pages _ (source_names s) _ c.may_be_mapped-from_mapped.ensures actor page at is from)
+      ]) (homes_writable _ j.caches d e.kept.sizes e.kept.homes) c.self-2.invariant.translated
       );
 }
 
@@ -291,7 +296,7 @@ returns-clause-fills g c =
     let at = goal.at.returns-clause-fills g c in
     let j = c.self-2.inside in
     let e = c.move_pages.ensures in
-    fills_then (replaced c.args.span) (λ x. (x ∈ extent_names (replaced c.args.span)) ⊎ (x ∈ extent_names (read_from c.args.span))) (λ x. (x ∈ firsts (span_pairs c.args.span)) ⊎ (x ∈ seconds (span_pairs c.args.span))) (λ x. ⊥) c.args.self.now j.caches c.move_pages.new.caches j.store c.move_pages.new.store j.contexts (λ x i. elim i [
+    fills_then (replaced c.args.span) (λ x. (x ∈ extent_names (replaced c.args.span)) ⊎ (x ∈ extent_names (read_from c.args.span))) (λ x. (x ∈ firsts (span_pairs c.args.span)) ⊎ (x ∈ seconds (span_pairs c.args.span))) _ (λ x. ⊥) c.args.self.now j.caches c.move_pages.new.caches j.store c.move_pages.new.store j.contexts (λ x i. elim i [
       | inl to ↦ inl (subst (λ (xs : List NodeName). x ∈ xs) (destination_names c.args.span) to)
       | inr from ↦ inr (subst (λ (xs : List NodeName). x ∈ xs) (let s = c.args.span in pairs_read_sources s.from s.to s.from_page.0 s.to_page.0 s.pages) from)
     ])
