@@ -222,9 +222,6 @@ module _ {Manager X Chooser : Type 0} (M : GhostsOfMapper X) (G : GhostsOfGmi Ma
     seen_by : R ≡ seen_with M G old before
     seen_by = thins.seen ∙ ap (references_seen m0 told0) caches
 
-    bare : IfNone told (R ≡ blank_references R)
-    bare = blank_seen told m by.caches.items (blank_told (M.held middle) m thins.can.blank)
-
     number_R : number_in 1 R.memory.caches seg.0 ≡ None
     number_R = ap (λ (xs : Caches). number_in 1 xs seg.0) (caches_seen told m by.caches.items) ∙ number_unseen m told by.caches.items by.kept.items (deque_capacity by.kept) by.regions.items thins.can.tied seg anew_by
 
