@@ -33,6 +33,7 @@ use Rattle.seg_manager.proofs.Coming.{GoAlike, used_all}
 use Rattle.seg_manager.proofs.Lifting.{hidden_cache, is_hidden, lift, lift_some, lift_then, mapped_stays, references, seen, seen_cache}
 use Rattle.seg_manager.proofs.Passed.{IsAnswered, IsHiding, IsQuiet, quiet_self, resumed, shown_visible, storing}
 use Rattle.seg_manager.proofs.Shapes.{stored_alike}
+use Rattle.seg_manager.proofs.Steps.{alike_err}
 
 -- What is mapped then
 
@@ -230,9 +231,5 @@ pub map_same : (told : Option Segments) (x y : Machine) (f : Option PageForest) 
 map_same (Some h) x y f actor p t rises o = same_outcome x y f h actor p t rises o
 map_same None x y f actor p t rises o =
     ap (λ (z : Machine). z.actors) o.is_next
-    ∙ same_outcome o.whole o.whole_next f o.segments actor p t rises (subst (λ (a : Answer). plain_outcome.Outcome o.whole f (Map actor p) o.segments a o.whole_next rises) (back o.whole_answer o.alike) o.outcome)
+    ∙ same_outcome o.whole o.whole_next f o.segments actor p t rises (subst (λ (a : Answer). plain_outcome.Outcome o.whole f (Map actor p) o.segments a o.whole_next rises) (alike_err t o.whole_answer o.alike) o.outcome)
     ∙ ap (λ (z : Machine). z.actors) (sym o.is)
-  where
-    back : (a : Answer) → IsAlike a (Err t) → a ≡ Err t
-    back (Ok (replies.Bytes bytes)) h = h
-    back a h = h

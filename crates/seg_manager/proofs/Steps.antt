@@ -7,6 +7,7 @@ use Rattle.vm_ids.specs.Counting.{MapperCounts}
 use Rattle.vm_ids.specs.Held.{Segments}
 use Rattle.vm_ids.specs.declared.command.KeepCommand.{KeepCommand}
 use Rattle.vm_ids.specs.declared.reply.Reply.TheVariants as replies
+use Rattle.vm_ids.specs.declared.reply.Trouble.{Trouble}
 use Rattle.vm_model.specs.Answering.{Answer}
 use Rattle.vm_model.specs.Machine.{Actor, Cache, Machine}
 use Rattle.vm_model.specs.Outcome.{IsAlike, blank, blank_cache}
@@ -21,6 +22,10 @@ use Rattle.seg_manager.proofs.Storing.{GoesToo, used_twice}
 pub alike_self : (a : Answer) → IsAlike a a
 alike_self (Ok (replies.Bytes bytes)) = refl
 alike_self a = refl
+
+pub alike_err : (t : Trouble) (a : Answer) → IsAlike a (Err t) → a ≡ Err t
+alike_err t (Ok (replies.Bytes bytes)) h = h
+alike_err t a h = h
 
 abbrev pub no_segments : Segments
 no_segments = record { pages = empty; denied = [] }
