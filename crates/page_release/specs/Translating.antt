@@ -70,10 +70,10 @@ pub record WasEntered (s : Store) (place : ℕ) (e : Entry) : Type 0 where
   pub there : entry_at s.tables place ≡ Some entry
   pub is : (e ≡ entry) ⊎ (e ≡ read_only entry)
 
--- What is left of the translations when the pages of some names were replaced, those of others got
--- heirs, and the translations of some were sought.
+-- What is left of the translations when the pages of some names were replaced, of which those were
+-- sought that translations may be of, and those of others got heirs.
 --     was       each one that is left was there, or was for writing and is for reading alone now
---     unseen    it leads to no frame in which a page was seen whose translations were sought
+--     unseen    it leads to no frame in which a page was seen that was sought
 --     unshared  and where it is for writing, to none of a page that got an heir
 --     seen      each other page is seen in the frame in which it was seen, or in none still
 --     alone     and it is its node's alone where it was, unless it got an heir
