@@ -1,0 +1,3 @@
+-- The law of two managers: what pushes leave, each row, and whole runs.
+pub mod Pushes
+pub mod Rows

@@ -1,0 +1,119 @@
+-- What each row reads of the segments, and which caches it leaves to their segments.
+use Rattle.std.proofs.Common.{◌≡◌, ◌⊎◌, inl, inr, ℕ, ◌-◌, Bool, true, false, List, [], ◌∷◌, ◌++◌, set, Option, Some, None, refl, sym, ap, subst, ◌∙◌}
+use Rattle.std.specs.Prelude.{is_some, Ok, Err, option_and_then}
+use Rattle.std.specs.FinMap.{get}
+use Rattle.std.specs.Option.{option_map_or}
+use Rattle.std.proofs.lemmas.Bool.{cases_eq}
+use Rattle.vm_ids.specs.Held.{Segments}
+use Rattle.vm_ids.specs.declared.command.Command.{Command}
+use Rattle.vm_ids.specs.declared.command.Command.TheVariants as commands
+use Rattle.vm_ids.specs.declared.command.Span.{Span}
+use Rattle.vm_ids.specs.declared.refusal.Refusal.TheVariants as refusals
+use Rattle.vm_model.specs.Machine.{Cache, Machine, Page, cache_named, cache_of, numbered, segment_of}
+use Rattle.vm_model.specs.Place.{place}
+use Rattle.vm_model.specs.PageForest.{PageForest}
+use Rattle.vm_model.specs.Answering.{Answer, Answered, answer_of, chain_answer, copy_of, destroy_of, exit_actor_of, find_of, flush_of, invalidate_of, load_of, lock_of, make_actor_of, make_temp_of, map_of, move_of, open_of, page_at, protect_of, put_cache, put_page, put_pages, refuse, split_of, status_of, store_of, sync_of, unlock_of, unmap_of}
+use Rattle.vm_model.proofs.Parts.Lists.{numbered-set, numbered_place}
+use Rattle.vm_model.proofs.Parts.ListParts.{numbered_set_other}
+use Rattle.vm_model.proofs.Parts.Naming.{segment_cache}
+use Rattle.vm_model.proofs.Machines.Sound.{numbered-push}
+use Rattle.vm_model.proofs.Outcomes.Rows.{each_ok, each_some, each_unless}
+use Rattle.flat_mm.specs.TwoManagers.{asks_manager}
+
+-- What is read of the segments
+
+-- the same is denied, and what no live cache names is the same
+pub record SameElsewhere (m : Machine) (h g : Segments) : Type 0 where
+  pub denied : g.denied ≡ h.denied
+  pub others : (seg : ℕ) → is_some (cache_named m.caches seg) ≡ false → get g.pages seg ≡ get h.pages seg
+
+module _ (m : Machine) (h g : Segments) (S : SameElsewhere m h g) where
+  in_use : (seg : ℕ) (held : Option (List Page)) → is_some (cache_named m.caches seg) ≡ true → open_of m seg held ≡ refuse m refusals.SegmentInUse
+  unfolding open_of
+  in_use seg held used = each_unless (λ a. a ≡ refuse m refusals.SegmentInUse) (is_some (cache_named m.caches seg)) _ m _ refl (λ free. absurd (cc (used, free)))
+
+  same_open : (seg : ℕ) → open_of m seg (get g.pages seg) ≡ open_of m seg (get h.pages seg)
+  same_open seg = by (is_some (cache_named m.caches seg)) refl
+    where
+      by : (b : Bool) → is_some (cache_named m.caches seg) ≡ b → open_of m seg (get g.pages seg) ≡ open_of m seg (get h.pages seg)
+      by true used = in_use seg (get g.pages seg) used ∙ sym (in_use seg (get h.pages seg) used)
+      by false free = ap (open_of m seg) (S.others seg free)
+
+  same_copy : (s : Span) → copy_of m s g ≡ copy_of m s h
+  unfolding copy_of
+  same_copy s = ap (λ (d : List (ℕ × ℕ)). copy_of m s (record { pages = h.pages; denied = d })) S.denied
+
+  same_move : (s : Span) → move_of m s g ≡ move_of m s h
+  unfolding move_of
+  same_move s = ap (λ (d : List (ℕ × ℕ)). move_of m s (record { pages = h.pages; denied = d })) S.denied
+
+  same_store : (actor address : ℕ) (bytes : List ℕ) → store_of m actor address bytes g ≡ store_of m actor address bytes h
+  unfolding store_of
+  same_store actor address bytes = ap (λ (d : List (ℕ × ℕ)). store_of m actor address bytes (record { pages = h.pages; denied = d })) S.denied
+
+  -- The machine's answer is the same by either segments, and by whatever forests.
+  pub same_row : (f k : PageForest) (command : Command) → asks_manager (Ok command) ≡ false → answer_of m k command g ≡ answer_of m f command h
+  same_row f k (commands.OpenSegment seg) plain = same_open seg.0
+  same_row f k (commands.Copy span) plain = same_copy span
+  same_row f k (commands.Move span) plain = same_move span
+  same_row f k (commands.Store actor address piece) plain = same_store actor.0 address piece
+  same_row f k (commands.Invalidate extent) plain = absurd (cc plain)
+  same_row f k (commands.Chain cache page) plain = absurd (cc plain)
+  same_row f k commands.Stat plain = absurd (cc plain)
+  same_row f k command plain = refl
+
+-- Which caches stay with their segments
+
+-- the command took this cache away
+abbrev pub TakesAway : Command → Answer → ℕ → Type 0
+TakesAway (commands.Destroy cache) (Ok r) number = number ≡ cache.0
+TakesAway command answer number = ⊥
+
+-- A cache that a segment names is still there, or was taken away.
+abbrev pub StaysNamed : Machine → Command → Answered → Type 0
+StaysNamed m command a =
+    (number seg : ℕ) → segment_of m number ≡ Some seg
+    → (segment_of a.next number ≡ Some seg) ⊎ TakesAway command a.answer number
+
+module _ (m : Machine) where
+  segment_there : (n seg : ℕ) (c : Cache) → segment_of m n ≡ Some seg → cache_of m n ≡ Some c → c.segment ≡ Some seg
+  segment_there n seg c e there = sym (ap (option_and_then (λ (c : Cache). c.segment)) there) ∙ e
+
+  -- a cache is changed, but not its segment
+  put_stays : (n : ℕ) (c d : Cache) → cache_of m n ≡ Some c → d.segment ≡ c.segment → (number seg : ℕ) → segment_of m number ≡ Some seg → segment_of (put_cache m n d) number ≡ Some seg
+  put_stays n c d there kept number seg e =
+      let x = segment_cache m number seg e in
+      elim (numbered-set m.caches n number c d x.0 there x.1) [
+        | inl same ↦ ap (option_and_then (λ (c : Cache). c.segment)) same ∙ x.2
+        | inr new ↦ ap (option_and_then (λ (c : Cache). c.segment)) new.1 ∙ kept ∙ ap (λ (c : Cache). c.segment) (sym new.0) ∙ x.2
+      ]
+
+  -- the same where it may not be there
+  changed_stays : (n : ℕ) (change : Cache → Cache) → ((c : Cache) → (change c).segment ≡ c.segment) → (number seg : ℕ) → segment_of m number ≡ Some seg → (o : Option Cache) → cache_of m n ≡ o → segment_of (option_map_or (λ c. put_cache m n (change c)) o m) number ≡ Some seg
+  changed_stays n change kept number seg e None there = e
+  changed_stays n change kept number seg e (Some c) there = put_stays n c (change c) there (kept c) number seg e
+
+  -- a cache is added
+  more_stays : (c : Cache) (number seg : ℕ) → segment_of m number ≡ Some seg → segment_of (record m { caches = m.caches ++ Some c ∷ [] }) number ≡ Some seg
+  more_stays c number seg e =
+      let x = segment_cache m number seg e in
+      ap (option_and_then (λ (c : Cache). c.segment)) (numbered-push m.caches (Some c) number x.0 x.1) ∙ x.2
+
+  -- a cache goes
+  gone_stays : (n : ℕ) (c : Cache) → cache_of m n ≡ Some c → (number seg : ℕ) → segment_of m number ≡ Some seg → (segment_of (record m { caches = set m.caches (n - 1) None }) number ≡ Some seg) ⊎ (number ≡ n)
+  gone_stays n c there number seg e = elim (cases_eq number n) [
+    | inl same ↦ inr same
+    | inr other ↦ inl (ap (option_and_then (λ (c : Cache). c.segment)) (numbered_set_other m.caches n number None (numbered_place m.caches n c there).0 other) ∙ e)
+  ]
+
+module _ (m : Machine) where
+  abbrev Stays : Command → Answered → Type 0
+  Stays command a = StaysNamed m command a
+
+  -- every row, whatever the segments hold
+  pub rows_stay : (f : PageForest) (command : Command) (h : Segments) → StaysNamed m command (answer_of m f command h)
+  unfolding make_actor_of exit_actor_of make_temp_of open_of destroy_of copy_of move_of map_of split_of protect_of lock_of unlock_of unmap_of status_of find_of load_of store_of sync_of flush_of invalidate_of chain_answer
+  rows_stay f commands.MakeActor h =
+      let P = Stays commands.MakeActor in
+      each_unless P _ _ m _ (λ n seg e. inl e) (λ fewer n seg e. inl e)
+  rows_stay f command h = ?
