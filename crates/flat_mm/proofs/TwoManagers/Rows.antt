@@ -10,9 +10,8 @@ use Rattle.vm_ids.specs.declared.command.Command.TheVariants as commands
 use Rattle.vm_ids.specs.declared.command.Span.{Span}
 use Rattle.vm_ids.specs.declared.refusal.Refusal.TheVariants as refusals
 use Rattle.vm_model.specs.Machine.{Cache, Machine, Page, cache_named, cache_of, numbered, segment_of}
-use Rattle.vm_model.specs.Place.{place}
 use Rattle.vm_model.specs.PageForest.{PageForest}
-use Rattle.vm_model.specs.Answering.{Answer, Answered, answer_of, chain_answer, copy_of, destroy_of, exit_actor_of, find_of, flush_of, invalidate_of, load_of, lock_of, make_actor_of, make_temp_of, map_of, move_of, open_of, page_at, protect_of, put_cache, put_page, put_pages, refuse, split_of, status_of, store_of, sync_of, unlock_of, unmap_of}
+use Rattle.vm_model.specs.Answering.{Answer, Answered, answer_of, chain_answer, copy_of, destroy_of, exit_actor_of, find_of, flush_of, invalidate_of, load_of, lock_of, make_actor_of, make_temp_of, map_of, move_of, open_of, protect_of, put_cache, put_span, refuse, split_of, status_of, store_of, sync_of, unlock_of, unmap_of}
 use Rattle.vm_model.proofs.Parts.Lists.{numbered-set, numbered_place}
 use Rattle.vm_model.proofs.Parts.ListParts.{numbered_set_other}
 use Rattle.vm_model.proofs.Parts.Naming.{segment_cache}
@@ -107,13 +106,132 @@ module _ (m : Machine) where
   ]
 
 module _ (m : Machine) where
-  abbrev Stays : Command → Answered → Type 0
-  Stays command a = StaysNamed m command a
-
-  -- every row, whatever the segments hold
+  -- Every row, whatever the segments hold.
   pub rows_stay : (f : PageForest) (command : Command) (h : Segments) → StaysNamed m command (answer_of m f command h)
   unfolding make_actor_of exit_actor_of make_temp_of open_of destroy_of copy_of move_of map_of split_of protect_of lock_of unlock_of unmap_of status_of find_of load_of store_of sync_of flush_of invalidate_of chain_answer
   rows_stay f commands.MakeActor h =
-      let P = Stays commands.MakeActor in
-      each_unless P _ _ m _ (λ n seg e. inl e) (λ fewer n seg e. inl e)
-  rows_stay f command h = ?
+      let P = StaysNamed m commands.MakeActor in
+            each_unless P _ _ m _ (λ n seg e. inl e) (λ fewer.
+      λ n seg e. inl e)
+  rows_stay f (commands.ExitActor actor) h =
+      let P = StaysNamed m (commands.ExitActor actor) in
+            each_some P _ _ m _ (λ n seg e. inl e) (λ regions here.
+      λ n seg e. inl e)
+  rows_stay f (commands.MakeTemp pages) h =
+      let P = StaysNamed m (commands.MakeTemp pages) in
+            each_unless P _ _ m _ (λ n seg e. inl e) (λ fewer.
+      λ n seg e. inl (more_stays m _ n seg e))
+  rows_stay f (commands.OpenSegment seg) h =
+      let P = StaysNamed m (commands.OpenSegment seg) in
+            each_unless P _ _ m _ (λ n seg e. inl e) (λ free.
+      each_unless P _ _ m _ (λ n seg e. inl e) (λ fewer.
+      each_some P _ _ m _ (λ n seg e. inl e) (λ pages holds.
+      each_unless P _ _ m _ (λ n seg e. inl e) (λ room.
+      λ n seg e. inl (more_stays m _ n seg e)))))
+  rows_stay f (commands.Destroy cache) h =
+      let P = StaysNamed m (commands.Destroy cache) in
+            each_some P (cache_of m cache.0) _ m _ (λ n seg e. inl e) (λ c there.
+      each_unless P _ _ m _ (λ n seg e. inl e) (λ free.
+      gone_stays m cache.0 c there))
+  rows_stay f (commands.Copy span) h =
+      let P = StaysNamed m (commands.Copy span) in
+            each_some P _ _ m _ (λ n seg e. inl e) (λ source from.
+      each_some P (cache_of m span.to.0) _ m _ (λ n seg e. inl e) (λ destination to.
+      each_unless P _ _ m _ (λ n seg e. inl e) (λ inside.
+      each_unless P _ _ m _ (λ n seg e. inl e) (λ apart.
+      each_unless P _ _ m _ (λ n seg e. inl e) (λ unlocked.
+      each_unless P _ _ m _ (λ n seg e. inl e) (λ allowed.
+      λ n seg e. inl (put_stays m span.to.0 destination _ to refl n seg e)))))))
+  rows_stay f (commands.Move span) h =
+      let P = StaysNamed m (commands.Move span) in
+            each_some P _ _ m _ (λ n seg e. inl e) (λ source from.
+      each_some P (cache_of m span.to.0) _ m _ (λ n seg e. inl e) (λ destination to.
+      each_unless P _ _ m _ (λ n seg e. inl e) (λ inside.
+      each_unless P _ _ m _ (λ n seg e. inl e) (λ temporary.
+      each_unless P _ _ m _ (λ n seg e. inl e) (λ apart.
+      each_unless P _ _ m _ (λ n seg e. inl e) (λ unlocked.
+      each_unless P _ _ m _ (λ n seg e. inl e) (λ allowed.
+      let next = put_span m span source destination in
+      λ n seg e. inl (changed_stays next span.from.0 _ (λ c. refl) n seg (put_stays m span.to.0 destination _ to refl n seg e) (cache_of next span.from.0) refl))))))))
+  rows_stay f (commands.Map actor mapping) h =
+      let P = StaysNamed m (commands.Map actor mapping) in
+            each_some P _ _ m _ (λ n seg e. inl e) (λ regions here.
+      each_some P _ _ m _ (λ n seg e. inl e) (λ cache there.
+      each_unless P _ _ m _ (λ n seg e. inl e) (λ aligned.
+      each_unless P _ _ m _ (λ n seg e. inl e) (λ below.
+      each_unless P _ _ m _ (λ n seg e. inl e) (λ inside.
+      each_unless P _ _ m _ (λ n seg e. inl e) (λ apart.
+      each_unless P _ _ m _ (λ n seg e. inl e) (λ fewer.
+      λ n seg e. inl e)))))))
+  rows_stay f (commands.Split region pages) h =
+      let P = StaysNamed m (commands.Split region pages) in
+            each_some P _ _ m _ (λ n seg e. inl e) (λ r there.
+      each_unless P _ _ m _ (λ n seg e. inl e) (λ inside.
+      each_unless P _ _ m _ (λ n seg e. inl e) (λ fewer.
+      λ n seg e. inl e)))
+  rows_stay f (commands.Protect region prot) h =
+      let P = StaysNamed m (commands.Protect region prot) in
+            each_some P _ _ m _ (λ n seg e. inl e) (λ r there.
+      λ n seg e. inl e)
+  rows_stay f (commands.Lock region) h =
+      let P = StaysNamed m (commands.Lock region) in
+            each_some P _ _ m _ (λ n seg e. inl e) (λ r there.
+      each_unless P _ _ m _ (λ n seg e. inl e) (λ unlocked.
+      each_unless P _ _ m _ (λ n seg e. inl e) (λ few.
+      λ n seg e. inl e)))
+  rows_stay f (commands.Unlock region) h =
+      let P = StaysNamed m (commands.Unlock region) in
+            each_some P _ _ m _ (λ n seg e. inl e) (λ r there.
+      each_unless P _ _ m _ (λ n seg e. inl e) (λ locked.
+      λ n seg e. inl e))
+  rows_stay f (commands.Unmap region) h =
+      let P = StaysNamed m (commands.Unmap region) in
+            each_some P _ _ m _ (λ n seg e. inl e) (λ r there.
+      each_unless P _ _ m _ (λ n seg e. inl e) (λ unlocked.
+      λ n seg e. inl e))
+  rows_stay f (commands.Status region) h =
+      let P = StaysNamed m (commands.Status region) in
+            each_some P _ _ m _ (λ n seg e. inl e) (λ status there.
+      λ n seg e. inl e)
+  rows_stay f (commands.Find actor address) h =
+      let P = StaysNamed m (commands.Find actor address) in
+            each_some P _ _ m _ (λ n seg e. inl e) (λ regions here.
+      each_some P _ _ m _ (λ n seg e. inl e) (λ r there.
+      λ n seg e. inl e))
+  rows_stay f (commands.Load actor address length) h =
+      let P = StaysNamed m (commands.Load actor address length) in
+            each_ok P _ m _ (λ r n seg e. inl e) (λ at found.
+      λ n seg e. inl e)
+  rows_stay f (commands.Store actor address piece) h =
+      let P = StaysNamed m (commands.Store actor address piece) in
+            each_ok P _ m _ (λ r n seg e. inl e) (λ at found.
+      each_unless P _ _ m _ (λ n seg e. inl e) (λ writes.
+      each_unless P _ _ m _ (λ n seg e. inl e) (λ allowed.
+      λ n seg e. inl (changed_stays m at.region.cache _ (λ c. refl) n seg e (cache_of m at.region.cache) refl))))
+  rows_stay f (commands.Sync extent) h =
+      let P = StaysNamed m (commands.Sync extent) in
+            each_some P _ _ m _ (λ n seg e. inl e) (λ c there.
+      each_some P _ _ m _ (λ n seg e. inl e) (λ seg named.
+      each_unless P _ _ m _ (λ n seg e. inl e) (λ inside.
+      λ n seg e. inl e)))
+  rows_stay f (commands.Flush extent) h =
+      let P = StaysNamed m (commands.Flush extent) in
+            each_some P _ _ m _ (λ n seg e. inl e) (λ c there.
+      each_some P _ _ m _ (λ n seg e. inl e) (λ seg named.
+      each_unless P _ _ m _ (λ n seg e. inl e) (λ inside.
+      each_unless P _ _ m _ (λ n seg e. inl e) (λ unlocked.
+      λ n seg e. inl e))))
+  rows_stay f (commands.Invalidate extent) h =
+      let P = StaysNamed m (commands.Invalidate extent) in
+            each_some P (cache_of m extent.cache.0) _ m _ (λ n seg e. inl e) (λ c there.
+      each_some P _ _ m _ (λ n seg e. inl e) (λ seg named.
+      each_unless P _ _ m _ (λ n seg e. inl e) (λ inside.
+      each_unless P _ _ m _ (λ n seg e. inl e) (λ unlocked.
+      λ n seg e. inl (put_stays m extent.cache.0 c _ there refl n seg e)))))
+  rows_stay f (commands.PageOut count) h = λ n seg e. inl e
+  rows_stay f (commands.Chain cache page) h =
+      let P = StaysNamed m (commands.Chain cache page) in
+            each_some P _ _ m _ (λ n seg e. inl e) (λ c there.
+      each_unless P _ _ m _ (λ n seg e. inl e) (λ within.
+      λ n seg e. inl e))
+  rows_stay f commands.Stat h = λ n seg e. inl e
