@@ -8,20 +8,23 @@ use Rattle.vm_ids.specs.Held.{Segments}
 use Rattle.vm_ids.specs.declared.command.Command.TheVariants as commands
 use Rattle.vm_ids.specs.declared.refusal.Refusal.TheVariants.{Full}
 use Rattle.vm_ids.specs.declared.reply.Trouble.TheVariants.{Mapper, Memory, Refused}
-use Rattle.vm_model.specs.Machine.{live_pages, start}
+use Rattle.vm_model.specs.Machine.{Machine, live_pages, start}
 use Rattle.vm_model.specs.PageForest.{PageForest}
 use Rattle.vm_model.specs.Answering.{Answer}
 use Rattle.vm_model.specs.Steps.{Chain, Semantics, Step, lines_answered}
 use Rattle.vm_model.specs.Run.{NothingRead, Read, State, command_semantics}
 use Rattle.gmi_calls.specs.Room.{AnswerWithin}
 
--- a line is answered where each live page has one of so many frames, so there is room for as many
--- pages as frames are left
+-- how many of so many frames are left where each live page has one
+abbrev pub frames_left : ℕ → Machine → ℕ
+frames_left frames m = frames - live_pages m
+
+-- a line is answered where there is room for as many pages as frames are left
 abbrev pub StepWithin : ℕ → State → Read → Answer → List (ℕ × ℕ) → MapperCounts → State → Type 0
 StepWithin frames before (Err r) answer pushes rises after =
     NothingRead before r answer pushes rises after
 StepWithin frames before (Ok command) answer pushes rises after =
-    AnswerWithin (Some (frames - live_pages before.machine)) before command answer pushes rises
+    AnswerWithin (Some (frames_left frames before.machine)) before command answer pushes rises
     after
 
 abbrev pub IsAnsweredWithin : ℕ → State → Read → Answer → MapperCounts → State → Type 0

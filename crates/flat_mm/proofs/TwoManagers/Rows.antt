@@ -1,6 +1,6 @@
 -- What each row reads of the segments, and which caches it leaves to their segments.
 use Rattle.std.proofs.Common.{◌≡◌, ◌⊎◌, inl, inr, ℕ, ◌-◌, Bool, true, false, List, [], ◌∷◌, ◌++◌, set, Option, Some, None, refl, sym, ap, subst, ◌∙◌}
-use Rattle.std.specs.Prelude.{is_some, Ok, Err, option_and_then}
+use Rattle.std.specs.Prelude.{is_some, Ok, Err, OnErr, option_and_then}
 use Rattle.std.specs.FinMap.{get}
 use Rattle.std.specs.Option.{option_map_or}
 use Rattle.std.proofs.lemmas.Bool.{cases_eq}
@@ -8,10 +8,12 @@ use Rattle.vm_ids.specs.Held.{Segments}
 use Rattle.vm_ids.specs.declared.command.Command.{Command}
 use Rattle.vm_ids.specs.declared.command.Command.TheVariants as commands
 use Rattle.vm_ids.specs.declared.command.Span.{Span}
+use Rattle.vm_ids.specs.declared.refusal.Refusal.{Refusal}
 use Rattle.vm_ids.specs.declared.refusal.Refusal.TheVariants as refusals
+use Rattle.vm_ids.specs.declared.reply.Reply.{Reply}
 use Rattle.vm_model.specs.Machine.{Cache, Machine, Page, cache_named, cache_of, numbered, segment_of}
 use Rattle.vm_model.specs.PageForest.{PageForest}
-use Rattle.vm_model.specs.Answering.{Answer, Answered, answer_of, chain_answer, copy_of, destroy_of, exit_actor_of, find_of, flush_of, invalidate_of, load_of, lock_of, make_actor_of, make_temp_of, map_of, move_of, open_of, protect_of, put_cache, put_span, refuse, split_of, status_of, store_of, sync_of, unlock_of, unmap_of}
+use Rattle.vm_model.specs.Answering.{Answer, Answered, answer_of, chain_answer, copy_of, destroy_of, exit_actor_of, find_of, flush_of, invalidate_of, load_of, lock_of, make_actor_of, make_temp_of, map_of, move_of, open_of, protect_of, put_cache, put_span, refuse, reply, split_of, status_of, store_of, sync_of, unlock_of, unmap_of}
 use Rattle.vm_model.proofs.Parts.Lists.{numbered-set, numbered_place}
 use Rattle.vm_model.proofs.Parts.ListParts.{numbered_set_other}
 use Rattle.vm_model.proofs.Parts.Naming.{segment_cache}
@@ -68,15 +70,20 @@ abbrev pub TakesAway : Command → Answer → ℕ → Type 0
 TakesAway (commands.Destroy cache) (Ok r) number = number ≡ cache.0
 TakesAway command answer number = ⊥
 
--- A cache that a segment names is still there, or was taken away.
-abbrev pub StaysNamed : Machine → Command → Answered → Type 0
-StaysNamed m command a =
-    (number seg : ℕ) → segment_of m number ≡ Some seg
-    → (segment_of a.next number ≡ Some seg) ⊎ TakesAway command a.answer number
+-- A cache that a segment names is still there, or was taken away; where the command is refused all
+-- stays.
+pub record RowIs (m : Machine) (command : Command) (a : Answered) : Type 0 where
+  pub named : (number seg : ℕ) → segment_of m number ≡ Some seg
+      → (segment_of a.next number ≡ Some seg) ⊎ TakesAway command a.answer number
+  pub refused : OnErr a.answer (a.next ≡ m)
 
 module _ (m : Machine) where
-  segment_there : (n seg : ℕ) (c : Cache) → segment_of m n ≡ Some seg → cache_of m n ≡ Some c → c.segment ≡ Some seg
-  segment_there n seg c e there = sym (ap (option_and_then (λ (c : Cache). c.segment)) there) ∙ e
+  -- refused, and carried out
+  no_row : (command : Command) (r : Refusal) → RowIs m command (refuse m r)
+  no_row command r = record { named = λ n seg e. inl e; refused = refl }
+
+  row : (command : Command) (r : Reply) (next : Machine) → ((number seg : ℕ) → segment_of m number ≡ Some seg → segment_of next number ≡ Some seg) → RowIs m command (reply r next)
+  row command r next named = record { named = λ n seg e. inl (named n seg e); refused = tt }
 
   -- a cache is changed, but not its segment
   put_stays : (n : ℕ) (c d : Cache) → cache_of m n ≡ Some c → d.segment ≡ c.segment → (number seg : ℕ) → segment_of m number ≡ Some seg → segment_of (put_cache m n d) number ≡ Some seg
@@ -107,131 +114,110 @@ module _ (m : Machine) where
 
 module _ (m : Machine) where
   -- Every row, whatever the segments hold.
-  pub rows_stay : (f : PageForest) (command : Command) (h : Segments) → StaysNamed m command (answer_of m f command h)
+  pub rows : (f : PageForest) (command : Command) (h : Segments) → RowIs m command (answer_of m f command h)
   unfolding make_actor_of exit_actor_of make_temp_of open_of destroy_of copy_of move_of map_of split_of protect_of lock_of unlock_of unmap_of status_of find_of load_of store_of sync_of flush_of invalidate_of chain_answer
-  rows_stay f commands.MakeActor h =
-      let P = StaysNamed m commands.MakeActor in
-            each_unless P _ _ m _ (λ n seg e. inl e) (λ fewer.
-      λ n seg e. inl e)
-  rows_stay f (commands.ExitActor actor) h =
-      let P = StaysNamed m (commands.ExitActor actor) in
-            each_some P _ _ m _ (λ n seg e. inl e) (λ regions here.
-      λ n seg e. inl e)
-  rows_stay f (commands.MakeTemp pages) h =
-      let P = StaysNamed m (commands.MakeTemp pages) in
-            each_unless P _ _ m _ (λ n seg e. inl e) (λ fewer.
-      λ n seg e. inl (more_stays m _ n seg e))
-  rows_stay f (commands.OpenSegment seg) h =
-      let P = StaysNamed m (commands.OpenSegment seg) in
-            each_unless P _ _ m _ (λ n seg e. inl e) (λ free.
-      each_unless P _ _ m _ (λ n seg e. inl e) (λ fewer.
-      each_some P _ _ m _ (λ n seg e. inl e) (λ pages holds.
-      each_unless P _ _ m _ (λ n seg e. inl e) (λ room.
-      λ n seg e. inl (more_stays m _ n seg e)))))
-  rows_stay f (commands.Destroy cache) h =
-      let P = StaysNamed m (commands.Destroy cache) in
-            each_some P (cache_of m cache.0) _ m _ (λ n seg e. inl e) (λ c there.
-      each_unless P _ _ m _ (λ n seg e. inl e) (λ free.
-      gone_stays m cache.0 c there))
-  rows_stay f (commands.Copy span) h =
-      let P = StaysNamed m (commands.Copy span) in
-            each_some P _ _ m _ (λ n seg e. inl e) (λ source from.
-      each_some P (cache_of m span.to.0) _ m _ (λ n seg e. inl e) (λ destination to.
-      each_unless P _ _ m _ (λ n seg e. inl e) (λ inside.
-      each_unless P _ _ m _ (λ n seg e. inl e) (λ apart.
-      each_unless P _ _ m _ (λ n seg e. inl e) (λ unlocked.
-      each_unless P _ _ m _ (λ n seg e. inl e) (λ allowed.
-      λ n seg e. inl (put_stays m span.to.0 destination _ to refl n seg e)))))))
-  rows_stay f (commands.Move span) h =
-      let P = StaysNamed m (commands.Move span) in
-            each_some P _ _ m _ (λ n seg e. inl e) (λ source from.
-      each_some P (cache_of m span.to.0) _ m _ (λ n seg e. inl e) (λ destination to.
-      each_unless P _ _ m _ (λ n seg e. inl e) (λ inside.
-      each_unless P _ _ m _ (λ n seg e. inl e) (λ temporary.
-      each_unless P _ _ m _ (λ n seg e. inl e) (λ apart.
-      each_unless P _ _ m _ (λ n seg e. inl e) (λ unlocked.
-      each_unless P _ _ m _ (λ n seg e. inl e) (λ allowed.
+  rows f commands.MakeActor h =
+      each_unless (RowIs m commands.MakeActor) _ _ m _ (no_row m _ _) (λ fewer.
+      row m _ _ _ (λ n seg e. e))
+  rows f (commands.ExitActor actor) h =
+      each_some (RowIs m (commands.ExitActor actor)) _ _ m _ (no_row m _ _) (λ regions here.
+      row m _ _ _ (λ n seg e. e))
+  rows f (commands.MakeTemp pages) h =
+      each_unless (RowIs m (commands.MakeTemp pages)) _ _ m _ (no_row m _ _) (λ fewer.
+      row m _ _ _ (more_stays m _))
+  rows f (commands.OpenSegment seg) h =
+      each_unless (RowIs m (commands.OpenSegment seg)) _ _ m _ (no_row m _ _) (λ free.
+      each_unless (RowIs m (commands.OpenSegment seg)) _ _ m _ (no_row m _ _) (λ fewer.
+      each_some (RowIs m (commands.OpenSegment seg)) _ _ m _ (no_row m _ _) (λ pages holds.
+      each_unless (RowIs m (commands.OpenSegment seg)) _ _ m _ (no_row m _ _) (λ room.
+      row m _ _ _ (more_stays m _)))))
+  rows f (commands.Destroy cache) h =
+      each_some (RowIs m (commands.Destroy cache)) (cache_of m cache.0) _ m _ (no_row m _ _) (λ c there.
+      each_unless (RowIs m (commands.Destroy cache)) _ _ m _ (no_row m _ _) (λ free.
+      record { named = gone_stays m cache.0 c there; refused = tt }))
+  rows f (commands.Copy span) h =
+      each_some (RowIs m (commands.Copy span)) _ _ m _ (no_row m _ _) (λ source from.
+      each_some (RowIs m (commands.Copy span)) (cache_of m span.to.0) _ m _ (no_row m _ _) (λ destination to.
+      each_unless (RowIs m (commands.Copy span)) _ _ m _ (no_row m _ _) (λ inside.
+      each_unless (RowIs m (commands.Copy span)) _ _ m _ (no_row m _ _) (λ apart.
+      each_unless (RowIs m (commands.Copy span)) _ _ m _ (no_row m _ _) (λ unlocked.
+      each_unless (RowIs m (commands.Copy span)) _ _ m _ (no_row m _ _) (λ allowed.
+      row m _ _ _ (put_stays m span.to.0 destination _ to refl)))))))
+  rows f (commands.Move span) h =
+      each_some (RowIs m (commands.Move span)) _ _ m _ (no_row m _ _) (λ source from.
+      each_some (RowIs m (commands.Move span)) (cache_of m span.to.0) _ m _ (no_row m _ _) (λ destination to.
+      each_unless (RowIs m (commands.Move span)) _ _ m _ (no_row m _ _) (λ inside.
+      each_unless (RowIs m (commands.Move span)) _ _ m _ (no_row m _ _) (λ temporary.
+      each_unless (RowIs m (commands.Move span)) _ _ m _ (no_row m _ _) (λ apart.
+      each_unless (RowIs m (commands.Move span)) _ _ m _ (no_row m _ _) (λ unlocked.
+      each_unless (RowIs m (commands.Move span)) _ _ m _ (no_row m _ _) (λ allowed.
       let next = put_span m span source destination in
-      λ n seg e. inl (changed_stays next span.from.0 _ (λ c. refl) n seg (put_stays m span.to.0 destination _ to refl n seg e) (cache_of next span.from.0) refl))))))))
-  rows_stay f (commands.Map actor mapping) h =
-      let P = StaysNamed m (commands.Map actor mapping) in
-            each_some P _ _ m _ (λ n seg e. inl e) (λ regions here.
-      each_some P _ _ m _ (λ n seg e. inl e) (λ cache there.
-      each_unless P _ _ m _ (λ n seg e. inl e) (λ aligned.
-      each_unless P _ _ m _ (λ n seg e. inl e) (λ below.
-      each_unless P _ _ m _ (λ n seg e. inl e) (λ inside.
-      each_unless P _ _ m _ (λ n seg e. inl e) (λ apart.
-      each_unless P _ _ m _ (λ n seg e. inl e) (λ fewer.
-      λ n seg e. inl e)))))))
-  rows_stay f (commands.Split region pages) h =
-      let P = StaysNamed m (commands.Split region pages) in
-            each_some P _ _ m _ (λ n seg e. inl e) (λ r there.
-      each_unless P _ _ m _ (λ n seg e. inl e) (λ inside.
-      each_unless P _ _ m _ (λ n seg e. inl e) (λ fewer.
-      λ n seg e. inl e)))
-  rows_stay f (commands.Protect region prot) h =
-      let P = StaysNamed m (commands.Protect region prot) in
-            each_some P _ _ m _ (λ n seg e. inl e) (λ r there.
-      λ n seg e. inl e)
-  rows_stay f (commands.Lock region) h =
-      let P = StaysNamed m (commands.Lock region) in
-            each_some P _ _ m _ (λ n seg e. inl e) (λ r there.
-      each_unless P _ _ m _ (λ n seg e. inl e) (λ unlocked.
-      each_unless P _ _ m _ (λ n seg e. inl e) (λ few.
-      λ n seg e. inl e)))
-  rows_stay f (commands.Unlock region) h =
-      let P = StaysNamed m (commands.Unlock region) in
-            each_some P _ _ m _ (λ n seg e. inl e) (λ r there.
-      each_unless P _ _ m _ (λ n seg e. inl e) (λ locked.
-      λ n seg e. inl e))
-  rows_stay f (commands.Unmap region) h =
-      let P = StaysNamed m (commands.Unmap region) in
-            each_some P _ _ m _ (λ n seg e. inl e) (λ r there.
-      each_unless P _ _ m _ (λ n seg e. inl e) (λ unlocked.
-      λ n seg e. inl e))
-  rows_stay f (commands.Status region) h =
-      let P = StaysNamed m (commands.Status region) in
-            each_some P _ _ m _ (λ n seg e. inl e) (λ status there.
-      λ n seg e. inl e)
-  rows_stay f (commands.Find actor address) h =
-      let P = StaysNamed m (commands.Find actor address) in
-            each_some P _ _ m _ (λ n seg e. inl e) (λ regions here.
-      each_some P _ _ m _ (λ n seg e. inl e) (λ r there.
-      λ n seg e. inl e))
-  rows_stay f (commands.Load actor address length) h =
-      let P = StaysNamed m (commands.Load actor address length) in
-            each_ok P _ m _ (λ r n seg e. inl e) (λ at found.
-      λ n seg e. inl e)
-  rows_stay f (commands.Store actor address piece) h =
-      let P = StaysNamed m (commands.Store actor address piece) in
-            each_ok P _ m _ (λ r n seg e. inl e) (λ at found.
-      each_unless P _ _ m _ (λ n seg e. inl e) (λ writes.
-      each_unless P _ _ m _ (λ n seg e. inl e) (λ allowed.
-      λ n seg e. inl (changed_stays m at.region.cache _ (λ c. refl) n seg e (cache_of m at.region.cache) refl))))
-  rows_stay f (commands.Sync extent) h =
-      let P = StaysNamed m (commands.Sync extent) in
-            each_some P _ _ m _ (λ n seg e. inl e) (λ c there.
-      each_some P _ _ m _ (λ n seg e. inl e) (λ seg named.
-      each_unless P _ _ m _ (λ n seg e. inl e) (λ inside.
-      λ n seg e. inl e)))
-  rows_stay f (commands.Flush extent) h =
-      let P = StaysNamed m (commands.Flush extent) in
-            each_some P _ _ m _ (λ n seg e. inl e) (λ c there.
-      each_some P _ _ m _ (λ n seg e. inl e) (λ seg named.
-      each_unless P _ _ m _ (λ n seg e. inl e) (λ inside.
-      each_unless P _ _ m _ (λ n seg e. inl e) (λ unlocked.
-      λ n seg e. inl e))))
-  rows_stay f (commands.Invalidate extent) h =
-      let P = StaysNamed m (commands.Invalidate extent) in
-            each_some P (cache_of m extent.cache.0) _ m _ (λ n seg e. inl e) (λ c there.
-      each_some P _ _ m _ (λ n seg e. inl e) (λ seg named.
-      each_unless P _ _ m _ (λ n seg e. inl e) (λ inside.
-      each_unless P _ _ m _ (λ n seg e. inl e) (λ unlocked.
-      λ n seg e. inl (put_stays m extent.cache.0 c _ there refl n seg e)))))
-  rows_stay f (commands.PageOut count) h = λ n seg e. inl e
-  rows_stay f (commands.Chain cache page) h =
-      let P = StaysNamed m (commands.Chain cache page) in
-            each_some P _ _ m _ (λ n seg e. inl e) (λ c there.
-      each_unless P _ _ m _ (λ n seg e. inl e) (λ within.
-      λ n seg e. inl e))
-  rows_stay f commands.Stat h = λ n seg e. inl e
+      row m _ _ _ (λ n seg e. changed_stays next span.from.0 _ (λ c. refl) n seg (put_stays m span.to.0 destination _ to refl n seg e) (cache_of next span.from.0) refl))))))))
+  rows f (commands.Map actor mapping) h =
+      each_some (RowIs m (commands.Map actor mapping)) _ _ m _ (no_row m _ _) (λ regions here.
+      each_some (RowIs m (commands.Map actor mapping)) _ _ m _ (no_row m _ _) (λ cache there.
+      each_unless (RowIs m (commands.Map actor mapping)) _ _ m _ (no_row m _ _) (λ aligned.
+      each_unless (RowIs m (commands.Map actor mapping)) _ _ m _ (no_row m _ _) (λ below.
+      each_unless (RowIs m (commands.Map actor mapping)) _ _ m _ (no_row m _ _) (λ inside.
+      each_unless (RowIs m (commands.Map actor mapping)) _ _ m _ (no_row m _ _) (λ apart.
+      each_unless (RowIs m (commands.Map actor mapping)) _ _ m _ (no_row m _ _) (λ fewer.
+      row m _ _ _ (λ n seg e. e))))))))
+  rows f (commands.Split region pages) h =
+      each_some (RowIs m (commands.Split region pages)) _ _ m _ (no_row m _ _) (λ r there.
+      each_unless (RowIs m (commands.Split region pages)) _ _ m _ (no_row m _ _) (λ inside.
+      each_unless (RowIs m (commands.Split region pages)) _ _ m _ (no_row m _ _) (λ fewer.
+      row m _ _ _ (λ n seg e. e))))
+  rows f (commands.Protect region prot) h =
+      each_some (RowIs m (commands.Protect region prot)) _ _ m _ (no_row m _ _) (λ r there.
+      row m _ _ _ (λ n seg e. e))
+  rows f (commands.Lock region) h =
+      each_some (RowIs m (commands.Lock region)) _ _ m _ (no_row m _ _) (λ r there.
+      each_unless (RowIs m (commands.Lock region)) _ _ m _ (no_row m _ _) (λ unlocked.
+      each_unless (RowIs m (commands.Lock region)) _ _ m _ (no_row m _ _) (λ few.
+      row m _ _ _ (λ n seg e. e))))
+  rows f (commands.Unlock region) h =
+      each_some (RowIs m (commands.Unlock region)) _ _ m _ (no_row m _ _) (λ r there.
+      each_unless (RowIs m (commands.Unlock region)) _ _ m _ (no_row m _ _) (λ locked.
+      row m _ _ _ (λ n seg e. e)))
+  rows f (commands.Unmap region) h =
+      each_some (RowIs m (commands.Unmap region)) _ _ m _ (no_row m _ _) (λ r there.
+      each_unless (RowIs m (commands.Unmap region)) _ _ m _ (no_row m _ _) (λ unlocked.
+      row m _ _ _ (λ n seg e. e)))
+  rows f (commands.Status region) h =
+      each_some (RowIs m (commands.Status region)) _ _ m _ (no_row m _ _) (λ status there.
+      row m _ _ _ (λ n seg e. e))
+  rows f (commands.Find actor address) h =
+      each_some (RowIs m (commands.Find actor address)) _ _ m _ (no_row m _ _) (λ regions here.
+      each_some (RowIs m (commands.Find actor address)) _ _ m _ (no_row m _ _) (λ r there.
+      row m _ _ _ (λ n seg e. e)))
+  rows f (commands.Load actor address length) h =
+      each_ok (RowIs m (commands.Load actor address length)) _ m _ (λ r. no_row m _ r) (λ at found.
+      row m _ _ _ (λ n seg e. e))
+  rows f (commands.Store actor address piece) h =
+      each_ok (RowIs m (commands.Store actor address piece)) _ m _ (λ r. no_row m _ r) (λ at found.
+      each_unless (RowIs m (commands.Store actor address piece)) _ _ m _ (no_row m _ _) (λ writes.
+      each_unless (RowIs m (commands.Store actor address piece)) _ _ m _ (no_row m _ _) (λ allowed.
+      row m _ _ _ (λ n seg e. changed_stays m at.region.cache _ (λ c. refl) n seg e (cache_of m at.region.cache) refl))))
+  rows f (commands.Sync extent) h =
+      each_some (RowIs m (commands.Sync extent)) _ _ m _ (no_row m _ _) (λ c there.
+      each_some (RowIs m (commands.Sync extent)) _ _ m _ (no_row m _ _) (λ seg named.
+      each_unless (RowIs m (commands.Sync extent)) _ _ m _ (no_row m _ _) (λ inside.
+      row m _ _ _ (λ n seg e. e))))
+  rows f (commands.Flush extent) h =
+      each_some (RowIs m (commands.Flush extent)) _ _ m _ (no_row m _ _) (λ c there.
+      each_some (RowIs m (commands.Flush extent)) _ _ m _ (no_row m _ _) (λ seg named.
+      each_unless (RowIs m (commands.Flush extent)) _ _ m _ (no_row m _ _) (λ inside.
+      each_unless (RowIs m (commands.Flush extent)) _ _ m _ (no_row m _ _) (λ unlocked.
+      row m _ _ _ (λ n seg e. e)))))
+  rows f (commands.Invalidate extent) h =
+      each_some (RowIs m (commands.Invalidate extent)) (cache_of m extent.cache.0) _ m _ (no_row m _ _) (λ c there.
+      each_some (RowIs m (commands.Invalidate extent)) _ _ m _ (no_row m _ _) (λ seg named.
+      each_unless (RowIs m (commands.Invalidate extent)) _ _ m _ (no_row m _ _) (λ inside.
+      each_unless (RowIs m (commands.Invalidate extent)) _ _ m _ (no_row m _ _) (λ unlocked.
+      row m _ _ _ (put_stays m extent.cache.0 c _ there refl)))))
+  rows f (commands.PageOut count) h = row m (commands.PageOut count) _ m (λ n seg e. e)
+  rows f (commands.Chain cache page) h =
+      each_some (RowIs m (commands.Chain cache page)) _ _ m _ (no_row m _ _) (λ c there.
+      each_unless (RowIs m (commands.Chain cache page)) _ _ m _ (no_row m _ _) (λ within.
+      row m _ _ _ (λ n seg e. e)))
+  rows f commands.Stat h = row m commands.Stat _ m (λ n seg e. e)
