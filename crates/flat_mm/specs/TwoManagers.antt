@@ -64,32 +64,34 @@ pub record AreOfOneScript (first second : List (Step Read)) : Type 0 where
   pub no_failure : AllByRecursion AnswersNoFailure first
   pub no_failure_too : AllByRecursion AnswersNoFailure second
 
--- More pages would be alive than there are frames: after the answer without a limit, in the state
--- that is given, and in its place the answer is Full.
+-- What comes first where frames run out: without a limit more pages would be alive behind the answer
+-- than there are frames, and within it the answer is Full.
 pub record RunsOut (frames : ℕ) (answer : Answer) (unlimited : State) : Type 0 where
   pub full : answer ≡ Err (Refused Full)
   pub more : frames < live_pages unlimited.machine
 
--- Two answers are the same, where there is a frame for each live page.
-pub record AreSame (frames : ℕ) (first second : Answer) (unlimited : State) : Type 0 where
-  pub same : second ≡ first
+-- What comes else: the answers are the same, and so are the machines behind them, in which each live
+-- page has a frame.
+pub record AreSame (frames : ℕ) (first second : Answer) (unlimited limited : State)
+    : Type 0 where
+  pub answer : second ≡ first
+  pub machine : limited.machine ≡ unlimited.machine
   pub enough : live_pages unlimited.machine ≤ frames
 
--- Up to where the frames of the second run run out the answers are the same; where they never do the
--- runs end in the same machine.
+-- Answer by answer two runs are the same, to their end or to where the frames of the second run out.
 abbrev pub AreSameUntilFull : (frames : ℕ) (first second : List (Step Read))
     (s t after last : State) → Chain command_semantics s first after
     → Chain (framed_semantics frames) t second last → Type 0
-AreSameUntilFull frames [] [] s t after last chain other = last.machine ≡ after.machine
+AreSameUntilFull frames [] [] s t after last chain other = Unit {0}
 AreSameUntilFull frames (x ∷ first) (y ∷ second) s t after last chain other =
     RunsOut frames y.answer chain.0
-    ⊎ (AreSame frames x.answer y.answer chain.0
+    ⊎ (AreSame frames x.answer y.answer chain.0 other.0
     × AreSameUntilFull frames first second chain.0 other.0 after last chain.2 other.2)
 AreSameUntilFull frames first second s t after last chain other = ⊥
 
 -- From equal segments, with as many frames and pages as long, two runs of one script give the same
--- answers up to the first command for which frames run out, whatever is pushed in each, and when.
--- Each beginning of a run is a run, so the machines are the same all the way there.
+-- answers and lead through the same machines, up to the first command for which the frames run out,
+-- whatever is pushed in each, and when.
 abbrev pub AgreeUntilFull : Type 0
 AgreeUntilFull =
     (frames page_bytes : ℕ) (h : Segments) (f g : Option PageForest)

@@ -1,6 +1,6 @@
 -- What pushes leave of the segments: they still back the caches of the machine, and those that name
 -- no live cache are as before.
-use Rattle.std.proofs.Common.{◌≡◌, ◌≢◌, ◌==◌, ℕ, zero, suc, ◌-◌, Bool, true, false, cond, List, [], ◌∷◌, Option, Some, None, refl, sym, ap, subst, ◌∙◌, arith}
+use Rattle.std.proofs.Common.{◌≡◌, ◌≢◌, ◌==◌, ℕ, suc, ◌-◌, Bool, true, false, cond, List, [], ◌∷◌, Option, Some, None, refl, sym, ap, subst, ◌∙◌, arith}
 use Rattle.std.specs.Prelude.{IsSome, is_some, option_and_then, slice_get, unwrap_or}
 use Rattle.std.specs.FinMap.{get, get-insert, insert}
 use Rattle.std.specs.Cmp.{unsigned_tied}
@@ -10,7 +10,7 @@ use Rattle.std.proofs.lemmas.Cmp.{nat_cmp_total}
 use Rattle.std.proofs.lemmas.Bool.Decides.{nat_tests}
 use Rattle.vm_ids.specs.Denying.{denies}
 use Rattle.vm_ids.specs.Held.{Segments, put_segment_page}
-use Rattle.vm_model.specs.Machine.{Cache, Machine, Page, cache_named, cache_of, is_named_by, numbered}
+use Rattle.vm_model.specs.Machine.{Cache, Machine, Page, cache_named, is_named_by, numbered}
 use Rattle.vm_model.specs.Pushing.{MayPush, PushRule, page_named, segments_after}
 use Rattle.vm_model.proofs.Parts.Lists.{is_there}
 use Rattle.vm_model.proofs.Parts.ListParts.{at_some}

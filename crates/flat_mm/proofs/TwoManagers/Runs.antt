@@ -1,17 +1,15 @@
 -- Whole runs: what two answers of one command leave alike.
-use Rattle.std.proofs.Common.{◌≡◌, ◌⊎◌, inl, inr, ℕ, ◌-◌, ◌≤◌, ◌<◌, Bool, true, false, List, [], ◌∷◌, length, Option, Some, None, refl, sym, ap, subst, ◌∙◌, arith}
+use Rattle.std.proofs.Common.{◌≡◌, ◌⊎◌, inl, inr, ℕ, ◌-◌, ◌≤◌, ◌<◌, false, List, [], ◌∷◌, length, Option, Some, None, refl, sym, ap, subst, ◌∙◌, arith}
 use Rattle.std.specs.Prelude.{OnErr, OnOk, is_some, Ok, Err, option_and_then, slice_get}
 use Rattle.std.specs.FinMap.{get}
-use Rattle.std.specs.List.{AllByRecursion}
 use Rattle.vm_ids.specs.Counting.{MapperCounts, no_counts}
-use Rattle.vm_ids.specs.Held.{Segments, segment_page}
+use Rattle.vm_ids.specs.Held.{Segments}
 use Rattle.vm_ids.specs.declared.command.Command.{Command}
 use Rattle.vm_ids.specs.declared.command.Command.TheVariants as commands
-use Rattle.vm_ids.specs.declared.refusal.Refusal.{Refusal}
 use Rattle.vm_ids.specs.declared.refusal.Refusal.TheVariants as refusals
 use Rattle.vm_ids.specs.declared.reply.Trouble.TheVariants as troubles
-use Rattle.vm_model.specs.Machine.{Cache, Machine, Page, cache_named, cache_of, live_pages, pages_in, segment_of}
-use Rattle.vm_model.specs.PageForest.{PageForest, forest_shown, page_in}
+use Rattle.vm_model.specs.Machine.{Cache, Machine, Page, cache_named, cache_of, live_pages, pages_in}
+use Rattle.vm_model.specs.PageForest.{PageForest, forest_shown}
 use Rattle.vm_model.specs.Answering.{Answer, Answered, answer_of}
 use Rattle.vm_model.specs.Asking.{pages_made}
 use Rattle.vm_model.specs.Outcome.{Outcome, OutcomeAt}
@@ -26,33 +24,33 @@ use Rattle.gmi_calls.proofs.Backing.{backed_after}
 use Rattle.gmi_calls.proofs.Opening.{same_list}
 use Rattle.flat_mm.specs.TwoManagers.{AgreeUntilFull, AreOfOneScript, AreSame, AreSameUntilFull, IsAnsweredWithin, RunsOut, asks_manager, framed_semantics, frames_left, is_failure, start_over}
 use Rattle.flat_mm.proofs.TwoManagers.Pushes.{AfterPushes, after_pushes, named_number}
-use Rattle.flat_mm.proofs.TwoManagers.Rows.{RowIs, SameElsewhere, TakesAway, rows, same_row}
+use Rattle.flat_mm.proofs.TwoManagers.Rows.{RowIs, SameElsewhere, TakesAway, each_row, same_row}
 
 -- One answer of one run
 
 -- without a failure it is the machine's
-given : (m : Machine) (f : Option PageForest) (c : Command) (h : Segments) (a : Answer) (next : Machine) (rises : MapperCounts) → is_failure a ≡ false → Outcome m f c h a next rises → answer_of m (forest_shown f m) c h ≡ record { answer = a; next = next }
-given m f c h (Ok r) next rises e o = o
-given m f c h (Err (troubles.Refused r)) next rises e o = o
-given m f c h (Err (troubles.Mapper at)) next rises e o = absurd (cc e)
-given m f c h (Err troubles.Memory) next rises e o = absurd (cc e)
+machine_answer : (m : Machine) (f : Option PageForest) (c : Command) (h : Segments) (a : Answer) (next : Machine) (rises : MapperCounts) → is_failure a ≡ false → Outcome m f c h a next rises → answer_of m (forest_shown f m) c h ≡ record { answer = a; next = next }
+machine_answer m f c h (Ok r) next rises e o = o
+machine_answer m f c h (Err (troubles.Refused r)) next rises e o = o
+machine_answer m f c h (Err (troubles.Mapper at)) next rises e o = absurd (cc e)
+machine_answer m f c h (Err troubles.Memory) next rises e o = absurd (cc e)
 
 -- What is known of it: the segments by which it is the machine's answer, and what they hold.
-record Given (m : Machine) (h : Segments) (c : Command) (a : Answer) (after : State) : Type 0 where
+record GivenAnswer (m : Machine) (h : Segments) (c : Command) (a : Answer) (after : State) : Type 0 where
   pushed : AfterPushes m h after.segments
   forest : PageForest
   gives : answer_of m forest c pushed.now ≡ record { answer = a; next = after.machine }
   backed : AreBacked after.machine.caches pushed.now
   synchronised : IsSynchronised m (Some pushed.now) c a
 
-answer_given : (s after : State) (h : Segments) (c : Command) (a : Answer) (pushes : List (ℕ × ℕ)) (rises : MapperCounts) → s.segments ≡ Some h → AreBacked s.machine.caches h → is_failure a ≡ false → AnswerIs s c a pushes rises after → Given s.machine h c a after
+answer_given : (s after : State) (h : Segments) (c : Command) (a : Answer) (pushes : List (ℕ × ℕ)) (rises : MapperCounts) → s.segments ≡ Some h → AreBacked s.machine.caches h → is_failure a ≡ false → AnswerIs s c a pushes rises after → GivenAnswer s.machine h c a after
 answer_given s after h c a pushes rises told B e A =
     let P : AfterPushes s.machine h after.segments = after_pushes s.machine h s.segments after.segments pushes told B A.pushed in
     let outcome : Outcome s.machine s.forest c P.now a after.machine rises = subst (λ (o : Option Segments). OutcomeAt o s.machine s.forest c a after.machine rises) P.told A.outcome in
     record {
       pushed = P;
       forest = forest_shown s.forest s.machine;
-      gives = given s.machine s.forest c P.now a after.machine rises e outcome;
+      gives = machine_answer s.machine s.forest c P.now a after.machine rises e outcome;
       backed = backed_after s.machine after.machine s.forest c P.now a rises P.backed outcome;
       synchronised = subst (λ (o : Option Segments). IsSynchronised s.machine o c a) P.told A.synchronised;
     }
@@ -91,7 +89,7 @@ record Alike (frames : ℕ) (s t : State) : Type 0 where
   same : SameElsewhere s.machine held held_too
   enough : live_pages s.machine ≤ frames
 
-module _ (m : Machine) (h g : Segments) (c : Command) (a b : Answer) (s t : State) (S : SameElsewhere m h g) (P : Given m h c a s) (Q : Given m g c b t) (plain : asks_manager (Ok c) ≡ false) where
+module _ (m : Machine) (h g : Segments) (c : Command) (a b : Answer) (s t : State) (S : SameElsewhere m h g) (P : GivenAnswer m h c a s) (Q : GivenAnswer m g c b t) (plain : asks_manager (Ok c) ≡ false) where
   -- after the pushes
   elsewhere : SameElsewhere m P.pushed.now Q.pushed.now
   elsewhere = record {
@@ -106,7 +104,7 @@ module _ (m : Machine) (h g : Segments) (c : Command) (a b : Answer) (s t : Stat
   same_answer = ap (λ (x : Answered). x.answer) both_given
 
   row_is : RowIs m c (record { answer = a; next = s.machine })
-  row_is = subst (RowIs m c) P.gives (rows m P.forest c P.pushed.now)
+  row_is = subst (RowIs m c) P.gives (each_row m P.forest c P.pushed.now)
 
   still_elsewhere : (seg : ℕ) → is_some (cache_named s.machine.caches seg) ≡ false → get Q.pushed.now.pages seg ≡ get P.pushed.now.pages seg
   still_elsewhere seg free = by (cache_named m.caches seg) refl
@@ -155,12 +153,12 @@ within room t u c (Ok r) pushes rises w = inr (w.0, w.1)
 within room t u c (Err (troubles.Refused refusals.Full)) pushes rises w = inl (refl, w)
 within room t u c (Err e) pushes rises w = inr (w, tt)
 
-module _ (frames : ℕ) (s t v u : State) (c : Command) (a b : Answer) (A : Alike frames s t) (plain : asks_manager (Ok c) ≡ false) (P : Given s.machine A.held c a v) where
+module _ (frames : ℕ) (s t v u : State) (c : Command) (a b : Answer) (A : Alike frames s t) (plain : asks_manager (Ok c) ≡ false) (P : GivenAnswer s.machine A.held c a v) where
   abbrev room : ℕ
   room = frames_left frames s.machine
 
   after_row : RowIs s.machine c (record { answer = a; next = v.machine })
-  after_row = subst (RowIs s.machine c) P.gives (rows s.machine P.forest c P.pushed.now)
+  after_row = subst (RowIs s.machine c) P.gives (each_row s.machine P.forest c P.pushed.now)
 
   -- refused for want of room
   runs_out : (pushes : List (ℕ × ℕ)) → b ≡ Err (troubles.Refused refusals.Full) → IsFull room (record t { machine = s.machine }) c pushes u → RunsOut frames b v
@@ -190,11 +188,11 @@ module _ (frames : ℕ) (s t v u : State) (c : Command) (a b : Answer) (A : Alik
   enough_after (Err e) is needs stays = subst (λ (x : Machine). live_pages x ≤ frames) (sym stays) A.enough
 
   answers_same : (pushes : List (ℕ × ℕ)) (rises : MapperCounts) → is_failure b ≡ false → AnswerIs (record t { machine = s.machine }) c b pushes rises u → OnOk b (pages_needed s.machine c u.machine ≤ room)
-      → AreSame frames a b v × Alike frames v u
+      → AreSame frames a b v u × Alike frames v u
   answers_same pushes rises done is needs =
-      (record { same = same; enough = enough }, still_alike s.machine A.held A.held_too c a b v u A.same P Q plain frames enough)
+      (record { answer = same; machine = machine; enough = enough }, still_alike s.machine A.held A.held_too c a b v u A.same P Q plain frames enough)
     where
-      Q : Given s.machine A.held_too c b u
+      Q : GivenAnswer s.machine A.held_too c b u
       Q = answer_given (record t { machine = s.machine }) u A.held_too c b pushes rises A.told_too A.backed_too done is
 
       same : b ≡ a
@@ -209,26 +207,24 @@ module _ (frames : ℕ) (s t v u : State) (c : Command) (a b : Answer) (A : Alik
 -- One line in both runs
 
 at_line : (frames : ℕ) (s t v u : State) (read : Read) (a b : Answer) (rises others : MapperCounts) → Alike frames s t → asks_manager read ≡ false → is_failure a ≡ false → is_failure b ≡ false → IsAnswered s read a rises v → IsAnsweredWithin frames t read b others u
-    → RunsOut frames b v ⊎ (AreSame frames a b v × Alike frames v u)
+    → RunsOut frames b v ⊎ (AreSame frames a b v u × Alike frames v u)
 at_line frames s t v u (Err r) a b rises others A plain done done_too x y =
-    let stays : v ≡ s = x.1.same in
-    let stays_too : u ≡ t = y.1.same in
-    inr (record { same = y.1.refused ∙ sym x.1.refused; enough = subst (λ (z : State). live_pages z.machine ≤ frames) (sym stays) A.enough },
-    subst (λ (z : State). Alike frames z u) (sym stays) (subst (Alike frames s) (sym stays_too) A))
+    let still : Alike frames v u = subst (λ (z : State). Alike frames z u) (sym x.1.same) (subst (Alike frames s) (sym y.1.same) A) in
+    inr (record { answer = y.1.refused ∙ sym x.1.refused; machine = still.machine; enough = still.enough }, still)
 at_line frames s t v u (Ok c) a b rises others A plain done done_too x y =
     elim (within (frames_left frames s.machine) (record t { machine = s.machine }) u c b y.0 others here) [
       | inl full ↦ inl (runs_out frames s t v u c a b A plain P y.0 full.0 full.1)
       | inr is ↦ inr (answers_same frames s t v u c a b A plain P y.0 others done_too is.0 is.1)
     ]
   where
-    P : Given s.machine A.held c a v
+    P : GivenAnswer s.machine A.held c a v
     P = answer_given s v A.held c a x.0 rises A.told A.backed done x.1
 
     here : AnswerWithin (Some (frames_left frames s.machine)) (record t { machine = s.machine }) c b y.0 others u
     here = subst (λ (m : Machine). AnswerWithin (Some (frames_left frames m)) (record t { machine = m }) c b y.0 others u) A.machine y.1
 
 go_on : (frames : ℕ) (first second : List (Step Read)) (s t after last : State) (chain : Chain command_semantics s first after) (other : Chain (framed_semantics frames) t second last) → Alike frames s t → AreOfOneScript first second → AreSameUntilFull frames first second s t after last chain other
-go_on frames [] [] s t after last chain other A R = ap (λ (x : State). x.machine) other ∙ A.machine ∙ sym (ap (λ (x : State). x.machine) chain)
+go_on frames [] [] s t after last chain other A R = tt
 go_on frames [] (y ∷ second) s t after last chain other A R = absurd (let e = R.lines in cc e)
 go_on frames (x ∷ first) [] s t after last chain other A R = absurd (let e = R.lines in cc e)
 go_on frames (x ∷ first) (y ∷ second) s t after last chain other A R =
