@@ -64,21 +64,22 @@ pub record AreOfOneScript (first second : List (Step Read)) : Type 0 where
   pub no_failure : AllByRecursion AnswersNoFailure first
   pub no_failure_too : AllByRecursion AnswersNoFailure second
 
--- What comes first where frames run out: without a limit more pages would be alive behind the answer
--- than there are frames, and within it the answer is Full.
+-- Frames run out: without a limit more pages would be alive behind the answer than there are
+-- frames, and within it the answer is Full.
 pub record RunsOut (frames : ℕ) (answer : Answer) (unlimited : State) : Type 0 where
   pub full : answer ≡ Err (Refused Full)
   pub more : frames < live_pages unlimited.machine
 
--- What comes else: the answers are the same, and so are the machines behind them, in which each live
--- page has a frame.
+-- They don't: the answers are the same, and so are the machines behind them, in which there is a
+-- frame for each live page.
 pub record AreSame (frames : ℕ) (first second : Answer) (unlimited limited : State)
     : Type 0 where
   pub answer : second ≡ first
   pub machine : limited.machine ≡ unlimited.machine
   pub enough : live_pages unlimited.machine ≤ frames
 
--- Answer by answer two runs are the same, to their end or to where the frames of the second run out.
+-- Answer by answer two runs are the same, to their end or to where the frames of the second one run
+-- out.
 abbrev pub AreSameUntilFull : (frames : ℕ) (first second : List (Step Read))
     (s t after last : State) → Chain command_semantics s first after
     → Chain (framed_semantics frames) t second last → Type 0

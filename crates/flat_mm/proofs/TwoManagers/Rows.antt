@@ -1,6 +1,6 @@
 -- What each row reads of the segments, and which caches it leaves to their segments.
 use Rattle.std.proofs.Common.{◌≡◌, ◌⊎◌, inl, inr, ℕ, ◌-◌, Bool, true, false, List, [], ◌∷◌, ◌++◌, set, Option, Some, None, refl, sym, ap, ◌∙◌}
-use Rattle.std.specs.Prelude.{is_some, Ok, OnErr, option_and_then}
+use Rattle.std.specs.Prelude.{is_some, Result, Ok, OnErr, option_and_then}
 use Rattle.std.specs.FinMap.{get}
 use Rattle.std.specs.Option.{option_map_or}
 use Rattle.std.proofs.lemmas.Bool.{cases_eq}
@@ -11,9 +11,9 @@ use Rattle.vm_ids.specs.declared.command.Span.{Span}
 use Rattle.vm_ids.specs.declared.refusal.Refusal.{Refusal}
 use Rattle.vm_ids.specs.declared.refusal.Refusal.TheVariants as refusals
 use Rattle.vm_ids.specs.declared.reply.Reply.{Reply}
-use Rattle.vm_model.specs.Machine.{Cache, Machine, Page, cache_named, cache_of, segment_of}
+use Rattle.vm_model.specs.Machine.{Cache, Machine, Page, cache_named, cache_of, numbered, segment_of}
 use Rattle.vm_model.specs.PageForest.{PageForest}
-use Rattle.vm_model.specs.Answering.{Answer, Answered, answer_of, chain_answer, copy_of, destroy_of, exit_actor_of, find_of, flush_of, invalidate_of, load_of, lock_of, make_actor_of, make_temp_of, map_of, move_of, open_of, protect_of, put_cache, put_span, refuse, reply, split_of, status_of, store_of, sync_of, unlock_of, unmap_of}
+use Rattle.vm_model.specs.Answering.{Answer, Answered, answer_of, chain_answer, copy_of, destroy_of, exit_actor_of, find_of, flush_of, invalidate_of, load_of, lock_of, make_actor_of, make_temp_of, map_of, move_of, open_of, protect_of, put_cache, put_span, refuse, reply, split_of, status_of, store_of, sync_of, unless, unlock_of, unmap_of, with_ok, with_some}
 use Rattle.vm_model.proofs.Parts.Lists.{numbered-set, numbered_place}
 use Rattle.vm_model.proofs.Parts.ListParts.{numbered_set_other}
 use Rattle.vm_model.proofs.Parts.Naming.{segment_cache}
@@ -113,111 +113,52 @@ module _ (m : Machine) where
   ]
 
 module _ (m : Machine) where
+  -- each refusal of a row
+  unless_row : {command : Command} {bad : Bool} (r : Refusal) {go : Answered} → (bad ≡ false → RowIs m command go) → RowIs m command (unless bad r m go)
+  unless_row {command} {bad} r {go} goes = each_unless (RowIs m command) bad r m go (no_row m command r) goes
+
+  some_row : {A : Type 0} {command : Command} {o : Option A} (r : Refusal) {go : A → Answered} → ((x : A) → o ≡ Some x → RowIs m command (go x)) → RowIs m command (with_some o r m go)
+  some_row {A} {command} {o} r {go} goes = each_some (RowIs m command) o r m go (no_row m command r) goes
+
+  ok_row : {A : Type 0} {command : Command} {o : Result A Refusal} {go : A → Answered} → ((x : A) → o ≡ Ok x → RowIs m command (go x)) → RowIs m command (with_ok o m go)
+  ok_row {A} {command} {o} {go} goes = each_ok (RowIs m command) o m go (no_row m command) goes
+
+  -- the caches stay
+  still : {command : Command} {r : Reply} {next : Machine} → next.caches ≡ m.caches → RowIs m command (reply r next)
+  still {command} {r} {next} same = row m command r next (λ n seg e. ap (λ (cs : List (Option Cache)). option_and_then (λ (c : Cache). c.segment) (numbered cs n)) same ∙ e)
+
   -- Every row, whatever the segments hold.
   pub each_row : (f : PageForest) (command : Command) (h : Segments) → RowIs m command (answer_of m f command h)
   unfolding make_actor_of exit_actor_of make_temp_of open_of destroy_of copy_of move_of map_of split_of protect_of lock_of unlock_of unmap_of status_of find_of load_of store_of sync_of flush_of invalidate_of chain_answer
-  each_row f commands.MakeActor h =
-      each_unless (RowIs m commands.MakeActor) _ _ m _ (no_row m _ _) (λ fewer.
-      row m _ _ _ (λ n seg e. e))
-  each_row f (commands.ExitActor actor) h =
-      each_some (RowIs m (commands.ExitActor actor)) _ _ m _ (no_row m _ _) (λ regions here.
-      row m _ _ _ (λ n seg e. e))
-  each_row f (commands.MakeTemp pages) h =
-      each_unless (RowIs m (commands.MakeTemp pages)) _ _ m _ (no_row m _ _) (λ fewer.
-      row m _ _ _ (more_stays m _))
-  each_row f (commands.OpenSegment seg) h =
-      each_unless (RowIs m (commands.OpenSegment seg)) _ _ m _ (no_row m _ _) (λ free.
-      each_unless (RowIs m (commands.OpenSegment seg)) _ _ m _ (no_row m _ _) (λ fewer.
-      each_some (RowIs m (commands.OpenSegment seg)) _ _ m _ (no_row m _ _) (λ pages holds.
-      each_unless (RowIs m (commands.OpenSegment seg)) _ _ m _ (no_row m _ _) (λ room.
-      row m _ _ _ (more_stays m _)))))
-  each_row f (commands.Destroy cache) h =
-      each_some (RowIs m (commands.Destroy cache)) (cache_of m cache.0) _ m _ (no_row m _ _) (λ c there.
-      each_unless (RowIs m (commands.Destroy cache)) _ _ m _ (no_row m _ _) (λ free.
-      record { named = gone_stays m cache.0 c there; refused = tt }))
+  each_row f commands.MakeActor h = unless_row _ (λ fewer. still refl)
+  each_row f (commands.ExitActor actor) h = some_row _ (λ regions here. still refl)
+  each_row f (commands.MakeTemp pages) h = unless_row _ (λ fewer. row m _ _ _ (more_stays m _))
+  each_row f (commands.OpenSegment seg) h = unless_row _ (λ free. unless_row _ (λ fewer. some_row _ (λ pages holds. unless_row _ (λ room. row m _ _ _ (more_stays m _)))))
+  each_row f (commands.Destroy cache) h = some_row _ (λ c there. unless_row _ (λ free. record { named = gone_stays m cache.0 c there; refused = tt }))
   each_row f (commands.Copy span) h =
-      each_some (RowIs m (commands.Copy span)) _ _ m _ (no_row m _ _) (λ source from.
-      each_some (RowIs m (commands.Copy span)) (cache_of m span.to.0) _ m _ (no_row m _ _) (λ destination to.
-      each_unless (RowIs m (commands.Copy span)) _ _ m _ (no_row m _ _) (λ inside.
-      each_unless (RowIs m (commands.Copy span)) _ _ m _ (no_row m _ _) (λ apart.
-      each_unless (RowIs m (commands.Copy span)) _ _ m _ (no_row m _ _) (λ unlocked.
-      each_unless (RowIs m (commands.Copy span)) _ _ m _ (no_row m _ _) (λ allowed.
+      some_row _ (λ source from. some_row _ (λ destination to. unless_row _ (λ inside. unless_row _ (λ apart. unless_row _ (λ unlocked. unless_row _ (λ allowed.
       row m _ _ _ (put_stays m span.to.0 destination _ to refl)))))))
   each_row f (commands.Move span) h =
-      each_some (RowIs m (commands.Move span)) _ _ m _ (no_row m _ _) (λ source from.
-      each_some (RowIs m (commands.Move span)) (cache_of m span.to.0) _ m _ (no_row m _ _) (λ destination to.
-      each_unless (RowIs m (commands.Move span)) _ _ m _ (no_row m _ _) (λ inside.
-      each_unless (RowIs m (commands.Move span)) _ _ m _ (no_row m _ _) (λ temporary.
-      each_unless (RowIs m (commands.Move span)) _ _ m _ (no_row m _ _) (λ apart.
-      each_unless (RowIs m (commands.Move span)) _ _ m _ (no_row m _ _) (λ unlocked.
-      each_unless (RowIs m (commands.Move span)) _ _ m _ (no_row m _ _) (λ allowed.
+      some_row _ (λ source from. some_row _ (λ destination to. unless_row _ (λ inside. unless_row _ (λ temporary. unless_row _ (λ apart. unless_row _ (λ unlocked. unless_row _ (λ allowed.
       let next = put_span m span source destination in
       row m _ _ _ (λ n seg e. changed_stays next span.from.0 _ (λ c. refl) n seg (put_stays m span.to.0 destination _ to refl n seg e) (cache_of next span.from.0) refl))))))))
   each_row f (commands.Map actor mapping) h =
-      each_some (RowIs m (commands.Map actor mapping)) _ _ m _ (no_row m _ _) (λ regions here.
-      each_some (RowIs m (commands.Map actor mapping)) _ _ m _ (no_row m _ _) (λ cache there.
-      each_unless (RowIs m (commands.Map actor mapping)) _ _ m _ (no_row m _ _) (λ aligned.
-      each_unless (RowIs m (commands.Map actor mapping)) _ _ m _ (no_row m _ _) (λ below.
-      each_unless (RowIs m (commands.Map actor mapping)) _ _ m _ (no_row m _ _) (λ inside.
-      each_unless (RowIs m (commands.Map actor mapping)) _ _ m _ (no_row m _ _) (λ apart.
-      each_unless (RowIs m (commands.Map actor mapping)) _ _ m _ (no_row m _ _) (λ fewer.
-      row m _ _ _ (λ n seg e. e))))))))
-  each_row f (commands.Split region pages) h =
-      each_some (RowIs m (commands.Split region pages)) _ _ m _ (no_row m _ _) (λ r there.
-      each_unless (RowIs m (commands.Split region pages)) _ _ m _ (no_row m _ _) (λ inside.
-      each_unless (RowIs m (commands.Split region pages)) _ _ m _ (no_row m _ _) (λ fewer.
-      row m _ _ _ (λ n seg e. e))))
-  each_row f (commands.Protect region prot) h =
-      each_some (RowIs m (commands.Protect region prot)) _ _ m _ (no_row m _ _) (λ r there.
-      row m _ _ _ (λ n seg e. e))
-  each_row f (commands.Lock region) h =
-      each_some (RowIs m (commands.Lock region)) _ _ m _ (no_row m _ _) (λ r there.
-      each_unless (RowIs m (commands.Lock region)) _ _ m _ (no_row m _ _) (λ unlocked.
-      each_unless (RowIs m (commands.Lock region)) _ _ m _ (no_row m _ _) (λ few.
-      row m _ _ _ (λ n seg e. e))))
-  each_row f (commands.Unlock region) h =
-      each_some (RowIs m (commands.Unlock region)) _ _ m _ (no_row m _ _) (λ r there.
-      each_unless (RowIs m (commands.Unlock region)) _ _ m _ (no_row m _ _) (λ locked.
-      row m _ _ _ (λ n seg e. e)))
-  each_row f (commands.Unmap region) h =
-      each_some (RowIs m (commands.Unmap region)) _ _ m _ (no_row m _ _) (λ r there.
-      each_unless (RowIs m (commands.Unmap region)) _ _ m _ (no_row m _ _) (λ unlocked.
-      row m _ _ _ (λ n seg e. e)))
-  each_row f (commands.Status region) h =
-      each_some (RowIs m (commands.Status region)) _ _ m _ (no_row m _ _) (λ status there.
-      row m _ _ _ (λ n seg e. e))
-  each_row f (commands.Find actor address) h =
-      each_some (RowIs m (commands.Find actor address)) _ _ m _ (no_row m _ _) (λ regions here.
-      each_some (RowIs m (commands.Find actor address)) _ _ m _ (no_row m _ _) (λ r there.
-      row m _ _ _ (λ n seg e. e)))
-  each_row f (commands.Load actor address length) h =
-      each_ok (RowIs m (commands.Load actor address length)) _ m _ (λ r. no_row m _ r) (λ at found.
-      row m _ _ _ (λ n seg e. e))
+      some_row _ (λ regions here. some_row _ (λ cache there. unless_row _ (λ aligned. unless_row _ (λ below. unless_row _ (λ inside. unless_row _ (λ apart. unless_row _ (λ fewer. still refl)))))))
+  each_row f (commands.Split region pages) h = some_row _ (λ r there. unless_row _ (λ inside. unless_row _ (λ fewer. still refl)))
+  each_row f (commands.Protect region prot) h = some_row _ (λ r there. still refl)
+  each_row f (commands.Lock region) h = some_row _ (λ r there. unless_row _ (λ unlocked. unless_row _ (λ few. still refl)))
+  each_row f (commands.Unlock region) h = some_row _ (λ r there. unless_row _ (λ locked. still refl))
+  each_row f (commands.Unmap region) h = some_row _ (λ r there. unless_row _ (λ unlocked. still refl))
+  each_row f (commands.Status region) h = some_row _ (λ status there. still refl)
+  each_row f (commands.Find actor address) h = some_row _ (λ regions here. some_row _ (λ r there. still refl))
+  each_row f (commands.Load actor address length) h = ok_row (λ at found. still refl)
   each_row f (commands.Store actor address piece) h =
-      each_ok (RowIs m (commands.Store actor address piece)) _ m _ (λ r. no_row m _ r) (λ at found.
-      each_unless (RowIs m (commands.Store actor address piece)) _ _ m _ (no_row m _ _) (λ writes.
-      each_unless (RowIs m (commands.Store actor address piece)) _ _ m _ (no_row m _ _) (λ allowed.
+      ok_row (λ at found. unless_row _ (λ writes. unless_row _ (λ allowed.
       row m _ _ _ (λ n seg e. changed_stays m at.region.cache _ (λ c. refl) n seg e (cache_of m at.region.cache) refl))))
-  each_row f (commands.Sync extent) h =
-      each_some (RowIs m (commands.Sync extent)) _ _ m _ (no_row m _ _) (λ c there.
-      each_some (RowIs m (commands.Sync extent)) _ _ m _ (no_row m _ _) (λ seg named.
-      each_unless (RowIs m (commands.Sync extent)) _ _ m _ (no_row m _ _) (λ inside.
-      row m _ _ _ (λ n seg e. e))))
-  each_row f (commands.Flush extent) h =
-      each_some (RowIs m (commands.Flush extent)) _ _ m _ (no_row m _ _) (λ c there.
-      each_some (RowIs m (commands.Flush extent)) _ _ m _ (no_row m _ _) (λ seg named.
-      each_unless (RowIs m (commands.Flush extent)) _ _ m _ (no_row m _ _) (λ inside.
-      each_unless (RowIs m (commands.Flush extent)) _ _ m _ (no_row m _ _) (λ unlocked.
-      row m _ _ _ (λ n seg e. e)))))
+  each_row f (commands.Sync extent) h = some_row _ (λ c there. some_row _ (λ seg named. unless_row _ (λ inside. still refl)))
+  each_row f (commands.Flush extent) h = some_row _ (λ c there. some_row _ (λ seg named. unless_row _ (λ inside. unless_row _ (λ unlocked. still refl))))
   each_row f (commands.Invalidate extent) h =
-      each_some (RowIs m (commands.Invalidate extent)) (cache_of m extent.cache.0) _ m _ (no_row m _ _) (λ c there.
-      each_some (RowIs m (commands.Invalidate extent)) _ _ m _ (no_row m _ _) (λ seg named.
-      each_unless (RowIs m (commands.Invalidate extent)) _ _ m _ (no_row m _ _) (λ inside.
-      each_unless (RowIs m (commands.Invalidate extent)) _ _ m _ (no_row m _ _) (λ unlocked.
-      row m _ _ _ (put_stays m extent.cache.0 c _ there refl)))))
-  each_row f (commands.PageOut count) h = row m (commands.PageOut count) _ m (λ n seg e. e)
-  each_row f (commands.Chain cache page) h =
-      each_some (RowIs m (commands.Chain cache page)) _ _ m _ (no_row m _ _) (λ c there.
-      each_unless (RowIs m (commands.Chain cache page)) _ _ m _ (no_row m _ _) (λ within.
-      row m _ _ _ (λ n seg e. e)))
-  each_row f commands.Stat h = row m commands.Stat _ m (λ n seg e. e)
+      some_row _ (λ c there. some_row _ (λ seg named. unless_row _ (λ inside. unless_row _ (λ unlocked. row m _ _ _ (put_stays m extent.cache.0 c _ there refl)))))
+  each_row f (commands.PageOut count) h = still refl
+  each_row f (commands.Chain cache page) h = some_row _ (λ c there. unless_row _ (λ within. still refl))
+  each_row f commands.Stat h = still refl
