@@ -2,3 +2,4 @@
 pub mod Pushes
 pub mod Rows
 pub mod Runs
+pub mod FramedAnswers
