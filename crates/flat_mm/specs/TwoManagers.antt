@@ -56,16 +56,16 @@ is_failure answer = false
 abbrev pub AnswersNoFailure : Step Read → Type 0
 AnswersNoFailure step = is_failure step.answer ≡ false
 
--- Two runs answer the lines of one script in one order. No line asks how a manager keeps pages, and
--- neither run answers a mapper fault or want of memory.
+-- Two runs answer the lines of one script in one order, no line of which asks how a manager keeps
+-- pages. Neither answers a mapper fault or want of memory.
 pub record AreOfOneScript (first second : List (Step Read)) : Type 0 where
   pub lines : lines_answered second ≡ lines_answered first
   pub plain : AllByRecursion (λ (step : Step Read). asks_manager step.read ≡ false) first
   pub no_failure : AllByRecursion AnswersNoFailure first
   pub no_failure_too : AllByRecursion AnswersNoFailure second
 
--- Frames run out: without a limit more pages would be alive behind the answer than there are
--- frames, and within it the answer is Full.
+-- Frames run out: without a limit more pages are alive behind the answer than there are frames, and
+-- with it the answer is Full.
 pub record RunsOut (frames : ℕ) (answer : Answer) (unlimited : State) : Type 0 where
   pub full : answer ≡ Err (Refused Full)
   pub more : frames < live_pages unlimited.machine
@@ -90,9 +90,9 @@ AreSameUntilFull frames (x ∷ first) (y ∷ second) s t after last chain other 
     × AreSameUntilFull frames first second chain.0 other.0 after last chain.2 other.2)
 AreSameUntilFull frames first second s t after last chain other = ⊥
 
--- From equal segments, with as many frames and pages as long, two runs of one script give the same
--- answers and lead through the same machines, up to the first command for which the frames run out,
--- whatever is pushed in each, and when.
+-- From equal segments, with equally many frames and pages of one size, two runs of one script give
+-- the same answers and lead through the same machines, up to the first command for which the frames
+-- run out, whatever is pushed in each, and when.
 abbrev pub AgreeUntilFull : Type 0
 AgreeUntilFull =
     (frames page_bytes : ℕ) (h : Segments) (f g : Option PageForest)

@@ -139,7 +139,7 @@ needed_is : (m : Machine) (c : Command) (next : Machine) → asks_manager (Ok c)
 needed_is m (commands.Invalidate extent) next plain = absurd (cc plain)
 needed_is m c next plain = refl
 
--- where the pages that are needed have room, there is a frame for each live page, and else there isn't
+-- where the pages that are needed have room there is a frame for each live page, and else not
 enough_frames : (frames live next : ℕ) → live ≤ frames → next - live ≤ frames - live → next ≤ frames
 enough_frames frames live next h few = omega arith
 
