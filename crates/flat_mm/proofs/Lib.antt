@@ -1,0 +1,2 @@
+-- The law of two managers.
+pub mod TwoManagers

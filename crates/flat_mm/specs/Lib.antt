@@ -1,0 +1,2 @@
+pub mod TwoManagers
+pub mod FramedAnswers
