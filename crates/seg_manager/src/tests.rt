@@ -1,5 +1,11 @@
-// Worked scripts, over the machine that copies at once.
+// A worked script, over the machine that copies at once.
+ghost use Rattle.std.specs.Prelude.{◌≤◌, ◌+◌, ◌^◌, IfOk};
+ghost use Rattle.seg_manager.specs.Asking.{IsKeepWellFormed};
+ghost use Rattle.seg_manager.specs.Calling.{call_budget, made_by};
+ghost use Rattle.seg_manager.specs.Tying.{CanCall};
+
 use crate::SegManager;
+use gmi_calls::Gmi;
 use std::process::Abort;
 use std::test::Fail;
 use vm_ids::{
@@ -7,7 +13,7 @@ use vm_ids::{
     RegionId, Reply, SegId, Span, Trouble,
 };
 use vm_model::EagerMachine;
-use vm_port::{Fifo, MemoryMapper};
+use vm_port::{Chooser, Fifo, Mapper, MemoryMapper};
 
 // What an answer comes to.
 #[derive(Clone, Copy, Debug, PartialEq, Eq)]
@@ -28,8 +34,9 @@ fn seen(answer: Answer) -> Shown {
         Ok(Reply::Cache(CacheId(n))) => Shown::Cache(n),
         Ok(Reply::Region(RegionId(n))) => Shown::Region(n),
         Ok(Reply::Bytes(piece)) => first(piece.as_slice()),
+        Ok(_reply) => Shown::Other,
         Err(Trouble::Refused(refusal)) => Shown::Refused(refusal),
-        _ => Shown::Other,
+        Err(_trouble) => Shown::Other,
     }
 }
 
@@ -41,77 +48,109 @@ fn first(bytes: &[u8]) -> Shown {
     }
 }
 
-// The first byte of the segment.
-fn first_stored(mapper: &MemoryMapper) -> u8 {
-    let page = mapper.page(SegId(1), PageNo(0));
-    if page.is_empty() { 0 } else { page[0] }
+// What a command comes to.
+fn ask<G: Gmi<M, C>, M: Mapper, C: Chooser>(
+    manager: &mut SegManager<G>,
+    command: &KeepCommand,
+    mapper: &mut M,
+    chooser: &mut C,
+) -> Shown
+    requires formed { IsKeepWellFormed command.now }
+    requires can { CanCall G.Gmi manager.old (M.held mapper.old) (M.page_bytes mapper.old) }
+    requires made { made_by G.Gmi manager.old ≤ 2 ^ 61 }
+    ensures can { CanCall G.Gmi manager.new (M.held mapper.new) (M.page_bytes mapper.new) }
+    ensures made { made_by G.Gmi manager.new ≤ made_by G.Gmi manager.old + call_budget }
+{
+    seen(manager.call(command, mapper, chooser))
 }
 
-// A script over a segment of one page, with the answers up to the one that opens it for the third
-// time.
-fn play(
-    rt: &impl Abort,
-    manager: &mut SegManager<EagerMachine>,
-    mapper: &mut MemoryMapper,
-) -> Result<(), Fail> {
-    let chooser = &mut Fifo::new();
+fn open() -> KeepCommand
+    ensures { IsKeepWellFormed result }
+{
+    KeepCommand::Plain(Command::OpenSegment(SegId(1)))
+}
+
+fn close() -> KeepCommand
+    ensures { IsKeepWellFormed result }
+{
+    KeepCommand::Close(SegId(1))
+}
+
+fn map() -> KeepCommand
+    ensures { IsKeepWellFormed result }
+{
     let extent = Extent {
         cache: CacheId(1),
         first: PageNo(0),
         pages: 1,
     };
-    let mapping = Mapping {
-        extent,
-        address: 0x10000,
-        prot: Prot { write: true },
-    };
-    let piece = Piece::new(&[0x58]).ok_or("no piece")?;
-    let script = [
-        (
-            KeepCommand::Plain(Command::OpenSegment(SegId(1))),
-            Shown::Cache(1),
-        ),
-        (
-            KeepCommand::Plain(Command::OpenSegment(SegId(1))),
-            Shown::Cache(1),
-        ),
-        (KeepCommand::Plain(Command::MakeActor), Shown::Actor(1)),
-        (
-            KeepCommand::Plain(Command::Map(ActorId(1), mapping)),
-            Shown::Region(1),
-        ),
-        (
-            KeepCommand::Plain(Command::Store(ActorId(1), 0x10000, piece)),
-            Shown::Done,
-        ),
-        (KeepCommand::Close(SegId(1)), Shown::Done),
-        (KeepCommand::Close(SegId(1)), Shown::Done),
-        (
-            KeepCommand::Close(SegId(1)),
-            Shown::Refused(Refusal::NotOpen),
-        ),
-        (
-            KeepCommand::Plain(Command::Load(ActorId(1), 0x10000, 1)),
-            Shown::Byte(0x58),
-        ),
-        (KeepCommand::Plain(Command::Unmap(RegionId(1))), Shown::Done),
-        (KeepCommand::Plain(Command::MakeTemp(1)), Shown::Cache(2)),
-        (copy(), Shown::Refused(Refusal::NoCache)),
-    ];
-    for (command, wanted) in script.iter() {
-        assert_eq!(rt; seen(manager.call(command, mapper, chooser)), *wanted);
-    }
-    Ok(())
+    KeepCommand::Plain(Command::Map(
+        ActorId(1),
+        Mapping {
+            extent,
+            address: 0x10000,
+            prot: Prot { write: true },
+        },
+    ))
 }
 
-fn copy() -> KeepCommand {
+fn store() -> Result<KeepCommand, Fail>
+    ensures { IfOk result (λ c. IsKeepWellFormed c) }
+{
+    let piece = Piece::new(&[0x58]).ok_or("no piece")?;
+    Ok(KeepCommand::Plain(Command::Store(
+        ActorId(1),
+        0x10000,
+        piece,
+    )))
+}
+
+fn load() -> KeepCommand
+    ensures { IsKeepWellFormed result }
+{
+    KeepCommand::Plain(Command::Load(ActorId(1), 0x10000, 1))
+}
+
+fn copy(from: u32) -> KeepCommand
+    ensures { IsKeepWellFormed result }
+{
     KeepCommand::Plain(Command::Copy(Span {
-        from: CacheId(1),
+        from: CacheId(from),
         from_page: PageNo(0),
         to: CacheId(2),
         to_page: PageNo(0),
         pages: 1,
     }))
+}
+
+// A cache of a segment loses its openings, and then its region.
+fn lose<G: Gmi<M, C>, M: Mapper, C: Chooser>(
+    rt: &impl Abort,
+    manager: &mut SegManager<G>,
+    mapper: &mut M,
+    chooser: &mut C,
+) -> Result<(), Fail>
+    requires can { CanCall G.Gmi manager.old (M.held mapper.old) (M.page_bytes mapper.old) }
+    requires made { made_by G.Gmi manager.old ≤ 2 ^ 60 }
+    ensures can { CanCall G.Gmi manager.new (M.held mapper.new) (M.page_bytes mapper.new) }
+    ensures made { made_by G.Gmi manager.new ≤ made_by G.Gmi manager.old + 2 ^ 36 }
+{
+    assert_eq!(rt; ask(manager, &open(), mapper, chooser), Shown::Cache(1));
+    assert_eq!(rt; ask(manager, &open(), mapper, chooser), Shown::Cache(1));
+    let actor = KeepCommand::Plain(Command::MakeActor);
+    assert_eq!(rt; ask(manager, &actor, mapper, chooser), Shown::Actor(1));
+    assert_eq!(rt; ask(manager, &map(), mapper, chooser), Shown::Region(1));
+    assert_eq!(rt; ask(manager, &store()?, mapper, chooser), Shown::Done);
+    assert_eq!(rt; ask(manager, &close(), mapper, chooser), Shown::Done);
+    assert_eq!(rt; ask(manager, &close(), mapper, chooser), Shown::Done);
+    assert_eq!(rt;
+        ask(manager, &close(), mapper, chooser),
+        Shown::Refused(Refusal::NotOpen)
+    );
+    assert_eq!(rt; ask(manager, &load(), mapper, chooser), Shown::Byte(0x58));
+    let unmap = KeepCommand::Plain(Command::Unmap(RegionId(1)));
+    assert_eq!(rt; ask(manager, &unmap, mapper, chooser), Shown::Done);
+    Ok(())
 }
 
 #[test]
@@ -120,19 +159,24 @@ fn a_kept_cache_is_opened_again(rt: HostRuntime) -> Result<(), Fail> {
     let mut mapper = MemoryMapper::new(rt.alloc(), &segments, &[], 0, &[], 4096)?;
     let gmi = EagerMachine::new(rt.alloc(), 4, 4096);
     let mut manager = SegManager::new::<MemoryMapper, Fifo>(rt.alloc(), gmi, 1);
-    play(&rt, &mut manager, &mut mapper)?;
+    let (mapper, chooser) = (&mut mapper, &mut Fifo::new());
+    lose(&rt, &mut manager, mapper, chooser)?;
     assert!(rt; manager.hidden(CacheId(1)));
-    let chooser = &mut Fifo::new();
-    let open = KeepCommand::Plain(Command::OpenSegment(SegId(1)));
+    let temp = KeepCommand::Plain(Command::MakeTemp(1));
     assert_eq!(rt;
-        seen(manager.call(&open, &mut mapper, chooser)),
+        ask(&mut manager, &temp, mapper, chooser),
+        Shown::Cache(2)
+    );
+    assert_eq!(rt;
+        ask(&mut manager, &copy(1), mapper, chooser),
+        Shown::Refused(Refusal::NoCache)
+    );
+    assert_eq!(rt;
+        ask(&mut manager, &open(), mapper, chooser),
         Shown::Cache(1)
     );
     assert!(rt; !manager.hidden(CacheId(1)));
-    assert_eq!(rt;
-        seen(manager.call(&copy(), &mut mapper, chooser)),
-        Shown::Done
-    );
+    assert_eq!(rt; ask(&mut manager, &copy(1), mapper, chooser), Shown::Done);
     Ok(())
 }
 
@@ -142,17 +186,22 @@ fn where_none_is_kept_a_segment_is_opened_anew(rt: HostRuntime) -> Result<(), Fa
     let mut mapper = MemoryMapper::new(rt.alloc(), &segments, &[], 0, &[], 4096)?;
     let gmi = EagerMachine::new(rt.alloc(), 4, 4096);
     let mut manager = SegManager::new::<MemoryMapper, Fifo>(rt.alloc(), gmi, 0);
-    play(&rt, &mut manager, &mut mapper)?;
-    assert_eq!(rt; first_stored(&mapper), 0x58);
-    let chooser = &mut Fifo::new();
-    let open = KeepCommand::Plain(Command::OpenSegment(SegId(1)));
+    let (mapper, chooser) = (&mut mapper, &mut Fifo::new());
+    lose(&rt, &mut manager, mapper, chooser)?;
+    assert!(rt; !manager.hidden(CacheId(1)));
+    let temp = KeepCommand::Plain(Command::MakeTemp(1));
     assert_eq!(rt;
-        seen(manager.call(&open, &mut mapper, chooser)),
+        ask(&mut manager, &temp, mapper, chooser),
+        Shown::Cache(2)
+    );
+    assert_eq!(rt;
+        ask(&mut manager, &open(), mapper, chooser),
         Shown::Cache(3)
     );
     assert_eq!(rt;
-        seen(manager.call(&copy(), &mut mapper, chooser)),
+        ask(&mut manager, &copy(1), mapper, chooser),
         Shown::Refused(Refusal::NoCache)
     );
+    assert_eq!(rt; ask(&mut manager, &copy(3), mapper, chooser), Shown::Done);
     Ok(())
 }
