@@ -236,8 +236,8 @@ module _ (m : Machine) (cs : List Named) where
   noted_less : (ks : List Kept) (room : ℕ) (x : Mapped) (rs : List Mapped) → AreNoted m cs ks room (x ∷ rs) → AreNoted m cs (ks ++ unused_in cs rs x.cache) room rs
   noted_less ks room x rs t =
       let k = keeps_more m cs rs t.caches t.apart x.cache ks (is_unreferenced_by m cs (x ∷ rs)) t.kept t.once t.named
-          (mapped_used (x ∷ rs) x.cache.0 (ap (λ (b : Bool). b || list_any (maps x.cache.0) rs) (eq-eqb x.cache.0 x.cache.0 refl)))
-          (λ q other. ap (λ (b : Bool). option_map_or (λ seg. not (nat_lt 0 (openings_in cs seg) || (b || list_any (maps q) rs))) (segment_of m q) false) (sym (ne_eqb x.cache.0 q (λ s. other (sym s))))) in
+      (mapped_used (x ∷ rs) x.cache.0 (ap (λ (b : Bool). b || list_any (maps x.cache.0) rs) (eq-eqb x.cache.0 x.cache.0 refl)))
+      (λ q other. ap (λ (b : Bool). option_map_or (λ seg. not (nat_lt 0 (openings_in cs seg) || (b || list_any (maps q) rs))) (segment_of m q) false) (sym (ne_eqb x.cache.0 q (λ s. other (sym s))))) in
       record {
         caches = t.caches;
         apart = t.apart;

@@ -119,7 +119,7 @@ module _ (cs : List Named) where
     segments_then None x y f a rises hiding o =
         let w : Machine = o.whole in
         let quiet : IsQuiet openings w o.whole_next = outcome_next openings (IsQuiet openings w) w o.whole_next c f o.segments o.whole_answer rises (quiet_self openings w)
-            ((answered w (hiding_whole ks x w o.is hiding)).quiet (forest_shown f w) o.segments) o.outcome in
+        ((answered w (hiding_whole ks x w o.is hiding)).quiet (forest_shown f w) o.segments) o.outcome in
         ap (λ (z : Machine). segments_in z.caches) o.is_next ∙ segments_blank o.whole_next.caches ∙ quiet.segments ∙ sym (segments_blank w.caches) ∙ sym (ap (λ (z : Machine). segments_in z.caches) o.is)
 
     -- and the regions are the same, where they are with bytes

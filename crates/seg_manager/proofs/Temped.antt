@@ -204,11 +204,14 @@ module _ {Manager X Chooser : Type 0} (M : GhostsOfMapper X) (G : GhostsOfGmi Ma
       not_made none = record {
         call = stays_call M G before old can after left (commands.Plain (MakeTemp pages)) t rises stays
             (λ h. says h (which_at (segments_of (M.held after)) m (machine_at M G left after) (forest M G by gmi middle after (MakeTemp pages) (Err t) thins.can call) pages t its_rises (call_is M G by gmi middle after (MakeTemp pages) (Err t) thins.can call).is.outcome));
-        kept = (kept_behind, (λ e. (let is : t ≡ troubles.Refused refusals.TooMany = cc e in (
-          none is,
-          refused_again (segments_of (M.held after)) m (machine_at M G left after) (forest M G by gmi middle after (MakeTemp pages) (Err t) thins.can call) (G.forest gmi (M.held after)) (MakeTemp pages) (λ x f g h. refl) t its_rises same
-              (call_is M G by gmi middle after (MakeTemp pages) (Err t) thins.can call).is.outcome is,
-        ))));
+        kept = (
+          kept_behind,
+          (λ e. (let is : t ≡ troubles.Refused refusals.TooMany = cc e in (
+            none is,
+            refused_again (segments_of (M.held after)) m (machine_at M G left after) (forest M G by gmi middle after (MakeTemp pages) (Err t) thins.can call) (G.forest gmi (M.held after)) (MakeTemp pages) (λ x f g h. refl) t its_rises same
+                (call_is M G by gmi middle after (MakeTemp pages) (Err t) thins.can call).is.outcome is,
+          ))),
+        );
       }
 
     -- Another cache couldn't make room.

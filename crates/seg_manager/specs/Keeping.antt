@@ -37,8 +37,8 @@ abbrev pub left_one : ReferenceMachine → ℕ → List ℕ
 left_one m n =
     if is_unreferenced m n then option_map_or (λ seg. seg ∷ []) (segment_of m.memory n) [] else []
 
--- The segments of the caches to which nothing refers, of those whose references went, in this order:
--- each where its last reference went.
+-- The segments of the caches to which nothing refers, of those whose references went, in this
+-- order: each where its last reference went.
 abbrev pub left_by : ReferenceMachine → List ℕ → List ℕ
 left_by m [] = []
 left_by m (n ∷ ns) =

@@ -11,8 +11,8 @@ abbrev pub Stored : Type 0
 Stored = ℕ → Option (List Page)
 
 -- The plain machine of actors, caches and regions, in which a named cache lives while an opening or
--- a region refers to it; the pages that are stored for each segment that has no live cache, of which
--- its next one is made; and how many openings of each segment weren't taken back.
+-- a region refers to it; the pages that are stored for each segment that has no live cache, of
+-- which its next one is made; and how many openings of each segment weren't taken back.
 pub record ReferenceMachine : Type 0 where
   pub memory : Machine
   pub stored : Stored
@@ -79,7 +79,8 @@ abbrev pub stored_from : ReferenceMachine → ℕ → List (Option Cache) → St
 stored_from m number [] = m.stored
 stored_from m number (c ∷ cs) = stored_at m number c (stored_from m (number + 1) cs)
 
--- Each named cache that nothing refers to goes, and its pages are those of its segment from then on.
+-- Each named cache that nothing refers to goes, and its pages are those of its segment from then
+-- on.
 abbrev pub let_go : ReferenceMachine → ReferenceMachine
 let_go m = record m {
   memory = record m.memory { caches = used m 1 m.memory.caches };

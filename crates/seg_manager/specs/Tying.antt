@@ -68,9 +68,9 @@ abbrev pub AreOnce : List Kept → Type 0
 AreOnce [] = Unit {0}
 AreOnce (k ∷ ks) = (is_kept ks k.cache.0 ≡ false) × AreOnce ks
 
--- Each cache that a segment names is noted, and each region. No two caches are of one segment. Those
--- to which nothing refers are kept, each once, and there is room to keep all. Where the mapper tells
--- what it holds, the segments back their caches.
+-- Each cache that a segment names is noted, and each region. No two caches are of one segment.
+-- Those to which nothing refers are kept, each once, and there is room to keep all. Where the
+-- mapper tells what it holds, the segments back their caches.
 pub record AreTied (m : Machine) (told : Option Segments) (cs : List Named) (ks : List Kept)
     (room : ℕ) (rs : List Mapped) : Type 0 where
   pub caches : map naming_of cs ≡ namings 1 m.caches

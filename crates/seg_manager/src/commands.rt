@@ -19,9 +19,9 @@ use vm_port::{Chooser, Mapper};
 const NO_CACHE: CacheId = CacheId(0);
 
 impl<G> SegManager<G> {
-    /// Carries a command of the manager's own out. It finds no cache that is hidden. A region refers
-    /// to the cache that it maps, from `map` until `unmap` or `exit`; these two take no memory.
-    /// `temp` is refused as `TooMany` only where no cache is kept any more.
+    /// Carries a command of the manager's own out. It finds no cache that is hidden. A region
+    /// refers to the cache that it maps, from `map` until `unmap` or `exit`; these two take no
+    /// memory. `temp` is refused as `TooMany` only where no cache is kept any more.
     pub fn answer<M: Mapper, C: Chooser>(
         &mut self,
         command: &Command,

@@ -68,8 +68,8 @@ impl<G> SegManager<G> {
         }
     }
 
-    // Where the manager has no room for a cache, the least recently used one is destroyed, if one is
-    // kept. Any other trouble stays the answer.
+    // Where the manager has no room for a cache, the least recently used one is destroyed, if one
+    // is kept. Any other trouble stays the answer.
     pub(crate) fn make_room<M: Mapper, C: Chooser>(
         &mut self,
         trouble: Trouble,

@@ -82,8 +82,8 @@ impl<G> SegManager<G> {
         }
     }
 
-    /// Takes an opening of a segment back. Refused as `NotOpen` exactly where none is left. It takes
-    /// no memory.
+    /// Takes an opening of a segment back. Refused as `NotOpen` exactly where none is left. It
+    /// takes no memory.
     pub fn release<M: Mapper, C: Chooser>(
         &mut self,
         seg: SegId,

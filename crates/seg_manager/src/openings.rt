@@ -14,8 +14,8 @@ use vm_ids::{CacheId, Command, NoMemory, SegId, Trouble};
 use vm_port::{Chooser, Mapper};
 
 impl<G> SegManager<G> {
-    // Another opening of a segment that has a cache, which is kept no longer. Openings are counted by
-    // 64 bits: to open a segment more often would take memory that there isn't.
+    // Another opening of a segment that has a cache, which is kept no longer. Openings are counted
+    // by 64 bits: to open a segment more often would take memory that there isn't.
     pub(crate) fn open_again(&mut self, place: usize) -> Result<CacheId, Trouble>
         requires { place < length self.old.caches.items }
         ensures { IsOpenedAgain self.old place result self.new }

@@ -98,11 +98,7 @@ fn store() -> Result<KeepCommand, Fail>
     ensures { IfOk result (λ c. IsKeepWellFormed c) }
 {
     let piece = Piece::new(&[0x58]).ok_or("no piece")?;
-    Ok(KeepCommand::Plain(Command::Store(
-        ActorId(1),
-        0x10000,
-        piece,
-    )))
+    Ok(KeepCommand::Plain(Command::Store(ActorId(1), 0x10000, piece)))
 }
 
 fn load() -> KeepCommand
@@ -163,10 +159,7 @@ fn a_kept_cache_is_opened_again(rt: HostRuntime) -> Result<(), Fail> {
     lose(&rt, &mut manager, mapper, chooser)?;
     assert!(rt; manager.hidden(CacheId(1)));
     let temp = KeepCommand::Plain(Command::MakeTemp(1));
-    assert_eq!(rt;
-        ask(&mut manager, &temp, mapper, chooser),
-        Shown::Cache(2)
-    );
+    assert_eq!(rt; ask(&mut manager, &temp, mapper, chooser), Shown::Cache(2));
     assert_eq!(rt;
         ask(&mut manager, &copy(1), mapper, chooser),
         Shown::Refused(Refusal::NoCache)
@@ -190,10 +183,7 @@ fn where_none_is_kept_a_segment_is_opened_anew(rt: HostRuntime) -> Result<(), Fa
     lose(&rt, &mut manager, mapper, chooser)?;
     assert!(rt; !manager.hidden(CacheId(1)));
     let temp = KeepCommand::Plain(Command::MakeTemp(1));
-    assert_eq!(rt;
-        ask(&mut manager, &temp, mapper, chooser),
-        Shown::Cache(2)
-    );
+    assert_eq!(rt; ask(&mut manager, &temp, mapper, chooser), Shown::Cache(2));
     assert_eq!(rt;
         ask(&mut manager, &open(), mapper, chooser),
         Shown::Cache(3)

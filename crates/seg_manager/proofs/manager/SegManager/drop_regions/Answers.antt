@@ -10,8 +10,10 @@ remove-mapped-requires g c = omega (arith, place_below (leaves c.args.leaving) c
 
 pub keep_unused-requires : goal.keep_unused-requires
 keep_unused-requires g c =
-    record { room = room_more c.args.self.now c.args.leaving c.loop-place.self c.loop-place.invariant c.requires.room c.in-Some.place (c.in-Some.ensures ∙ ap (position_from (leaves c.args.leaving) 0) c.deref.ensures.value)
-        c.remove-mapped.new.self.items c.remove-mapped.ensures.items c.remove-mapped.result c.remove-mapped.ensures.value }
+    record {
+      room = room_more c.args.self.now c.args.leaving c.loop-place.self c.loop-place.invariant c.requires.room c.in-Some.place (c.in-Some.ensures ∙ ap (position_from (leaves c.args.leaving) 0) c.deref.ensures.value)
+          c.remove-mapped.new.self.items c.remove-mapped.ensures.items c.remove-mapped.result c.remove-mapped.ensures.value;
+    }
 
 pub loop-place-preserved : goal.loop-place-preserved
 loop-place-preserved g c =
