@@ -53,6 +53,7 @@ use Rattle.seg_manager.specs.ReferenceMachine.{start as no_openings}
 use Rattle.seg_manager.specs.Stepping.{State as SegmentState}
 use Rattle.seg_manager.specs.Tying.{IsBare as IsBareForSegments}
 use Rattle.replay.specs.Ending.{CommandScene, EndsAs, KeepEnds, MixEnds, Outside, PortEnds, RunEnds, scene_of_ports, scene_of_processes, scene_of_segments, scene_with, status_of, stored_in}
+use Rattle.replay.specs.Managing.{CanCall}
 use Rattle.replay.specs.Posting.{port_semantics}
 use Rattle.replay.specs.Processing.{process_semantics}
 use Rattle.replay.specs.Reopening.{keep_semantics}
@@ -187,6 +188,23 @@ fits_start told frames bytes named m h same e = subst (Fits told) (sym e) (by to
     by None h = tt
     by (Some n) h = h ∙ same
 
+pub live_start : (frames bytes : ℕ) (m : Machine) → m ≡ start frames bytes → live_pages m ≤ LIVE_PAGES
+live_start frames bytes m e = subst (λ (x : Machine). live_pages x ≤ LIVE_PAGES) (sym e) (omega arith)
+
+pub living_start : (frames bytes : ℕ) (m : Machine) → m ≡ start frames bytes → living_actors m ≤ LIVING_ACTORS
+living_start frames bytes m e = subst (λ (x : Machine). living_actors x ≤ LIVING_ACTORS) (sym e) (omega arith)
+
+-- what it takes to call a manager that began
+pub can_call : {Manager Mapper Chooser : Type 0} (G : GhostsOfGmi Manager Mapper Chooser) (gmi : Manager) (told : Option Held) (page_bytes : Option ℕ) (frames bytes : ℕ)
+    → G.valid gmi told → G.room gmi ≡ None → IfSome page_bytes (λ n. n ≡ bytes) → G.machine gmi told ≡ start frames bytes → CanCall G gmi told page_bytes
+can_call G gmi told page_bytes frames bytes valid unlimited pages starts = record {
+  valid = valid;
+  unlimited = unlimited;
+  fits = fits_start page_bytes frames bytes bytes (G.machine gmi told) pages refl starts;
+  live = live_start frames bytes (G.machine gmi told) starts;
+  living = living_start frames bytes (G.machine gmi told) starts;
+}
+
 -- what it takes to make processes over a manager that began
 pub bare_start : {Manager Mapper Chooser : Type 0} (G : GhostsOfGmi Manager Mapper Chooser) (gmi : Manager) (told : Option Held) (page_bytes : Option ℕ) (frames named : ℕ)
     → G.valid gmi told → G.room gmi ≡ None → IfSome page_bytes (λ n. n ≡ named) → named ≡ PAGE → G.machine gmi told ≡ start frames PAGE → IsBare G gmi told page_bytes
@@ -262,12 +280,6 @@ too_many (Some all) None script size t h = absurd (cc)
 too_many (Some all) (Some rest) script size t h = let n = taken (Some all) (Some rest) script t in absurd (omega (arith, n, size, h))
 
 -- what it takes to answer the first line
-
-pub live_start : (frames bytes : ℕ) (m : Machine) → m ≡ start frames bytes → live_pages m ≤ LIVE_PAGES
-live_start frames bytes m e = subst (λ (x : Machine). live_pages x ≤ LIVE_PAGES) (sym e) (omega arith)
-
-pub living_start : (frames bytes : ℕ) (m : Machine) → m ≡ start frames bytes → living_actors m ≤ LIVING_ACTORS
-living_start frames bytes m e = subst (λ (x : Machine). living_actors x ≤ LIVING_ACTORS) (sym e) (omega arith)
 
 pub of_source_fault : (e : Ended) → status_of e ≡ statuses.SourceFault → e ≡ ended.SourceFault
 of_source_fault ended.Done h = absurd (cc h)

@@ -1,5 +1,5 @@
 -- What was answered and written when the program ends.
-use Rattle.std.specs.Prelude.{◌≡◌, ◌≤◌, ℕ, Bool, true, false, List, [], ◌++◌, length, map, codes, Option, Some, IfSome, IsSomeAnd, Ok}
+use Rattle.std.specs.Prelude.{◌≡◌, ◌≤◌, ℕ, Bool, true, false, List, [], ◌++◌, length, map, codes, Option, None, Some, IfSome, IsSomeAnd, Ok}
 use Rattle.std.specs.List.{flat_map}
 use Rattle.std.specs.FinMap.{get}
 use Rattle.vm_ids.specs.Counting.{MapperCounts, no_counts}

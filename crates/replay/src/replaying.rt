@@ -110,9 +110,8 @@ pub fn replay_processes<S: Source, K: Sink, M: Mapper, C: Chooser, D: Dispatcher
         Ok(manager) => manager,
         Err(_) => return Status::NoMemory,
     };
-    let mut processes = AtOnce {
-        answerer: Mix::new::<M, C>(alloc, manager),
-    };
+    let answerer = Mix::new::<M, C>(alloc, manager);
+    let mut processes = AtOnce { answerer };
     replay_lines(
         alloc, &mut processes, source, sink, mapper, chooser, dispatcher,
     )
@@ -144,9 +143,8 @@ pub fn replay_messages<S: Source, K: Sink, M: Mapper, C: Chooser, D: Dispatcher>
         Ok(manager) => manager,
         Err(_) => return Status::NoMemory,
     };
-    let mut ports = AtOnce {
-        answerer: Ports::new::<M, C>(alloc, manager),
-    };
+    let answerer = Ports::new::<M, C>(alloc, manager);
+    let mut ports = AtOnce { answerer };
     replay_lines(
         alloc, &mut ports, source, sink, mapper, chooser, dispatcher,
     )
@@ -179,9 +177,8 @@ pub fn replay_segments<S: Source, K: Sink, M: Mapper, C: Chooser, D: Dispatcher>
         Ok(manager) => manager,
         Err(_) => return Status::NoMemory,
     };
-    let mut segments = AtOnce {
-        answerer: SegManager::new::<M, C>(alloc, manager, limit),
-    };
+    let answerer = SegManager::new::<M, C>(alloc, manager, limit);
+    let mut segments = AtOnce { answerer };
     replay_lines(
         alloc, &mut segments, source, sink, mapper, chooser, dispatcher,
     )
