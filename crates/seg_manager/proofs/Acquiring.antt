@@ -1,51 +1,46 @@
 -- A segment that has a cache is opened once more: what that call of the manager of segments comes to.
-use Rattle.std.proofs.Common.{◌≡◌, ◌≢◌, ◌==◌, ◌⊎◌, ℕ, zero, suc, ◌+◌, ◌-◌, ◌<◌, ◌≤◌, Bool, true, false, cond, List, [], ◌∷◌, ◌++◌, length, set, map, filter, Option, Some, None, refl, sym, ap, subst, ◌∙◌, arith, inl, inr}
-use Rattle.std.specs.Prelude.{◌||◌, IfNone, IfSome, IfOk, Ok, Err, Result, is_some, nat_le, nat_lt, not, option_and_then, option_map, replicate, slice_get, slice_set}
+use Rattle.std.proofs.Common.{◌≡◌, ◌==◌, ℕ, ◌+◌, ◌-◌, ◌≤◌, Bool, true, false, cond, List, [], ◌∷◌, ◌++◌, length, set, map, filter, Option, Some, None, refl, sym, ap, subst, ◌∙◌, arith, inl, inr}
+use Rattle.std.specs.Prelude.{◌||◌, IfNone, Ok, Err, Result, is_some, nat_le, not, option_map, replicate, slice_get, slice_set}
 use Rattle.std.specs.FinMap.{get}
 use Rattle.std.specs.List.{AllByRecursion, list_any, position_from}
-use Rattle.std.specs.Option.{option_map_or}
 use Rattle.std.specs.VecDeque.{deque_capacity}
-use Rattle.std.proofs.lemmas.Bool.{cases_eq, eq-eqb, eqb-true, ne_eqb}
+use Rattle.std.proofs.lemmas.Bool.{cases_eq, eq-eqb, ne_eqb}
 use Rattle.std.proofs.lemmas.Bool.Decides.{nat_tests}
 use Rattle.std.proofs.lemmas.Option.{slice_get_within}
 use Rattle.vm_ids.specs.Counting.{MapperCounts, no_counts}
-use Rattle.vm_ids.specs.Held.{Held, Segments, segments_of}
+use Rattle.vm_ids.specs.Held.{Segments, segments_of}
 use Rattle.vm_ids.specs.declared.command.Command.TheVariants.{OpenSegment}
-use Rattle.vm_ids.specs.declared.command.KeepCommand.{KeepCommand}
 use Rattle.vm_ids.specs.declared.command.KeepCommand.TheVariants as commands
 use Rattle.vm_ids.specs.declared.numbers.CacheId.{CacheId}
 use Rattle.vm_ids.specs.declared.numbers.SegId.{SegId}
-use Rattle.vm_ids.specs.declared.refusal.Refusal.TheVariants.{NoSegment}
 use Rattle.vm_ids.specs.declared.reply.Reply.TheVariants as replies
 use Rattle.vm_ids.specs.declared.reply.Trouble.{Trouble}
 use Rattle.vm_ids.specs.declared.reply.Trouble.TheVariants as troubles
 use Rattle.vm_model.specs.Answering.{opened}
-use Rattle.vm_model.specs.Machine.{Cache, Machine, Page, cache_named, cache_of, numbered, segment_of}
-use Rattle.vm_model.specs.Outcome.{IsNotRefused, blank, blank_cache}
-use Rattle.vm_model.proofs.Parts.Lists.{numbered_place}
+use Rattle.vm_model.specs.Machine.{Cache, Machine, Page, cache_of, numbered, segment_of}
+use Rattle.vm_model.specs.Outcome.{blank, blank_cache}
 use Rattle.vm_model.proofs.Parts.ListParts.{numbered_past}
-use Rattle.vm_model.proofs.Parts.Naming.{only_named, segment_cache}
+use Rattle.vm_model.proofs.Parts.Naming.{only_named}
 use Rattle.vm_model.proofs.Parts.Pairs.{each_by}
 use Rattle.vm_port.specs.declared.traits.mapper.Mapper.{Ghosts as GhostsOfMapper}
 use Rattle.gmi_calls.specs.declared.gmi.Gmi.{Ghosts as GhostsOfGmi}
 use Rattle.gmi_calls.proofs.Rising.{rise_none}
-use Rattle.seg_manager.specs.Answering.{Answered, open_anew, open_by, open_of, reply_cache}
+use Rattle.seg_manager.specs.Answering.{open_anew, open_by, open_of, reply_cache}
 use Rattle.seg_manager.specs.Calling.{Acquires}
-use Rattle.seg_manager.specs.Inner.{IsOpenedAgain, OpensAgain, first_of, is_of}
+use Rattle.seg_manager.specs.Inner.{IsOpenedAgain, OpensAgain, first_of}
 use Rattle.seg_manager.specs.Keeping.{IsAcquired}
 use Rattle.seg_manager.specs.Outcome.{Outcome}
-use Rattle.seg_manager.specs.ReferenceMachine.{ReferenceMachine, Stored, add_cache, number_in, open_one, stored_from, take_stored, used, with_cache}
-use Rattle.seg_manager.specs.Seen.{is_kept, kept_segments, openings_in, references_seen, state_of, stored_beside, whole_of}
-use Rattle.seg_manager.specs.Stepping.{State, StepAt, blank_references}
+use Rattle.seg_manager.specs.ReferenceMachine.{ReferenceMachine, add_cache, number_in, open_one, take_stored, used, with_cache}
+use Rattle.seg_manager.specs.Seen.{is_kept, kept_segments, references_seen, state_of, stored_beside, whole_of}
+use Rattle.seg_manager.specs.Stepping.{StepAt}
 use Rattle.seg_manager.specs.Tying.{AreTied, CanCall, is_unreferenced}
 use Rattle.seg_manager.specs.declared.manager.SegManager.{SegManager}
 use Rattle.seg_manager.specs.declared.tables.Kept.{Kept}
 use Rattle.seg_manager.specs.declared.tables.Mapped.{Mapped}
 use Rattle.seg_manager.specs.declared.tables.Named.{Named}
 use Rattle.seg_manager.proofs.Coming.{stored_all, stored_turn, used_all, used_turn}
-use Rattle.seg_manager.proofs.Entries.{filter_all, map_filter}
 use Rattle.seg_manager.proofs.Going.{Caches, length_used}
-use Rattle.seg_manager.proofs.Opening.{alike, alike_but, at, c, it, mine, n, nothing_there, number, number_hidden, number_seen, of, openings_fun, others_kept, stays_there, stored_there, tied_again}
+use Rattle.seg_manager.proofs.Opening.{alike, alike_but, at, it, mine, n, nothing_there, number, number_hidden, number_seen, of, openings_fun, others_kept, stays_there, stored_there, tied_again}
 use Rattle.seg_manager.proofs.Releasing.{blank_told, number_is}
 use Rattle.seg_manager.proofs.Stated.{state_over}
 use Rattle.seg_manager.proofs.Steps.{AreSeen, blank_used, seen_blank, step_whole}

@@ -1,12 +1,12 @@
 -- A region is mapped: what that call of the manager of segments comes to.
-use Rattle.std.proofs.Common.{◌≡◌, ◌≢◌, inl, inr, ◌==◌, ℕ, ◌+◌, ◌-◌, ◌≤◌, Bool, true, false, List, [], ◌∷◌, ◌++◌, length, map, Option, Some, None, refl, sym, ap, subst, ◌∙◌, arith}
+use Rattle.std.proofs.Common.{◌≡◌, inl, inr, ◌==◌, ℕ, ◌+◌, ◌-◌, Bool, true, false, List, map, Option, Some, None, refl, sym, ap, subst, ◌∙◌, arith}
 use Rattle.std.specs.Prelude.{◌||◌, Ok, Err, insert, nat_lt, not}
 use Rattle.std.specs.Global.{Vec}
 use Rattle.std.specs.List.{list_any}
 use Rattle.std.specs.Option.{option_map_or}
 use Rattle.std.specs.VecDeque.{deque_capacity}
 use Rattle.std.proofs.lemmas.Bool.{cases_eq, eq-eqb, ne_eqb}
-use Rattle.vm_ids.specs.Counting.{MapperCounts, no_counts}
+use Rattle.vm_ids.specs.Counting.{no_counts}
 use Rattle.vm_ids.specs.Held.{Segments, segments_of}
 use Rattle.vm_ids.specs.declared.command.Command.TheVariants.{Map}
 use Rattle.vm_ids.specs.declared.command.KeepCommand.TheVariants.{Plain}
@@ -16,8 +16,8 @@ use Rattle.vm_ids.specs.declared.numbers.RegionId.{RegionId}
 use Rattle.vm_ids.specs.declared.reply.Reply.TheVariants as replies
 use Rattle.vm_ids.specs.declared.reply.Trouble.{Trouble}
 use Rattle.vm_ids.specs.declared.reply.Trouble.TheVariants as troubles
-use Rattle.vm_model.specs.Answering.{Answer, is_mapped, maps_in, region_of}
-use Rattle.vm_model.specs.Machine.{Actor, Machine, segment_of}
+use Rattle.vm_model.specs.Answering.{Answer, maps_in, region_of}
+use Rattle.vm_model.specs.Machine.{Machine, segment_of}
 use Rattle.vm_model.specs.Outcome.{OutcomeAt}
 use Rattle.vm_port.specs.declared.traits.mapper.Mapper.{Ghosts as GhostsOfMapper}
 use Rattle.gmi_calls.specs.Calling.{CallDone, MapperCall}
@@ -27,8 +27,8 @@ use Rattle.gmi_calls.proofs.Rising.{rise_none}
 use Rattle.gmi_calls.proofs.Still.{without_mapper}
 use Rattle.seg_manager.specs.Calling.{Serves}
 use Rattle.seg_manager.specs.Inner.{mapping_shown, place_from, shown}
-use Rattle.seg_manager.specs.Seen.{maps, openings_in, whole_of}
-use Rattle.seg_manager.specs.Tying.{AreTied, CanCall, noted_of, noted_region, noted_regions}
+use Rattle.seg_manager.specs.Seen.{maps, openings_in}
+use Rattle.seg_manager.specs.Tying.{AreTied, CanCall, noted_of, noted_regions}
 use Rattle.seg_manager.specs.declared.manager.SegManager.{SegManager}
 use Rattle.seg_manager.specs.declared.tables.Kept.{Kept}
 use Rattle.seg_manager.specs.declared.tables.Mapped.{Mapped}

@@ -1,26 +1,23 @@
 -- A segment without a cache is opened: what is seen, and what is noted.
-use Rattle.std.proofs.Common.{◌≡◌, ◌≢◌, ◌==◌, ◌⊎◌, ℕ, zero, suc, ◌+◌, ◌-◌, ◌<◌, ◌≤◌, Bool, true, false, cond, List, [], ◌∷◌, ◌++◌, length, set, map, Option, Some, None, refl, sym, ap, subst, ◌∙◌, arith, inl, inr}
-use Rattle.std.specs.Prelude.{◌||◌, IfNone, IfSome, is_some, nat_le, nat_lt, not, option_and_then, option_map, replicate, slice_get, slice_set}
+use Rattle.std.proofs.Common.{◌≡◌, ◌≢◌, ◌==◌, ◌⊎◌, ℕ, zero, suc, ◌+◌, ◌-◌, ◌<◌, ◌≤◌, Bool, true, false, cond, List, [], ◌∷◌, ◌++◌, length, map, Option, Some, None, refl, sym, ap, ◌∙◌, arith, inl, inr}
+use Rattle.std.specs.Prelude.{◌||◌, IfSome, is_some, nat_le, nat_lt, not, option_and_then, option_map, replicate, slice_get, slice_set}
 use Rattle.std.specs.FinMap.{get}
-use Rattle.std.specs.List.{AllByRecursion, list_any, position_from}
+use Rattle.std.specs.List.{AllByRecursion, position_from}
 use Rattle.std.specs.Option.{option_map_or}
 use Rattle.std.proofs.lemmas.Bool.{cases_eq, eq-eqb, eqb-true, ne_eqb}
 use Rattle.std.proofs.lemmas.Bool.Decides.{nat_tests}
-use Rattle.std.proofs.lemmas.List.{append-nil, length-append, length-map, map-append}
-use Rattle.std.proofs.lemmas.Option.{slice_get_within}
+use Rattle.std.proofs.lemmas.List.{append-nil, length-append, map-append}
 use Rattle.vm_ids.specs.Held.{Segments}
 use Rattle.vm_ids.specs.declared.numbers.SegId.{SegId}
 use Rattle.vm_model.specs.Answering.{is_mapped, opened}
-use Rattle.vm_model.specs.Machine.{Cache, Machine, Page, cache_named, cache_of, is_named_by, numbered, segment_of}
+use Rattle.vm_model.specs.Machine.{Cache, Machine, Page, cache_named, cache_of, is_named_by, segment_of}
 use Rattle.vm_model.specs.Outcome.{blank, blank_cache}
 use Rattle.vm_model.proofs.Parts.ListParts.{at_some, numbered_past, numbered_push, numbered_pushed}
-use Rattle.vm_model.proofs.Parts.Lists.{numbered_place}
-use Rattle.vm_model.proofs.Parts.Naming.{segment_cache}
 use Rattle.vm_model.proofs.Parts.Pairs.{each_by}
 use Rattle.gmi_calls.specs.Backing.{AreBacked}
 use Rattle.seg_manager.specs.Inner.{first_of, named_with}
-use Rattle.seg_manager.specs.ReferenceMachine.{ReferenceMachine, Stored, add_cache, goes, open_one, stored_from, take_stored, used, used_at, with_cache}
-use Rattle.seg_manager.specs.Seen.{is_kept, openings_in, references_seen, stored_beside, whole_of}
+use Rattle.seg_manager.specs.ReferenceMachine.{ReferenceMachine, add_cache, goes, open_one, stored_from, take_stored, used, with_cache}
+use Rattle.seg_manager.specs.Seen.{is_kept, openings_in, references_seen, whole_of}
 use Rattle.seg_manager.specs.Stepping.{blank_references}
 use Rattle.seg_manager.specs.Tying.{AreTied, is_unreferenced, naming_at, naming_of, namings}
 use Rattle.seg_manager.specs.declared.tables.Kept.{Kept}
@@ -29,10 +26,10 @@ use Rattle.seg_manager.specs.declared.tables.Named.{Named}
 use Rattle.seg_manager.proofs.Coming.{GoAlike, used_all}
 use Rattle.seg_manager.proofs.Entries.{fun_same}
 use Rattle.seg_manager.proofs.Going.{Caches, length_used, push_used}
-use Rattle.seg_manager.proofs.Naming.{append_named, has_named}
+use Rattle.seg_manager.proofs.Naming.{append_named}
 use Rattle.seg_manager.proofs.Opened.{appended, number_next}
-use Rattle.seg_manager.proofs.Pushed.{Follow, Told, has_number}
-use Rattle.seg_manager.proofs.Steps.{blank_used, seen_blank}
+use Rattle.seg_manager.proofs.Pushed.{Follow, has_number}
+use Rattle.seg_manager.proofs.Steps.{blank_used}
 use Rattle.seg_manager.proofs.Storing.{apart_by, named_self, stored_free, stored_one}
 use Rattle.seg_manager.proofs.Unused.{entry_there, named_openings, ones_of}
 

@@ -1,32 +1,27 @@
 -- A segment that has no cache is opened: what that call of the manager of segments comes to.
-use Rattle.std.proofs.Common.{◌≡◌, ◌≢◌, ◌==◌, ◌⊎◌, inl, inr, ℕ, zero, suc, ◌+◌, ◌-◌, ◌*◌, ◌^◌, ◌<◌, ◌≤◌, Bool, true, false, cond, List, [], ◌∷◌, ◌++◌, length, map, drop, Option, Some, None, refl, sym, ap, subst, ◌∙◌, arith}
-use Rattle.std.specs.Prelude.{◌||◌, IfNone, IfSome, IfOk, Ok, Err, Result, is_some, option_and_then, option_map, slice_get}
+use Rattle.std.proofs.Common.{◌≡◌, ◌==◌, inl, inr, ℕ, suc, ◌+◌, ◌-◌, ◌^◌, ◌<◌, ◌≤◌, Bool, true, false, cond, List, [], ◌∷◌, ◌++◌, length, drop, Option, Some, None, refl, sym, ap, subst, ◌∙◌, arith}
+use Rattle.std.specs.Prelude.{◌||◌, IfNone, IfSome, Ok, Err, Result, is_some, option_and_then, option_map, slice_get}
 use Rattle.std.specs.FinMap.{get}
 use Rattle.std.specs.List.{AllByRecursion, list_any, position_from}
 use Rattle.std.specs.Option.{option_map_or}
 use Rattle.std.specs.VecDeque.{deque_capacity}
-use Rattle.std.proofs.lemmas.Bool.{cases_eq, eq-eqb, eqb-true, ne_eqb}
+use Rattle.std.proofs.lemmas.Bool.{eqb-true, ne_eqb}
 use Rattle.std.proofs.lemmas.List.{drop-map, length-append}
 use Rattle.vm_ids.specs.Counting.{MapperCounts, counts_sum, no_counts}
-use Rattle.vm_ids.specs.Held.{Held, Segments, segments_of}
+use Rattle.vm_ids.specs.Held.{Segments, segments_of}
 use Rattle.vm_ids.specs.declared.command.Command.TheVariants.{OpenSegment}
 use Rattle.vm_ids.specs.declared.command.KeepCommand.TheVariants as commands
 use Rattle.vm_ids.specs.declared.numbers.CacheId.{CacheId}
 use Rattle.vm_ids.specs.declared.numbers.SegId.{SegId}
-use Rattle.vm_ids.specs.declared.refusal.Refusal.{Refusal}
 use Rattle.vm_ids.specs.declared.refusal.Refusal.TheVariants as refusals
 use Rattle.vm_ids.specs.declared.reply.FaultAt.{FaultAt}
 use Rattle.vm_ids.specs.declared.reply.FaultAt.TheVariants as faults
 use Rattle.vm_ids.specs.declared.reply.Reply.TheVariants as replies
 use Rattle.vm_ids.specs.declared.reply.Trouble.{Trouble}
 use Rattle.vm_ids.specs.declared.reply.Trouble.TheVariants as troubles
-use Rattle.vm_model.specs.Answering as plain
-use Rattle.vm_model.specs.Answering.{Answer, opened}
-use Rattle.vm_model.specs.Outcome as plain_outcome
-use Rattle.vm_model.specs.Machine.{Cache, Machine, Page, cache_named, cache_of, is_named_by, numbered, segment_of}
-use Rattle.vm_model.specs.Outcome.{IsAlike, OutcomeAt, blank}
-use Rattle.vm_model.specs.PageForest.{PageForest}
-use Rattle.vm_model.specs.declared.limits.TheConstants.{LIVE_PAGES, MOST_MADE}
+use Rattle.vm_model.specs.Answering.{opened}
+use Rattle.vm_model.specs.Machine.{Cache, Machine, Page, cache_named, cache_of, is_named_by, segment_of}
+use Rattle.vm_model.specs.Outcome.{blank}
 use Rattle.vm_model.proofs.Parts.ListParts.{at_some, numbered_past}
 use Rattle.vm_port.specs.declared.traits.mapper.Mapper.{Ghosts as GhostsOfMapper}
 use Rattle.gmi_calls.specs.Backing.{AreBacked}
@@ -35,14 +30,14 @@ use Rattle.gmi_calls.specs.Managing.{meanings_of}
 use Rattle.gmi_calls.specs.declared.gmi.Gmi.{Ghosts as GhostsOfGmi}
 use Rattle.gmi_calls.proofs.Rising.{rise_none, rise_then}
 use Rattle.seg_manager.specs.Answering.{Answered, open_anew, open_by, open_of, refuse, reply_cache}
-use Rattle.seg_manager.specs.Calling.{Acquires, HasNoRoom}
+use Rattle.seg_manager.specs.Calling.{Acquires}
 use Rattle.seg_manager.specs.Inner.{first_of}
 use Rattle.seg_manager.specs.Keeping.{AreBehind, IsAcquired}
 use Rattle.seg_manager.specs.Outcome.{GoesOn, Outcome}
-use Rattle.seg_manager.specs.ReferenceMachine.{ReferenceMachine, number_in, number_named, stored_from, used}
-use Rattle.seg_manager.specs.Seen.{is_kept, kept_segments, references_seen, state_of, whole_of}
-use Rattle.seg_manager.specs.Stepping.{State, StepAt, blank_references}
-use Rattle.seg_manager.specs.Thinning.{Fails, IsDestroyFault, IsTried, Thins, Tries, TriesInVain, credit, seen_with}
+use Rattle.seg_manager.specs.ReferenceMachine.{ReferenceMachine, number_in, used}
+use Rattle.seg_manager.specs.Seen.{kept_segments, references_seen, state_of, whole_of}
+use Rattle.seg_manager.specs.Stepping.{State}
+use Rattle.seg_manager.specs.Thinning.{Fails, IsDestroyFault, IsTried, Thins, Tries, credit, seen_with}
 use Rattle.seg_manager.specs.Tying.{AreTied, CanCall}
 use Rattle.seg_manager.specs.declared.manager.SegManager.{SegManager}
 use Rattle.seg_manager.specs.declared.tables.Kept.{Kept}
@@ -57,7 +52,7 @@ use Rattle.seg_manager.proofs.Opened.{Ends, IsOpen, appended, failed, lacks, mad
 use Rattle.seg_manager.proofs.Opening.{number_none, used_entry}
 use Rattle.seg_manager.proofs.Pushed.{Follow, Told}
 use Rattle.seg_manager.proofs.Releasing.{blank_told}
-use Rattle.seg_manager.proofs.Staying.{Stays, blank_seen, refused_again, stays_call}
+use Rattle.seg_manager.proofs.Staying.{refused_again, stays_call}
 use Rattle.seg_manager.proofs.Steps.{AreSeen, seen_blank, step_whole}
 use Rattle.seg_manager.proofs.Storing.{stored_free}
 use Rattle.seg_manager.proofs.Tried.{can_same, none_noted, noted_none, open_ended, open_leaves, seen_same}

@@ -1,6 +1,6 @@
 -- After a call of the manager below its caller can call it again.
 use Rattle.std.proofs.Common.{◌≡◌, ℕ, ◌+◌, ◌*◌, ◌≤◌, true, List, [], ◌∷◌, length, map, Option, Some, None, refl, sym, ap, subst, ◌∙◌, arith}
-use Rattle.std.specs.Prelude.{is_some, option_map, IfNone, IfSome, Ok, Err}
+use Rattle.std.specs.Prelude.{is_some, option_map, IfSome, Ok, Err}
 use Rattle.std.specs.VecDeque.{deque_capacity}
 use Rattle.vm_ids.specs.Counting.{MapperCounts}
 use Rattle.vm_ids.specs.Held.{Held, Segments, segments_of}
@@ -8,7 +8,7 @@ use Rattle.vm_ids.specs.declared.command.Command.{Command}
 use Rattle.vm_ids.specs.declared.reply.Trouble.TheVariants as troubles
 use Rattle.vm_model.specs.Answering.{Answer}
 use Rattle.vm_model.specs.Machine.{Cache, Machine, Page, live_pages}
-use Rattle.vm_model.specs.Outcome.{Outcome, OutcomeAt, blank, blank_cache}
+use Rattle.vm_model.specs.Outcome.{OutcomeAt, blank, blank_cache}
 use Rattle.vm_model.specs.PageForest.{PageForest}
 use Rattle.vm_model.specs.Run.{CallIs}
 use Rattle.vm_model.specs.Run as vm_run
@@ -27,7 +27,7 @@ use Rattle.seg_manager.specs.Thinning.{denied_by}
 use Rattle.seg_manager.specs.declared.manager.SegManager.{SegManager}
 use Rattle.seg_manager.specs.declared.tables.Named.{Named}
 use Rattle.seg_manager.proofs.Destroyed.{seen_pushed}
-use Rattle.seg_manager.proofs.Pushed.{Follow, Told, told_pushed}
+use Rattle.seg_manager.proofs.Pushed.{Told, told_pushed}
 
 unlimited_still : (before now : Option ℕ) → before ≡ None → is_some now ≡ is_some before → now ≡ None
 unlimited_still before None e h = refl

@@ -1,7 +1,7 @@
 -- An opening is taken back.
-use Rattle.std.proofs.Common.{◌≡◌, ◌≢◌, ◌==◌, ◌⊎◌, ℕ, zero, suc, ◌+◌, ◌-◌, ◌<◌, ◌≤◌, Bool, true, false, cond, List, [], ◌∷◌, ◌++◌, length, set, map, Option, Some, None, refl, sym, ap, subst, ◌∙◌, arith, inl, inr}
-use Rattle.std.specs.Prelude.{◌||◌, IfSome, nat_lt, not, option_and_then, slice_get}
-use Rattle.std.specs.List.{AllByRecursion, IsDistinct, list_any, position_from}
+use Rattle.std.proofs.Common.{◌≡◌, ◌≢◌, ◌==◌, ℕ, zero, suc, ◌+◌, ◌-◌, ◌≤◌, Bool, true, false, cond, List, [], ◌∷◌, ◌++◌, length, set, map, Option, Some, None, refl, sym, ap, subst, ◌∙◌, arith, inl, inr}
+use Rattle.std.specs.Prelude.{◌||◌, nat_lt, not, option_and_then, slice_get}
+use Rattle.std.specs.List.{AllByRecursion, IsDistinct, position_from}
 use Rattle.std.specs.Set.{is_member}
 use Rattle.std.specs.Option.{option_map_or}
 use Rattle.std.proofs.lemmas.Bool.{cases_eq, eq-eqb, eqb-true, ne_eqb}
@@ -16,16 +16,14 @@ use Rattle.vm_ids.specs.declared.numbers.SegId.{SegId}
 use Rattle.vm_model.specs.Answering.{is_mapped}
 use Rattle.vm_model.specs.Machine.{Cache, Machine, cache_of, segment_of}
 use Rattle.seg_manager.specs.Inner.{Closes, first_of, named_with, unused_in}
-use Rattle.seg_manager.specs.ReferenceMachine.{ReferenceMachine, close_one, count_openings, goes, let_go}
-use Rattle.seg_manager.specs.Seen.{is_kept, known, openings_in, references_seen, stored_beside, whole_of}
+use Rattle.seg_manager.specs.ReferenceMachine.{ReferenceMachine, close_one, goes}
+use Rattle.seg_manager.specs.Seen.{is_kept, openings_in, references_seen, whole_of}
 use Rattle.seg_manager.specs.Tying.{AreOnce, AreTied, is_unreferenced, naming_of, namings}
 use Rattle.seg_manager.specs.declared.tables.Kept.{Kept}
 use Rattle.seg_manager.specs.declared.tables.Mapped.{Mapped}
 use Rattle.seg_manager.specs.declared.tables.Named.{Named}
 use Rattle.seg_manager.proofs.Entries.{fun_same, named_entries}
-use Rattle.seg_manager.proofs.Steps.{IsSeen, seen_blank, seen_gone}
-use Rattle.seg_manager.proofs.Stated.{state_over}
-use Rattle.seg_manager.proofs.Storing.{GoesToo, absorbed, apart_by}
+use Rattle.seg_manager.proofs.Storing.{GoesToo}
 use Rattle.seg_manager.proofs.Unused.{KeepsMore, entry_there, is_unreferenced_by, keeps_more, unreferenced_same}
 
 -- Openings

@@ -1,10 +1,10 @@
 -- What is seen where a reference comes.
-use Rattle.std.proofs.Common.{◌≡◌, ◌≢◌, ◌==◌, ◌⊎◌, ℕ, zero, suc, ◌+◌, ◌-◌, ◌<◌, ◌≤◌, Bool, true, false, cond, List, [], ◌∷◌, ◌++◌, length, set, Option, Some, None, refl, sym, ap, subst, ◌∙◌, arith, inl, inr}
-use Rattle.std.specs.Prelude.{option_map, slice_get}
+use Rattle.std.proofs.Common.{◌≡◌, ◌≢◌, ◌==◌, ℕ, zero, suc, ◌+◌, Bool, true, false, cond, [], ◌∷◌, set, Option, Some, None, refl, sym, ap, ◌∙◌, arith, inl, inr}
+use Rattle.std.specs.Prelude.{slice_get}
 use Rattle.std.specs.Option.{option_map_or}
 use Rattle.std.proofs.lemmas.Bool.{cases_eq, eq-eqb, eqb-true, ne_eqb}
-use Rattle.vm_model.specs.Machine.{Cache, Machine, Page, cache_named, is_named_by}
-use Rattle.seg_manager.specs.ReferenceMachine.{ReferenceMachine, Stored, goes, let_go, stored_from, take_stored, used, used_at}
+use Rattle.vm_model.specs.Machine.{Cache, cache_named, is_named_by}
+use Rattle.seg_manager.specs.ReferenceMachine.{ReferenceMachine, Stored, goes, stored_from, used, used_at}
 use Rattle.seg_manager.proofs.Entries.{fun_same}
 use Rattle.seg_manager.proofs.Going.{Caches}
 use Rattle.seg_manager.proofs.Pushed.{has_number}

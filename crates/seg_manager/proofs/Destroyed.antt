@@ -1,30 +1,30 @@
 -- A cache goes to which nothing refers: what is seen stays, and what is noted stays tied.
-use Rattle.std.proofs.Common.{◌≡◌, ◌≢◌, ◌==◌, ◌⊎◌, ℕ, zero, suc, ◌+◌, ◌-◌, ◌<◌, ◌≤◌, Bool, true, false, cond, List, [], ◌∷◌, ◌++◌, length, set, map, filter, Option, Some, None, refl, sym, ap, subst, ◌∙◌, arith, inl, inr}
+use Rattle.std.proofs.Common.{◌≡◌, ◌≢◌, ◌==◌, ℕ, zero, suc, ◌+◌, ◌-◌, ◌≤◌, Bool, true, false, cond, List, [], ◌∷◌, set, filter, Option, Some, None, refl, sym, ap, subst, ◌∙◌, arith, inl, inr}
 use Rattle.std.specs.Prelude.{◌||◌, IfSome, is_some, nat_lt, not, option_and_then, slice_get}
 use Rattle.std.specs.FinMap.{get}
-use Rattle.std.specs.List.{AllByRecursion, list_any}
+use Rattle.std.specs.List.{AllByRecursion}
 use Rattle.std.specs.Option.{option_map_or}
 use Rattle.std.proofs.lemmas.Bool.{cases_eq, eq-eqb, eqb-true, ne_eqb}
 use Rattle.std.proofs.lemmas.Bool.Decides.{nat_tests}
 use Rattle.vm_ids.specs.Held.{Segments}
 use Rattle.vm_model.specs.Answering.{is_mapped}
-use Rattle.vm_model.specs.Machine.{Cache, Machine, Page, cache_named, cache_of, is_named_by, numbered, segment_of}
+use Rattle.vm_model.specs.Machine.{Cache, Machine, Page, cache_named, cache_of, is_named_by, segment_of}
 use Rattle.vm_model.proofs.Parts.Lists.{numbered_place}
 use Rattle.vm_model.proofs.Parts.ListParts.{at_some, numbered_set, numbered_set_other}
 use Rattle.vm_model.proofs.Parts.Naming.{segment_cache}
-use Rattle.vm_model.proofs.Parts.Pairs.{each_both, each_by}
+use Rattle.vm_model.proofs.Parts.Pairs.{each_by}
 use Rattle.gmi_calls.specs.Backing.{AreBacked}
 use Rattle.gmi_calls.proofs.Backing.{named_is}
-use Rattle.seg_manager.specs.ReferenceMachine.{ReferenceMachine, Stored, goes, is_open, let_go, stored_from, used}
-use Rattle.seg_manager.specs.Seen.{is_kept, known, openings_in, references_seen, stored_beside, whole_of}
-use Rattle.seg_manager.specs.Tying.{AreOnce, AreTied, is_unreferenced, naming_of, namings}
+use Rattle.seg_manager.specs.ReferenceMachine.{ReferenceMachine, goes, is_open, let_go, stored_from, used}
+use Rattle.seg_manager.specs.Seen.{is_kept, openings_in, references_seen, stored_beside, whole_of}
+use Rattle.seg_manager.specs.Tying.{AreTied, is_unreferenced}
 use Rattle.seg_manager.specs.declared.tables.Kept.{Kept}
 use Rattle.seg_manager.specs.declared.tables.Mapped.{Mapped}
 use Rattle.seg_manager.specs.declared.tables.Named.{Named}
 use Rattle.seg_manager.proofs.Entries.{IsOne, filter_few, fun_same, is_other, named_entries, noted_gone, openings_gone}
 use Rattle.seg_manager.proofs.Going.{Caches, gone_used, goes_same, stored_set, used_same}
 use Rattle.seg_manager.proofs.Naming.{gone_stored, has_named, none_goes, set_named}
-use Rattle.seg_manager.proofs.Pushed.{Follow, Told, all_pushed}
+use Rattle.seg_manager.proofs.Pushed.{Follow, Told}
 
 abbrev pub without : Machine → ℕ → Machine
 without m cache = record m { caches = set m.caches (cache - 1) None }

@@ -1,12 +1,11 @@
 -- The caches that segments name, as they are noted, where one of them goes.
-use Rattle.std.proofs.Common.{◌≡◌, ◌≢◌, ◌==◌, ◌⊎◌, ℕ, zero, suc, ◌+◌, ◌-◌, ◌<◌, ◌≤◌, Bool, true, false, cond, List, [], ◌∷◌, ◌++◌, length, set, map, filter, Option, Some, None, refl, sym, ap, subst, ◌∙◌, arith, inl, inr}
-use Rattle.std.specs.Prelude.{◌||◌, nat_lt, not, option_and_then, slice_get}
+use Rattle.std.proofs.Common.{◌≡◌, ◌≢◌, ◌==◌, ℕ, zero, suc, ◌+◌, ◌-◌, ◌<◌, ◌≤◌, Bool, true, false, cond, List, [], ◌∷◌, ◌++◌, length, set, map, filter, Option, Some, None, refl, sym, ap, subst, ◌∙◌, arith, inl, inr}
+use Rattle.std.specs.Prelude.{not, option_and_then, slice_get}
 use Rattle.std.specs.List.{AllByRecursion}
 use Rattle.std.specs.Option.{option_map_or}
 use Rattle.std.proofs.lemmas.Bool.{cases_eq, eq-eqb, eqb-true, ne_eqb}
-use Rattle.std.proofs.lemmas.Bool.Decides.{nat_tests}
-use Rattle.vm_model.specs.Machine.{Cache, Machine, cache_of, numbered, segment_of}
-use Rattle.vm_model.proofs.Parts.Pairs.{each_append, each_both, each_by}
+use Rattle.vm_model.specs.Machine.{Cache, Machine, cache_of, segment_of}
+use Rattle.vm_model.proofs.Parts.Pairs.{each_append, each_by}
 use Rattle.vm_model.proofs.Parts.ListParts.{at_some}
 use Rattle.seg_manager.specs.Seen.{openings_in}
 use Rattle.seg_manager.specs.Tying.{Naming, naming_at, naming_of, namings}

@@ -1,13 +1,13 @@
 -- Which caches go: those that segments name and to which nothing refers.
-use Rattle.std.proofs.Common.{◌≡◌, ◌==◌, ℕ, zero, suc, ◌+◌, ◌-◌, ◌<◌, ◌≤◌, Bool, true, false, cond, List, [], ◌∷◌, ◌++◌, length, set, Option, Some, None, refl, sym, ap, ◌∙◌, arith, inl, inr}
-use Rattle.std.specs.Prelude.{◌||◌, nat_lt, not, is_some, option_and_then, option_map, slice_get}
+use Rattle.std.proofs.Common.{◌≡◌, ◌==◌, ℕ, zero, suc, ◌+◌, ◌-◌, Bool, true, false, cond, List, [], ◌∷◌, ◌++◌, length, set, Option, Some, None, refl, sym, ap, ◌∙◌, arith, inl, inr}
+use Rattle.std.specs.Prelude.{◌||◌, nat_lt, not, option_and_then, option_map, slice_get}
 use Rattle.std.specs.List.{list_any}
 use Rattle.std.specs.Option.{option_map_or}
 use Rattle.vm_model.specs.Answering.{maps_in}
-use Rattle.vm_model.specs.Machine.{Actor, Cache, Page, cache_named, is_named_by, numbered}
+use Rattle.vm_model.specs.Machine.{Cache, Page, is_named_by, numbered}
 use Rattle.vm_model.proofs.Parts.ListParts.{at_some, at_zero, zero_or}
 use Rattle.seg_manager.specs.ReferenceMachine.{ReferenceMachine, Stored, goes, put_stored, stored_at, stored_from, used, used_at}
-use Rattle.seg_manager.proofs.Naming.{has_named, put_other}
+use Rattle.seg_manager.proofs.Naming.{put_other}
 
 abbrev pub Caches : Type 0
 Caches = List (Option Cache)

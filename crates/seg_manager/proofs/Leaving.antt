@@ -1,33 +1,27 @@
 -- References went, caches are kept, and some of these are destroyed.
-use Rattle.std.proofs.Common.{◌≡◌, ◌≢◌, ◌==◌, ◌⊎◌, ℕ, zero, suc, ◌+◌, ◌-◌, ◌*◌, ◌^◌, ◌<◌, ◌≤◌, Bool, true, false, cond, List, [], ◌∷◌, ◌++◌, length, map, Option, Some, None, refl, sym, ap, subst, ◌∙◌, arith, inl, inr}
-use Rattle.std.specs.Prelude.{◌||◌, IfNone, not, nat_lt, Ok, Err, option_and_then, option_map, slice_get}
-use Rattle.std.specs.List.{AllByRecursion, list_any}
+use Rattle.std.proofs.Common.{◌≡◌, ℕ, ◌+◌, ◌*◌, ◌≤◌, false, cond, List, [], ◌∷◌, ◌++◌, length, map, Option, Some, None, refl, sym, ap, ◌∙◌, arith}
+use Rattle.std.specs.Prelude.{◌||◌, not, nat_lt, option_map}
+use Rattle.std.specs.List.{list_any}
 use Rattle.std.specs.Option.{option_map_or}
-use Rattle.std.specs.VecDeque.{deque_capacity}
-use Rattle.std.proofs.lemmas.List.{length-map, map-append}
-use Rattle.vm_ids.specs.Counting.{MapperCounts}
-use Rattle.vm_ids.specs.Held.{Held, Segments, segments_of}
-use Rattle.vm_ids.specs.declared.command.KeepCommand.{KeepCommand}
-use Rattle.vm_ids.specs.declared.reply.Reply.{Reply}
-use Rattle.vm_model.specs.Answering.{Answer, is_mapped, maps_in}
-use Rattle.vm_model.specs.Machine.{Actor, Cache, Machine, cache_of, live_pages, segment_of}
+use Rattle.std.proofs.lemmas.List.{length-map}
+use Rattle.vm_ids.specs.Held.{Segments, segments_of}
+use Rattle.vm_model.specs.Answering.{maps_in}
+use Rattle.vm_model.specs.Machine.{Cache, Machine, cache_of, segment_of}
 use Rattle.vm_model.specs.declared.limits.TheConstants.{LIVE_PAGES, MOST_MADE}
 use Rattle.vm_port.specs.declared.traits.mapper.Mapper.{Ghosts as GhostsOfMapper}
 use Rattle.gmi_calls.specs.declared.gmi.Gmi.{Ghosts as GhostsOfGmi}
-use Rattle.seg_manager.specs.Calling.{KeepsLast, SegmentCall, below}
-use Rattle.seg_manager.specs.Keeping.{AreLast, left_by, left_one, referred}
-use Rattle.seg_manager.specs.Outcome.{Outcome}
-use Rattle.seg_manager.specs.ReferenceMachine.{ReferenceMachine, goes}
-use Rattle.seg_manager.specs.Seen.{kept_segments, openings_in, references_seen, state_of, whole_of}
-use Rattle.seg_manager.specs.Stepping.{AnswerIs, State}
-use Rattle.seg_manager.specs.Thinning.{Trims, credit, seen_with}
-use Rattle.seg_manager.specs.Tying.{AreTied, CanCall, Naming, is_unreferenced, naming_at, naming_of, namings}
+use Rattle.seg_manager.specs.Calling.{below}
+use Rattle.seg_manager.specs.Keeping.{left_one, referred}
+use Rattle.seg_manager.specs.ReferenceMachine.{ReferenceMachine}
+use Rattle.seg_manager.specs.Seen.{openings_in, references_seen, whole_of}
+use Rattle.seg_manager.specs.Stepping.{State}
+use Rattle.seg_manager.specs.Thinning.{Trims, credit}
+use Rattle.seg_manager.specs.Tying.{CanCall, Naming, is_unreferenced, naming_at, naming_of, namings}
 use Rattle.seg_manager.specs.declared.manager.SegManager.{SegManager}
-use Rattle.seg_manager.specs.declared.tables.Kept.{Kept}
 use Rattle.seg_manager.specs.declared.tables.Named.{Named}
 use Rattle.seg_manager.proofs.Closing.{kept_few}
-use Rattle.seg_manager.proofs.Going.{goes_same, length_used}
-use Rattle.seg_manager.proofs.Steps.{IsSeen, step_by}
+use Rattle.seg_manager.proofs.Going.{length_used}
+use Rattle.seg_manager.proofs.Steps.{IsSeen}
 
 -- What is seen tells openings, actors and how many caches there are.
 

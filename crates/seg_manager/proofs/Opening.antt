@@ -1,42 +1,30 @@
 -- A segment that has a cache is opened once more.
-use Rattle.std.proofs.Common.{◌≡◌, ◌≢◌, ◌==◌, ◌⊎◌, ℕ, zero, suc, ◌+◌, ◌-◌, ◌<◌, ◌≤◌, Bool, true, false, cond, List, [], ◌∷◌, ◌++◌, length, set, map, filter, Option, Some, None, refl, sym, ap, subst, ◌∙◌, arith, inl, inr}
-use Rattle.std.specs.Prelude.{◌||◌, IfNone, IfSome, Ok, Err, nat_le, nat_lt, not, option_and_then, option_map, slice_get}
-use Rattle.std.specs.List.{AllByRecursion, list_any, position_from}
+use Rattle.std.proofs.Common.{◌≡◌, ◌≢◌, ◌==◌, ℕ, suc, ◌+◌, ◌-◌, ◌≤◌, Bool, true, false, cond, List, [], ◌∷◌, length, set, map, filter, Option, Some, None, refl, sym, ap, ◌∙◌, arith, inl, inr}
+use Rattle.std.specs.Prelude.{◌||◌, nat_lt, not, option_and_then, option_map, slice_get}
+use Rattle.std.specs.List.{AllByRecursion, position_from}
 use Rattle.std.specs.Option.{option_map_or}
 use Rattle.std.proofs.lemmas.Bool.{cases_eq, eq-eqb, eqb-true, ne_eqb}
 use Rattle.std.proofs.lemmas.Bool.Decides.{nat_tests}
 use Rattle.std.proofs.lemmas.List.{length-set}
-use Rattle.std.proofs.lemmas.Option.{slice_get_within}
-use Rattle.vm_ids.specs.Counting.{MapperCounts}
 use Rattle.vm_ids.specs.Held.{Segments}
-use Rattle.vm_ids.specs.declared.command.Command.TheVariants.{OpenSegment}
-use Rattle.vm_ids.specs.declared.command.KeepCommand.TheVariants as commands
-use Rattle.vm_ids.specs.declared.numbers.CacheId.{CacheId}
 use Rattle.vm_ids.specs.declared.numbers.SegId.{SegId}
-use Rattle.vm_ids.specs.declared.reply.Reply.TheVariants as replies
-use Rattle.vm_model.specs.Answering.{is_mapped, opened}
-use Rattle.vm_model.specs.Machine.{Cache, Machine, Page, cache_of, is_named_by, segment_of}
-use Rattle.vm_model.specs.Outcome.{blank, blank_cache}
+use Rattle.vm_model.specs.Answering.{is_mapped}
+use Rattle.vm_model.specs.Machine.{Cache, Machine, cache_of, is_named_by, segment_of}
 use Rattle.vm_model.proofs.Parts.Lists.{numbered_place}
-use Rattle.vm_model.proofs.Parts.ListParts.{at_some, numbered_past}
+use Rattle.vm_model.proofs.Parts.ListParts.{at_some}
 use Rattle.vm_model.proofs.Parts.Naming.{segment_cache}
-use Rattle.seg_manager.specs.Answering.{Answered, open_anew, open_by, open_of, reply_cache}
 use Rattle.seg_manager.specs.Inner.{first_of, is_of}
-use Rattle.seg_manager.specs.Outcome.{Outcome}
-use Rattle.seg_manager.specs.ReferenceMachine.{ReferenceMachine, Stored, add_cache, goes, let_go, number_in, number_named, open_one, stored_from, take_stored, used, used_at, with_cache}
-use Rattle.seg_manager.specs.Seen.{is_kept, openings_in, references_seen, stored_beside, whole_of}
-use Rattle.seg_manager.specs.Stepping.{blank_references}
+use Rattle.seg_manager.specs.ReferenceMachine.{ReferenceMachine, goes, let_go, number_in, stored_from, used, used_at}
+use Rattle.seg_manager.specs.Seen.{is_kept, openings_in, whole_of}
 use Rattle.seg_manager.specs.Tying.{AreOnce, AreTied, is_unreferenced, naming_of, namings}
 use Rattle.seg_manager.specs.declared.tables.Kept.{Kept}
 use Rattle.seg_manager.specs.declared.tables.Mapped.{Mapped}
 use Rattle.seg_manager.specs.declared.tables.Named.{Named}
 use Rattle.seg_manager.proofs.Closing.{Reopened, all_at, naming_set, reopened}
-use Rattle.seg_manager.proofs.Coming.{GoAlike, GoAlikeBut, stored_all, stored_turn, used_all, used_turn}
+use Rattle.seg_manager.proofs.Coming.{GoAlike, GoAlikeBut}
 use Rattle.seg_manager.proofs.Entries.{fun_same, named_entries}
-use Rattle.seg_manager.proofs.Going.{Caches, get_used, length_used, numbered_used}
+use Rattle.seg_manager.proofs.Going.{Caches, get_used, numbered_used}
 use Rattle.seg_manager.proofs.Releasing.{number_found}
-use Rattle.seg_manager.proofs.Stated.{state_over}
-use Rattle.seg_manager.proofs.Steps.{AreSeen, blank_used, seen_blank}
 use Rattle.seg_manager.proofs.Storing.{apart_by, named_self, stored_one}
 
 -- Kept no longer

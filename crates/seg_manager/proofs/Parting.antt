@@ -8,7 +8,7 @@ use Rattle.std.proofs.lemmas.Bool.{eq-eqb, ne_eqb}
 use Rattle.std.proofs.lemmas.List.{map-append}
 use Rattle.std.proofs.lemmas.List.Folds.{list_any-append}
 use Rattle.vm_ids.specs.Counting.{MapperCounts, no_counts}
-use Rattle.vm_ids.specs.Held.{Held, Segments, segments_of}
+use Rattle.vm_ids.specs.Held.{Segments, segments_of}
 use Rattle.vm_ids.specs.declared.command.Command.{Command}
 use Rattle.vm_ids.specs.declared.command.Command.TheVariants.{ExitActor, Unmap}
 use Rattle.vm_ids.specs.declared.command.KeepCommand.TheVariants as commands
@@ -20,29 +20,29 @@ use Rattle.vm_ids.specs.declared.reply.Trouble.{Trouble}
 use Rattle.vm_ids.specs.declared.reply.Trouble.TheVariants as troubles
 use Rattle.vm_model.specs.Answering as plain
 use Rattle.vm_model.specs.Answering.{Answer, is_mapped, without_region}
-use Rattle.vm_model.specs.Machine.{Actor, Cache, Machine, Region, numbered, segment_of}
+use Rattle.vm_model.specs.Machine.{Actor, Machine, Region, numbered, segment_of}
 use Rattle.vm_model.specs.Outcome as plain_outcome
 use Rattle.vm_model.specs.Outcome.{IsAlike, MayLackMemory, OutcomeAt, blank}
 use Rattle.vm_model.specs.PageForest.{PageForest, forest_shown}
 use Rattle.vm_model.specs.Regions.{region_with}
-use Rattle.vm_model.specs.declared.limits.TheConstants.{LIVE_PAGES, MOST_MADE}
+use Rattle.vm_model.specs.declared.limits.TheConstants.{LIVE_PAGES}
 use Rattle.vm_model.proofs.Parts.Lists.{numbered_place}
-use Rattle.vm_model.proofs.Parts.Pairs.{each_append, each_by}
+use Rattle.vm_model.proofs.Parts.Pairs.{each_append}
 use Rattle.vm_port.specs.declared.traits.mapper.Mapper.{Ghosts as GhostsOfMapper}
 use Rattle.gmi_calls.specs.Calling.{CallDone, MapperCall}
 use Rattle.gmi_calls.specs.Managing.{meanings_of}
 use Rattle.gmi_calls.specs.declared.gmi.Gmi.{Ghosts as GhostsOfGmi}
 use Rattle.gmi_calls.proofs.Rising.{rise_none}
 use Rattle.gmi_calls.proofs.Still.{without_mapper}
-use Rattle.seg_manager.specs.Answering.{Answered, MayHave, leaving_by, plain_of, with_memory}
+use Rattle.seg_manager.specs.Answering.{MayHave, leaving_by, plain_of, with_memory}
 use Rattle.seg_manager.specs.Calling.{KeepsLastBy, SegmentCall, Serves, below}
 use Rattle.seg_manager.specs.Inner.{leaves, staying, unused_then}
 use Rattle.seg_manager.specs.Keeping.{AreLast, left_by, left_one, mapped_at, mapped_by, mapped_in, mapped_under, referred}
 use Rattle.seg_manager.specs.Outcome.{Gives, Outcome}
-use Rattle.seg_manager.specs.ReferenceMachine.{ReferenceMachine, goes, let_go}
-use Rattle.seg_manager.specs.Seen.{kept_segments, maps, openings_in, references_seen, state_of, stored_beside, whole_of}
+use Rattle.seg_manager.specs.ReferenceMachine.{ReferenceMachine, let_go}
+use Rattle.seg_manager.specs.Seen.{kept_segments, maps, openings_in, references_seen, state_of, whole_of}
 use Rattle.seg_manager.specs.Thinning.{Trims, credit}
-use Rattle.seg_manager.specs.Tying.{AreTied, CanCall, Noted, is_unreferenced, noted_at, noted_of, noted_region, noted_regions}
+use Rattle.seg_manager.specs.Tying.{AreTied, CanCall, Noted, noted_at, noted_of, noted_region, noted_regions}
 use Rattle.seg_manager.specs.declared.manager.SegManager.{SegManager}
 use Rattle.seg_manager.specs.declared.tables.Kept.{Kept}
 use Rattle.seg_manager.specs.declared.tables.Leaving.{Leaving}
@@ -50,7 +50,7 @@ use Rattle.seg_manager.specs.declared.tables.Leaving.TheVariants as leavings
 use Rattle.seg_manager.specs.declared.tables.Mapped.{Mapped}
 use Rattle.seg_manager.specs.declared.tables.Named.{Named}
 use Rattle.seg_manager.proofs.Calls.{able_after, call_is, made_after}
-use Rattle.seg_manager.proofs.Dropping.{AreNoted, any_parted, noted_then, noted_tied, room_then, segments_left, tied_noted}
+use Rattle.seg_manager.proofs.Dropping.{any_parted, noted_then, noted_tied, room_then, segments_left, tied_noted}
 use Rattle.seg_manager.proofs.Entries.{filter_all, filter_append, map_filter}
 use Rattle.seg_manager.proofs.Leaving.{as_many, credit_few, left_same, seen_actors, told_both}
 use Rattle.seg_manager.proofs.Releasing.{blank_told, seen_same}

@@ -1,11 +1,10 @@
 -- A segment is closed: what that call of the manager of segments comes to.
-use Rattle.std.proofs.Common.{◌≡◌, ◌≢◌, ◌==◌, ℕ, zero, suc, ◌+◌, ◌-◌, ◌*◌, ◌^◌, ◌<◌, ◌≤◌, Bool, true, false, cond, List, [], ◌∷◌, ◌++◌, length, map, Option, Some, None, refl, sym, ap, subst, ◌∙◌, arith}
-use Rattle.std.specs.Prelude.{◌||◌, IfNone, IfSome, not, nat_lt, Ok, Err, option_and_then, slice_get}
+use Rattle.std.proofs.Common.{◌≡◌, ℕ, zero, suc, ◌+◌, ◌-◌, ◌^◌, ◌≤◌, Bool, true, false, cond, List, [], ◌∷◌, ◌++◌, length, Option, Some, None, refl, sym, ap, subst, ◌∙◌, arith}
+use Rattle.std.specs.Prelude.{IfNone, nat_lt, Ok, Err, slice_get}
 use Rattle.std.specs.Option.{option_map_or}
 use Rattle.std.specs.VecDeque.{deque_capacity}
-use Rattle.std.proofs.lemmas.Bool.{eqb-true}
 use Rattle.std.proofs.lemmas.List.{append-nil, length-append, map-append}
-use Rattle.vm_ids.specs.Counting.{MapperCounts, no_counts}
+use Rattle.vm_ids.specs.Counting.{no_counts}
 use Rattle.vm_ids.specs.Held.{Held, Segments, segments_of}
 use Rattle.vm_ids.specs.declared.command.KeepCommand.TheVariants as commands
 use Rattle.vm_ids.specs.declared.numbers.CacheId.{CacheId}
@@ -13,15 +12,14 @@ use Rattle.vm_ids.specs.declared.numbers.SegId.{SegId}
 use Rattle.vm_ids.specs.declared.refusal.Refusal.TheVariants as refusals
 use Rattle.vm_ids.specs.declared.reply.Reply.TheVariants as replies
 use Rattle.vm_ids.specs.declared.reply.Trouble.TheVariants as troubles
-use Rattle.vm_model.specs.Machine.{Cache, Machine, cache_of, is_named_by, segment_of}
+use Rattle.vm_model.specs.Machine.{Cache, Machine, is_named_by, segment_of}
 use Rattle.vm_model.specs.Outcome.{blank}
-use Rattle.vm_model.specs.declared.limits.TheConstants.{LIVE_PAGES, MOST_MADE}
 use Rattle.vm_model.proofs.Parts.Lists.{numbered_place}
 use Rattle.vm_model.proofs.Parts.Naming.{segment_cache}
 use Rattle.vm_port.specs.declared.traits.mapper.Mapper.{Ghosts as GhostsOfMapper}
 use Rattle.gmi_calls.specs.declared.gmi.Gmi.{Ghosts as GhostsOfGmi}
 use Rattle.gmi_calls.proofs.Rising.{rise_none}
-use Rattle.seg_manager.specs.Answering.{Answered, close_of, refuse, reply}
+use Rattle.seg_manager.specs.Answering.{close_of, refuse, reply}
 use Rattle.seg_manager.specs.Calling.{Releases, below}
 use Rattle.vm_ids.specs.declared.refusal.Refusal.{Refusal}
 use Rattle.seg_manager.specs.Inner.{Closes, IsClosed, unused_in}
@@ -29,7 +27,7 @@ use Rattle.seg_manager.specs.Keeping.{AreLast, cache_for, left_by, left_one, ref
 use Rattle.seg_manager.specs.ReferenceMachine.{ReferenceMachine, close_one, is_open, let_go, number_in}
 use Rattle.seg_manager.specs.Seen.{kept_segments, openings_in, references_seen, state_of, stored_beside, whole_of}
 use Rattle.seg_manager.specs.Thinning.{Trims, credit}
-use Rattle.seg_manager.specs.Tying.{AreTied, CanCall, IsUntoldBlank, is_unreferenced}
+use Rattle.seg_manager.specs.Tying.{AreTied, CanCall, IsUntoldBlank}
 use Rattle.seg_manager.specs.declared.manager.SegManager.{SegManager}
 use Rattle.seg_manager.specs.declared.tables.Kept.{Kept}
 use Rattle.seg_manager.specs.declared.tables.Mapped.{Mapped}

@@ -1,6 +1,6 @@
 -- A command that the machine below answers as that of segments does: what such a call comes to.
-use Rattle.std.proofs.Common.{◌≡◌, ℕ, ◌+◌, ◌*◌, ◌^◌, ◌≤◌, Bool, false, cond, List, [], length, map, Option, Some, None, refl, sym, ap, subst, ◌∙◌, arith}
-use Rattle.std.specs.Prelude.{IfSome, is_some, option_map}
+use Rattle.std.proofs.Common.{◌≡◌, ℕ, false, cond, List, length, Option, Some, None, refl, sym, ap, subst, ◌∙◌, arith}
+use Rattle.std.specs.Prelude.{option_map}
 use Rattle.std.specs.FinMap.{get}
 use Rattle.std.specs.Option.{option_map_or}
 use Rattle.std.specs.VecDeque.{deque_capacity}
@@ -14,10 +14,8 @@ use Rattle.vm_ids.specs.declared.command.Span.{Span}
 use Rattle.vm_model.specs.Answering as plain
 use Rattle.vm_model.specs.Answering.{Answer}
 use Rattle.vm_model.specs.Machine.{Cache, Machine, cache_of}
-use Rattle.vm_model.specs.Outcome as plain_outcome
 use Rattle.vm_model.specs.Outcome.{OutcomeAt, blank, blank_cache}
 use Rattle.vm_model.specs.PageForest.{PageForest, forest_shown}
-use Rattle.vm_model.specs.declared.limits.TheConstants.{LIVE_PAGES, MOST_MADE}
 use Rattle.vm_model.proofs.Parts.Lists.{numbered-map}
 use Rattle.vm_port.specs.declared.traits.mapper.Mapper.{Ghosts as GhostsOfMapper}
 use Rattle.gmi_calls.specs.Calling.{MapperCall}
@@ -29,17 +27,15 @@ use Rattle.seg_manager.specs.Outcome.{Outcome}
 use Rattle.seg_manager.specs.ReferenceMachine.{ReferenceMachine, Stored, goes, stored_from}
 use Rattle.seg_manager.specs.Seen.{openings_in, references_seen, state_of, stored_beside, whole_of}
 use Rattle.seg_manager.specs.Stepping.{State, StepAt, blank_references}
-use Rattle.seg_manager.specs.Tying.{AreTied, CanCall, noted_of, noted_regions}
+use Rattle.seg_manager.specs.Tying.{AreTied, CanCall, noted_regions}
 use Rattle.seg_manager.specs.declared.manager.SegManager.{SegManager}
 use Rattle.seg_manager.specs.declared.tables.Kept.{Kept}
-use Rattle.seg_manager.specs.declared.tables.Mapped.{Mapped}
 use Rattle.seg_manager.specs.declared.tables.Named.{Named}
 use Rattle.seg_manager.proofs.Calls.{able_after, backed_next, call_is, denied_after, forest, m, made_after, n, told_after}
 use Rattle.seg_manager.proofs.Destroyed.{beside_told}
 use Rattle.seg_manager.proofs.Entries.{fun_same}
 use Rattle.seg_manager.proofs.Going.{used_same}
 use Rattle.seg_manager.proofs.Lifting.{is_hidden, references}
-use Rattle.seg_manager.proofs.Naming.{has_named}
 use Rattle.seg_manager.proofs.Passed.{IsAnswered, IsHiding, IsQuiet, SameRegions, copy_answered, copy_regions, outcome_answered, outcome_next, over, passed_answered, passed_regions, quiet_self, storing}
 use Rattle.seg_manager.proofs.Pushed.{Follow, Told}
 use Rattle.seg_manager.proofs.Shapes.{has_same, segments_blank, segments_in, tied_alike}

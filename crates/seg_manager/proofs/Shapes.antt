@@ -1,17 +1,17 @@
 -- What stays where each cache keeps its segment: what is noted stays tied.
 use Rattle.std.proofs.Common.{◌≡◌, ◌==◌, ℕ, zero, suc, ◌+◌, Bool, true, false, cond, List, [], ◌∷◌, ◌++◌, map, set, Option, Some, None, refl, sym, ap, ◌∙◌, arith}
-use Rattle.std.specs.Prelude.{◌||◌, IfSome, is_some, nat_lt, not, option_and_then, option_map, slice_get}
+use Rattle.std.specs.Prelude.{◌||◌, IfSome, nat_lt, not, option_and_then, option_map, slice_get}
 use Rattle.std.specs.List.{list_any}
 use Rattle.std.specs.Option.{option_map_or}
 use Rattle.vm_ids.specs.Held.{Segments}
 use Rattle.vm_model.specs.Machine.{Cache, Machine, cache_named, cache_of, is_named_by, numbered, segment_of}
-use Rattle.vm_model.specs.Outcome.{blank, blank_cache}
+use Rattle.vm_model.specs.Outcome.{blank_cache}
 use Rattle.vm_model.proofs.Parts.Lists.{numbered-map}
 use Rattle.vm_model.proofs.Parts.Pairs.{each_by}
 use Rattle.gmi_calls.specs.Backing.{AreBacked}
-use Rattle.seg_manager.specs.ReferenceMachine.{ReferenceMachine, Stored, goes, put_stored, stored_at, stored_from}
-use Rattle.seg_manager.specs.Seen.{maps, openings_in, whole_of}
-use Rattle.seg_manager.specs.Tying.{AreTied, Naming, is_unreferenced, naming_at, namings, noted_of, noted_regions}
+use Rattle.seg_manager.specs.ReferenceMachine.{ReferenceMachine, goes, put_stored, stored_at, stored_from}
+use Rattle.seg_manager.specs.Seen.{maps, openings_in}
+use Rattle.seg_manager.specs.Tying.{AreTied, Naming, naming_at, namings, noted_of, noted_regions}
 use Rattle.seg_manager.specs.declared.tables.Kept.{Kept}
 use Rattle.seg_manager.specs.declared.tables.Mapped.{Mapped}
 use Rattle.seg_manager.specs.declared.tables.Named.{Named}

@@ -1,18 +1,17 @@
 -- No segment is open yet.
-use Rattle.std.proofs.Common.{◌≡◌, ◌==◌, ℕ, zero, suc, ◌-◌, ◌≤◌, Bool, true, false, cond, List, [], length, map, Option, Some, None, refl, sym, ap, subst, ◌∙◌, arith}
-use Rattle.std.specs.Prelude.{IfNone, IfSome, option_and_then, option_map, slice_get}
+use Rattle.std.proofs.Common.{◌≡◌, ◌==◌, ℕ, ◌≤◌, Bool, true, false, cond, List, [], length, Option, Some, None, refl, sym, ap, subst, ◌∙◌, arith}
+use Rattle.std.specs.Prelude.{IfSome, option_and_then}
 use Rattle.std.specs.Option.{option_map_or}
 use Rattle.vm_ids.specs.Held.{Held, Segments, segments_of}
-use Rattle.vm_model.specs.Machine.{Actor, Cache, Machine, cache_of, live_pages, numbered, segment_of}
+use Rattle.vm_model.specs.Machine.{Cache, Machine, cache_of, live_pages, numbered, segment_of}
 use Rattle.vm_model.specs.Outcome.{blank}
-use Rattle.vm_model.specs.declared.limits.TheConstants.{LIVE_PAGES, MOST_MADE}
+use Rattle.vm_model.specs.declared.limits.TheConstants.{LIVE_PAGES}
 use Rattle.gmi_calls.specs.Backing.{AreBacked}
 use Rattle.gmi_calls.specs.declared.gmi.Gmi.{Ghosts as GhostsOfGmi}
 use Rattle.std.specs.VecDeque.{deque_capacity}
 use Rattle.seg_manager.specs.Calling.{beginning}
-use Rattle.seg_manager.specs.ReferenceMachine.{ReferenceMachine, goes, stored_from, used}
-use Rattle.seg_manager.specs.Seen.{known, openings_in, references_seen, state_of, stored_beside, whole_of}
-use Rattle.seg_manager.specs.Stepping.{State}
+use Rattle.seg_manager.specs.ReferenceMachine.{goes, stored_from, used}
+use Rattle.seg_manager.specs.Seen.{known, references_seen, state_of, stored_beside, whole_of}
 use Rattle.seg_manager.specs.Tying.{AreTied, CanCall, IsBare, IsUntoldBlank, namings, noted_regions}
 use Rattle.seg_manager.specs.declared.manager.SegManager.{SegManager}
 use Rattle.seg_manager.specs.declared.tables.Kept.{Kept}

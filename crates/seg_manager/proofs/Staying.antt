@@ -1,5 +1,5 @@
 -- A command that leaves what is seen: what such a call of the manager of segments comes to.
-use Rattle.std.proofs.Common.{◌≡◌, ℕ, ◌+◌, ◌*◌, ◌^◌, ◌≤◌, List, length, Option, Some, None, refl, sym, ap, subst, ◌∙◌, arith}
+use Rattle.std.proofs.Common.{◌≡◌, ◌+◌, ◌≤◌, List, length, Option, Some, None, refl, sym, ap, subst, ◌∙◌, arith}
 use Rattle.std.specs.Prelude.{IfNone, Err, option_map}
 use Rattle.vm_ids.specs.Counting.{MapperCounts, Rise, no_counts}
 use Rattle.vm_ids.specs.Held.{Segments, segments_of}

@@ -1,10 +1,10 @@
 -- A temporary cache is made: what that call of the manager of segments comes to.
-use Rattle.std.proofs.Common.{◌≡◌, ◌⊎◌, inl, inr, ℕ, ◌+◌, ◌*◌, ◌^◌, ◌<◌, ◌≤◌, Bool, true, false, List, [], ◌∷◌, ◌++◌, length, map, drop, replicate, Option, Some, None, refl, sym, ap, subst, ◌∙◌, arith}
+use Rattle.std.proofs.Common.{◌≡◌, ◌⊎◌, inl, inr, ℕ, ◌+◌, ◌^◌, ◌<◌, ◌≤◌, Bool, true, false, List, [], ◌∷◌, ◌++◌, length, map, Option, Some, None, refl, sym, ap, subst, ◌∙◌, arith}
 use Rattle.std.specs.Prelude.{◌||◌, IfNone, IfSome, Ok, Err, Result, nat_le, nat_lt, option_map}
 use Rattle.std.specs.VecDeque.{deque_capacity}
 use Rattle.std.proofs.lemmas.Bool.Decides.{nat_tests}
 use Rattle.std.proofs.lemmas.List.{drop-map, length-append, length-map, map-append}
-use Rattle.vm_ids.specs.Counting.{MapperCounts, counts_sum, no_counts}
+use Rattle.vm_ids.specs.Counting.{MapperCounts, counts_sum}
 use Rattle.vm_ids.specs.Held.{Segments, segments_of}
 use Rattle.vm_ids.specs.declared.command.Command.TheVariants.{MakeTemp}
 use Rattle.vm_ids.specs.declared.command.KeepCommand.TheVariants as commands
@@ -30,10 +30,10 @@ use Rattle.gmi_calls.specs.Calling.{MapperCall}
 use Rattle.gmi_calls.specs.Managing.{meanings_of}
 use Rattle.gmi_calls.specs.declared.gmi.Gmi.{Ghosts as GhostsOfGmi}
 use Rattle.gmi_calls.proofs.Rising.{rise_then}
-use Rattle.seg_manager.specs.Answering.{Answered, make_temp_of, reply_cache}
+use Rattle.seg_manager.specs.Answering.{make_temp_of, reply_cache}
 use Rattle.seg_manager.specs.Calling.{Serves}
 use Rattle.seg_manager.specs.Keeping.{AreBehind}
-use Rattle.seg_manager.specs.Outcome.{IsWanted, MayLack, Outcome}
+use Rattle.seg_manager.specs.Outcome.{IsWanted, Outcome}
 use Rattle.seg_manager.specs.ReferenceMachine.{ReferenceMachine, add_cache}
 use Rattle.seg_manager.specs.Seen.{kept_segments, references_seen, state_of}
 use Rattle.seg_manager.specs.Thinning.{Fails, IsDestroyFault, IsTried, Thins, Tries, credit, machine_at, seen_with}

@@ -1,23 +1,21 @@
 -- A temporary cache is made: what that call of the manager of segments comes to.
-use Rattle.std.proofs.Common.{◌≡◌, ◌≢◌, ◌==◌, ◌⊎◌, inl, inr, ℕ, zero, suc, ◌+◌, ◌-◌, ◌*◌, ◌^◌, ◌<◌, ◌≤◌, Bool, true, false, cond, List, [], ◌∷◌, ◌++◌, length, map, drop, replicate, Option, Some, None, refl, sym, ap, subst, ◌∙◌, arith}
-use Rattle.std.specs.Prelude.{◌||◌, IfNone, IfSome, Ok, Err, is_some, nat_le, nat_lt, option_and_then, option_map, slice_get, slice_set}
+use Rattle.std.proofs.Common.{◌≡◌, ◌≢◌, inl, inr, ℕ, ◌-◌, ◌<◌, Bool, true, false, cond, List, [], ◌∷◌, ◌++◌, length, map, replicate, Option, Some, None, refl, sym, ap, subst, ◌∙◌, arith}
+use Rattle.std.specs.Prelude.{IfNone, IfSome, is_some, nat_le, option_and_then, option_map, slice_set}
 use Rattle.std.specs.FinMap.{get}
-use Rattle.std.specs.List.{AllByRecursion}
 use Rattle.std.specs.Option.{option_map_or}
-use Rattle.std.specs.VecDeque.{deque_capacity}
 use Rattle.std.proofs.lemmas.Bool.{cases_eq}
 use Rattle.std.proofs.lemmas.Bool.Decides.{nat_tests}
-use Rattle.std.proofs.lemmas.List.{append-nil, drop-map, length-append, map-append}
+use Rattle.std.proofs.lemmas.List.{append-nil}
 use Rattle.vm_ids.specs.Held.{Segments}
 use Rattle.vm_model.specs.Machine.{Cache, Machine, Page, cache_named, cache_of, is_named_by, segment_of}
 use Rattle.vm_model.specs.Outcome.{blank, blank_cache, seen_at}
 use Rattle.vm_model.proofs.Parts.ListParts.{numbered_past, numbered_push, numbered_pushed}
 use Rattle.vm_model.proofs.Parts.Pairs.{each_by}
 use Rattle.gmi_calls.specs.Backing.{AreBacked}
-use Rattle.seg_manager.specs.ReferenceMachine.{ReferenceMachine, Stored, add_cache, goes, let_go, stored_from, used, used_at, with_cache}
-use Rattle.seg_manager.specs.Seen.{is_kept, openings_in, references_seen, stored_beside, whole_of}
+use Rattle.seg_manager.specs.ReferenceMachine.{ReferenceMachine, add_cache, goes, stored_from, used, with_cache}
+use Rattle.seg_manager.specs.Seen.{is_kept, openings_in, references_seen, whole_of}
 use Rattle.seg_manager.specs.Stepping.{State, blank_references}
-use Rattle.seg_manager.specs.Tying.{AreTied, is_unreferenced, naming_of, namings}
+use Rattle.seg_manager.specs.Tying.{AreTied, is_unreferenced, namings}
 use Rattle.seg_manager.specs.declared.tables.Kept.{Kept}
 use Rattle.seg_manager.specs.declared.tables.Mapped.{Mapped}
 use Rattle.seg_manager.specs.declared.tables.Named.{Named}

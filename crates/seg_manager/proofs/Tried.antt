@@ -1,11 +1,10 @@
 -- A command that makes a cache, where caches that are kept make room.
-use Rattle.std.proofs.Common.{◌≡◌, ◌⊎◌, inl, inr, ℕ, ◌+◌, ◌*◌, ◌<◌, ◌≤◌, Bool, true, false, cond, List, [], ◌∷◌, length, drop, Option, Some, None, refl, sym, ap, subst, ◌∙◌, arith}
-use Rattle.std.specs.Prelude.{◌==◌, ◌^◌, IfSome, Ok, Err, Result}
-use Rattle.std.proofs.lemmas.List.{length-drop}
+use Rattle.std.proofs.Common.{◌≡◌, inl, inr, ℕ, ◌+◌, ◌≤◌, Bool, true, false, cond, List, [], ◌∷◌, length, Some, None, refl, sym, ap, subst, ◌∙◌, arith}
+use Rattle.std.specs.Prelude.{◌==◌, ◌^◌, Ok, Err}
 use Rattle.std.specs.List.{AllByRecursion, position_from}
 use Rattle.std.specs.VecDeque.{deque_capacity}
 use Rattle.vm_ids.specs.Counting.{MapperCounts}
-use Rattle.vm_ids.specs.Held.{Held, Segments, segments_of}
+use Rattle.vm_ids.specs.Held.{segments_of}
 use Rattle.vm_ids.specs.declared.command.Command.{Command}
 use Rattle.vm_ids.specs.declared.command.Command.TheVariants as vm_commands
 use Rattle.vm_ids.specs.declared.numbers.CacheId.{CacheId}
@@ -16,22 +15,21 @@ use Rattle.vm_ids.specs.declared.reply.Reply.TheVariants as replies
 use Rattle.vm_ids.specs.declared.reply.Trouble.{Trouble}
 use Rattle.vm_ids.specs.declared.reply.Trouble.TheVariants as troubles
 use Rattle.vm_model.specs.Answering.{Answer}
-use Rattle.vm_model.specs.Machine.{Cache, Machine, live_pages}
-use Rattle.vm_model.specs.declared.limits.TheConstants.{LIVE_PAGES, MOST_MADE}
+use Rattle.vm_model.specs.Machine.{Machine, live_pages}
 use Rattle.vm_port.specs.declared.traits.mapper.Mapper.{Ghosts as GhostsOfMapper}
 use Rattle.gmi_calls.specs.Calling.{MapperCall, RaisesMade}
 use Rattle.gmi_calls.specs.Managing.{meanings_of}
 use Rattle.gmi_calls.specs.declared.gmi.Gmi.{Ghosts as GhostsOfGmi}
-use Rattle.seg_manager.specs.Inner.{StandsAt, first_of, is_too_many}
+use Rattle.seg_manager.specs.Inner.{first_of}
 use Rattle.seg_manager.specs.Seen.{references_seen}
-use Rattle.seg_manager.specs.Thinning.{Fails, FailsToMakeRoom, IsDestroyed, IsRoomMade, IsTried, MakesNoRoom, MakesRoom, Thins, Tries, TriesInVain, credit, seen_with}
+use Rattle.seg_manager.specs.Thinning.{IsRoomMade, IsTried, MakesRoom, Thins, Tries, credit, seen_with}
 use Rattle.seg_manager.specs.Tying.{AreTied, CanCall}
 use Rattle.seg_manager.specs.declared.manager.SegManager.{SegManager}
 use Rattle.seg_manager.specs.declared.tables.Named.{Named}
 use Rattle.seg_manager.proofs.Anew.{unnamed}
 use Rattle.seg_manager.proofs.Calls.{able_after, backed_before, call_is, denied_after, forest, made_after, seen_after}
 use Rattle.seg_manager.proofs.Opened.{Ends, failed, lacks, made, many, nowhere, open_ends}
-use Rattle.seg_manager.proofs.Thinned.{retold, thins_none, thins_then}
+use Rattle.seg_manager.proofs.Thinned.{retold, thins_then}
 
 -- Where the machine stays
 

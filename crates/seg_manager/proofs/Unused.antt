@@ -1,5 +1,5 @@
 -- Whether something refers to a cache, as it is noted and as the machine says.
-use Rattle.std.proofs.Common.{◌≡◌, ◌≢◌, ◌==◌, ◌⊎◌, ℕ, zero, suc, ◌+◌, ◌-◌, ◌<◌, ◌≤◌, Bool, true, false, cond, List, [], ◌∷◌, ◌++◌, length, map, Option, Some, None, refl, sym, ap, subst, ◌∙◌, arith, inl, inr}
+use Rattle.std.proofs.Common.{◌≡◌, ◌≢◌, ◌==◌, ℕ, zero, suc, ◌+◌, ◌-◌, Bool, true, false, cond, List, [], ◌∷◌, ◌++◌, map, Option, Some, None, refl, sym, ap, subst, ◌∙◌, arith, inl, inr}
 use Rattle.std.specs.Prelude.{◌||◌, ◌&&◌, nat_lt, not, option_and_then, slice_get}
 use Rattle.std.specs.List.{AllByRecursion, list_any}
 use Rattle.std.specs.Option.{option_map_or}
@@ -15,7 +15,7 @@ use Rattle.vm_model.proofs.Parts.Naming.{segment_cache}
 use Rattle.vm_model.proofs.Parts.Lists.{numbered_place}
 use Rattle.vm_model.proofs.Parts.Pairs.{each_by}
 use Rattle.seg_manager.specs.Inner.{kept_by, named_with, unused_in}
-use Rattle.seg_manager.specs.ReferenceMachine.{ReferenceMachine, goes}
+use Rattle.seg_manager.specs.ReferenceMachine.{goes}
 use Rattle.seg_manager.specs.Keeping.{left_one}
 use Rattle.seg_manager.specs.Seen.{is_kept, kept_segments, maps, openings_in, whole_of}
 use Rattle.seg_manager.specs.Tying.{AreOnce, Naming, Noted, is_unreferenced, naming_at, naming_of, namings, noted_at, noted_of, noted_region, noted_regions}

@@ -4,8 +4,7 @@ use Rattle.std.specs.List.{AllByRecursion}
 use Rattle.std.specs.Vec.{vec_capacity}
 use Rattle.std.specs.VecDeque.{deque_capacity}
 use Rattle.vm_ids.specs.Counting.{MapperCounts, Rise}
-use Rattle.vm_ids.specs.Held.{Held, Segments, segments_of}
-use Rattle.vm_ids.specs.declared.reply.FaultAt.{FaultAt}
+use Rattle.vm_ids.specs.Held.{Segments, segments_of}
 use Rattle.vm_ids.specs.declared.reply.FaultAt.TheVariants as faults
 use Rattle.vm_ids.specs.declared.reply.Trouble.{Trouble}
 use Rattle.vm_ids.specs.declared.command.Command.{Command}

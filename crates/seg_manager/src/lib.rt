@@ -18,7 +18,5 @@ pub mod laws;
 mod manager;
 mod openings;
 mod tables;
-#[cfg(test)]
-mod tests;
 
 pub use manager::SegManager;

@@ -1,6 +1,5 @@
-use Rattle.std.proofs.Common.{◌≡◌, ◌∷◌, List, drop, ap, refl}
+use Rattle.std.proofs.Common.{drop, ap, refl}
 use Rattle.gmi_calls.specs.Calling.{done_by}
-use Rattle.seg_manager.specs.declared.tables.Kept.{Kept}
 use Rattle.seg_manager.proofs.Thinned.{failed_first, first_rest, gone_first, thins_one}
 use Rattle.seg_manager.proofs.manager.SegManager.destroy_first.Goals as goal
 

@@ -1,4 +1,3 @@
-use Rattle.seg_manager.specs.declared.manager.SegManager.{SegManager}
 use Rattle.seg_manager.proofs.Starting.{begins, can_begin}
 use Rattle.seg_manager.proofs.manager.SegManager.new.Goals as goal
 

@@ -1,5 +1,4 @@
-use Rattle.std.proofs.Common.{◌≡◌, ◌++◌, ◌∷◌, [], List, ap, sym, ◌∙◌, refl, arith}
-use Rattle.seg_manager.specs.declared.tables.Named.{Named}
+use Rattle.std.proofs.Common.{refl}
 use Rattle.seg_manager.proofs.Beginning.{can_by, credit_by, lacks_by, not_by, ok_by, start_anew}
 use Rattle.seg_manager.proofs.Closing.{kept_few}
 use Rattle.seg_manager.proofs.manager.SegManager.open_anew.Goals as goal

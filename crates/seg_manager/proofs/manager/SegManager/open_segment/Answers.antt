@@ -1,4 +1,3 @@
-use Rattle.std.proofs.Common.{ℕ}
 use Rattle.vm_ids.specs.declared.command.Command.TheVariants.{OpenSegment}
 use Rattle.seg_manager.specs.Inner.{first_of}
 use Rattle.seg_manager.proofs.Thinned.{thins_none}
