@@ -8,7 +8,7 @@ replay_lines-requires-clause-able g c =
     let told = g.M.Mapper.held c.args.mapper.now in
     can_call _ _ told _ c.args.size.frames c.args.size.page_bytes (c.in-Ok.ensures.valid told) refl c.requires.page (c.in-Ok.ensures.machine told)
 
-pub returns-clause-ends : goal.returns-in-Ok-clause-ends
+pub returns-clause-ends : goal.returns-clause-ends
 returns-clause-ends g c = λ some.
     let M = g.M.Mapper in
     let K = g.K.Sink in

@@ -10,7 +10,7 @@ replay_lines-requires-clause-able g c =
     let page_bytes = M.page_bytes c.args.mapper.now in
     c.new-answerer.ensures.can told page_bytes (bare_segments _ _ told page_bytes c.args.frames 4096 (c.in-Ok.ensures.valid told) refl c.requires.page refl (c.in-Ok.ensures.machine told))
 
-pub returns-clause-ends : goal.returns-in-Ok-clause-ends
+pub returns-clause-ends : goal.returns-clause-ends
 returns-clause-ends g c = λ some.
     let M = g.M.Mapper in
     let K = g.K.Sink in
