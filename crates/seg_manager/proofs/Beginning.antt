@@ -57,6 +57,7 @@ use Rattle.seg_manager.proofs.Opened.{Ends, IsOpen, appended, failed, lacks, mad
 use Rattle.seg_manager.proofs.Opening.{number_none, used_entry}
 use Rattle.seg_manager.proofs.Pushed.{Follow, Told}
 use Rattle.seg_manager.proofs.Releasing.{blank_told}
+use Rattle.seg_manager.proofs.Staying.{Stays, blank_seen, refused_again, stays_call}
 use Rattle.seg_manager.proofs.Steps.{AreSeen, seen_blank, step_whole}
 use Rattle.seg_manager.proofs.Storing.{stored_free}
 use Rattle.seg_manager.proofs.Tried.{can_same, none_noted, noted_none, open_ended, open_leaves, seen_same}
@@ -108,18 +109,6 @@ goes_on_by r seg number at e (Some pages) f = subst (λ (x : Answered). GoesOn a
     something : (at : FaultAt) → GoesOn at (commands.Plain (OpenSegment seg)) (Ok (replies.Cache (record { 0 = number })))
     something at = tt
 
--- without bytes, where nothing is told
-blank_seen : (told : Option Segments) (m : Machine) (cs : List Named) → IfNone told (m ≡ blank m) → IfNone told (references_seen m told cs ≡ blank_references (references_seen m told cs))
-blank_seen None m cs bare = seen_blank m cs bare
-blank_seen (Some h) m cs bare = tt
-
-same_seen : (was now : Option Segments) → option_map (λ (h : Segments). h.denied) now ≡ option_map (λ (h : Segments). h.denied) was → (before after : State) (r : ReferenceMachine) → before.references ≡ r → after.references ≡ r
-    → IfNone was (r ≡ blank_references r) → AreSeen now before after r r
-same_seen None None e before after r x y bare = (x ∙ bare, y ∙ bare)
-same_seen None (Some h) e before after r x y bare = absurd (cc e)
-same_seen (Some h) None e before after r x y bare = absurd (cc e)
-same_seen (Some h) (Some g) e before after r x y bare = (x, y)
-
 behind_not : (b : Bool) (seg : ℕ) (kept now : List ℕ) (result : Result CacheId Trouble) → b ≡ false → AreBehind kept now → IsAcquired b seg kept result now
 behind_not false seg kept now result e h = h
 behind_not true seg kept now result e h = absurd (cc e)
@@ -139,25 +128,6 @@ stored_as m (Some s) now cs ks room rs t seg anew f o held =
 stored_nothing : (told : Option Segments) (m : Machine) (cs : List Named) (seg : ℕ) → IfSome told (λ h. (references_seen m told cs).stored seg ≡ None) → (references_seen m told cs).stored seg ≡ None
 stored_nothing None m cs seg h = refl
 stored_nothing (Some s) m cs seg h = h
-
--- refused, it would be refused again
-refused_again : (told : Option Segments) (m n : Machine) (f g : Option PageForest) (seg : SegId) (r : Refusal) (rises : MapperCounts) → n ≡ m → OutcomeAt told m f (OpenSegment seg) (Err (troubles.Refused r)) n rises → OutcomeAt told n g (OpenSegment seg) (Err (troubles.Refused r)) n no_counts
-refused_again (Some h) m n f g seg r rises same o = subst (λ (x : Machine). plain.open_of x seg.0 (get h.pages seg.0) ≡ record { answer = Err (troubles.Refused r); next = n }) (sym same) o
-refused_again None m n f g seg r rises same o = record {
-  whole = o.whole;
-  whole_next = o.whole_next;
-  segments = o.segments;
-  whole_answer = Err (troubles.Refused r);
-  is = same ∙ o.is;
-  is_next = o.is_next;
-  pages = o.pages;
-  alike = refl;
-  outcome = subst (λ (a : Answer). plain_outcome.Outcome o.whole f (OpenSegment seg) o.segments a o.whole_next rises) (back o.whole_answer o.alike) o.outcome;
-}
-  where
-    back : (a : Answer) → IsAlike a (Err (troubles.Refused r)) → a ≡ Err (troubles.Refused r)
-    back (Ok (replies.Bytes bytes)) h = h
-    back a h = h
 
 -- The machine from which an opening leads: where nothing is told, with these pages stored.
 abbrev pub whole_for : Option Segments → ReferenceMachine → List Page → ReferenceMachine
@@ -252,9 +222,6 @@ module _ {Manager X Chooser : Type 0} (M : GhostsOfMapper X) (G : GhostsOfGmi Ma
     seen_by : R ≡ seen_with M G old before
     seen_by = thins.seen ∙ ap (references_seen m0 told0) caches
 
-    bare : IfNone told (R ≡ blank_references R)
-    bare = blank_seen told m by.caches.items (blank_told (M.held middle) m thins.can.blank)
-
     number_R : number_in 1 R.memory.caches seg.0 ≡ None
     number_R = ap (λ (xs : Caches). number_in 1 xs seg.0) (caches_seen told m by.caches.items) ∙ number_unseen m told by.caches.items by.kept.items (deque_capacity by.kept) by.regions.items thins.can.tied seg anew_by
 
@@ -296,21 +263,16 @@ module _ {Manager X Chooser : Type 0} (M : GhostsOfMapper X) (G : GhostsOfGmi Ma
 
         pub in_vain : Acquires M G before old seg (Err t) later new
         in_vain = record {
-          call = record {
+          call = stays_call M G before old can later new (commands.Plain (OpenSegment seg)) t vain_rises (record {
             can = f.can;
             made = omega (arith, f.made, made_after M G by gmi middle after (OpenSegment seg) (Err (troubles.Refused refusals.TooMany)) thins.can call, thins.credit, credit_few M G start before start_can);
             limit = ap (λ (x : SegManager Manager). x.limit) f.same ∙ thins.limit;
-            one = omega (arith, f.caches, ap (λ (x : Machine). length x.caches) tried_same, as_many);
-            rises = vain_rises;
+            many = f.caches ∙ ap (λ (x : Machine). length x.caches) tried_same ∙ as_many;
             rose = rise_then (M.counts before) (M.counts after) (M.counts later) (counts_sum thins.rises (call_is M G by gmi middle after (OpenSegment seg) (Err (troubles.Refused refusals.TooMany)) thins.can call).rises) f.rises
                 (rise_then (M.counts before) (M.counts middle) (M.counts after) thins.rises (call_is M G by gmi middle after (OpenSegment seg) (Err (troubles.Refused refusals.TooMany)) thins.can call).rises thins.rose (call_is M G by gmi middle after (OpenSegment seg) (Err (troubles.Refused refusals.TooMany)) thins.can call).rose) f.rose;
-            is = record {
-              step = step_whole (state_of G old (M.held before)) (state_of G new (M.held later)) (commands.Plain (OpenSegment seg)) (Err t) vain_rises R R
-                  (λ h. (0, vain_outcome t f.fault vain_rises (omega (arith, f.failed)) h))
-                  (same_seen told (segments_of (M.held later)) vain_denied (state_of G old (M.held before)) (state_of G new (M.held later)) R (sym seen_by) vain_seen bare);
-              denied = vain_denied ∙ thins.denied;
-            };
-          };
+            seen = vain_seen ∙ seen_by;
+            denied = vain_denied ∙ thins.denied;
+          }) (λ h. subst (λ (r : ReferenceMachine). Outcome r None (commands.Plain (OpenSegment seg)) h 0 (Err t) r vain_rises) seen_by (vain_outcome t f.fault vain_rises (omega (arith, f.failed)) h));
           kept = behind_not (list_any (λ s. s == seg.0) (kept_segments old.kept.items)) seg.0 (kept_segments old.kept.items) (kept_segments new.kept.items) (Err t)
               (not_kept m0 told0 old.caches.items old.kept.items (deque_capacity old.kept) old.regions.items can.tied seg anew)
               (subst (AreBehind (kept_segments old.kept.items)) (sym (ap (λ (x : SegManager Manager). kept_segments x.kept.items) f.same)) kept_behind);
@@ -358,28 +320,22 @@ module _ {Manager X Chooser : Type 0} (M : GhostsOfMapper X) (G : GhostsOfGmi Ma
 
       pub not_opened : (t ≡ troubles.Refused refusals.TooMany → left.kept.items ≡ []) → Acquires M G before old seg (Err t) after left
       not_opened none = record {
-        call = record {
+        call = stays_call M G before old can after left (commands.Plain (OpenSegment seg)) t rises (record {
           can = can_same M G by gmi middle after (OpenSegment seg) (Err t) thins.can call same;
           made = omega (arith, made_after M G by gmi middle after (OpenSegment seg) (Err t) thins.can call, thins.credit, credit_few M G start before start_can);
           limit = thins.limit;
-          one = omega (arith, ap (λ (x : Machine). length x.caches) same, as_many);
-          rises = rises;
+          many = ap (λ (x : Machine). length x.caches) same ∙ as_many;
           rose = rise_then (M.counts before) (M.counts middle) (M.counts after) thins.rises its_rises thins.rose (call_is M G by gmi middle after (OpenSegment seg) (Err t) thins.can call).rose;
-          is = record {
-            step = step_whole (state_of G old (M.held before)) (state_of G left (M.held after)) (commands.Plain (OpenSegment seg)) (Err t) rises R R
-                (λ h. (0, said (open_ended M G by middle thins.can seg anew_by (Err t) after gmi call) h))
-                (same_seen told then_told denied_then (state_of G old (M.held before)) (state_of G left (M.held after)) R (sym seen_by) (seen_same M G by gmi middle after (OpenSegment seg) (Err t) thins.can call same) bare);
-            denied = denied_then ∙ thins.denied;
-          };
-        };
+          seen = seen_same M G by gmi middle after (OpenSegment seg) (Err t) thins.can call same ∙ seen_by;
+          denied = denied_then ∙ thins.denied;
+        }) (λ h. subst (λ (r : ReferenceMachine). Outcome r None (commands.Plain (OpenSegment seg)) h 0 (Err t) r rises) seen_by (said (open_ended M G by middle thins.can seg anew_by (Err t) after gmi call) h));
         kept = behind_not (list_any (λ s. s == seg.0) (kept_segments old.kept.items)) seg.0 (kept_segments old.kept.items) (kept_segments left.kept.items) (Err t)
             (not_kept m0 told0 old.caches.items old.kept.items (deque_capacity old.kept) old.regions.items can.tied seg anew) kept_behind;
         again = λ k e. absurd (no_cache k e);
         too_many = λ e. (let is : t ≡ troubles.Refused refusals.TooMany = cc e in (
           none is,
-          refused_again then_told m n (forest M G by gmi middle after (OpenSegment seg) (Err t) thins.can call) (G.forest gmi (M.held after)) seg refusals.TooMany its_rises same
-              (subst (λ (x : Trouble). OutcomeAt then_told m (forest M G by gmi middle after (OpenSegment seg) (Err t) thins.can call) (OpenSegment seg) (Err x) n its_rises) is
-              (call_is M G by gmi middle after (OpenSegment seg) (Err t) thins.can call).is.outcome),
+          refused_again then_told m n (forest M G by gmi middle after (OpenSegment seg) (Err t) thins.can call) (G.forest gmi (M.held after)) (OpenSegment seg) (λ x f g h. refl) t its_rises same
+              (call_is M G by gmi middle after (OpenSegment seg) (Err t) thins.can call).is.outcome is,
         ));
       }
 
@@ -478,21 +434,15 @@ module _ {Manager X Chooser : Type 0} (M : GhostsOfMapper X) (G : GhostsOfGmi Ma
   -- There was no memory to note it.
   pub lacks_start : Acquires M G before old seg (Err troubles.Memory) before start
   lacks_start = record {
-    call = record {
+    call = stays_call M G before old can before start (commands.Plain (OpenSegment seg)) troubles.Memory no_counts (record {
       can = start_can;
       made = omega arith;
       limit = refl;
-      one = omega arith;
-      rises = no_counts;
+      many = refl;
       rose = rise_none (M.counts before);
-      is = record {
-        step = step_whole (state_of G old (M.held before)) (state_of G start (M.held before)) (commands.Plain (OpenSegment seg)) (Err troubles.Memory) no_counts (seen_with M G old before) (seen_with M G old before)
-            (λ h. (0, (refl, tt, tt)))
-            (same_seen told0 told0 refl (state_of G old (M.held before)) (state_of G start (M.held before)) (seen_with M G old before) refl (ap (references_seen m0 told0) caches)
-            (blank_seen told0 m0 old.caches.items (blank_told (M.held before) m0 can.blank)));
-        denied = refl;
-      };
-    };
+      seen = ap (references_seen m0 told0) caches;
+      denied = refl;
+    }) (λ h. (refl, tt, tt));
     kept = behind_not (list_any (λ s. s == seg.0) (kept_segments old.kept.items)) seg.0 (kept_segments old.kept.items) (kept_segments start.kept.items) (Err troubles.Memory)
         (not_kept m0 told0 old.caches.items old.kept.items (deque_capacity old.kept) old.regions.items can.tied seg anew) (0, ap kept_segments kept);
     again = λ k e. absurd (let wrong : None ≡ Some k = sym (number_below m0 told0 old.caches.items old.kept.items (deque_capacity old.kept) old.regions.items can.tied seg anew) ∙ e in cc wrong);

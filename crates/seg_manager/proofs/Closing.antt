@@ -26,11 +26,11 @@ use Rattle.seg_manager.proofs.Entries.{fun_same, named_entries}
 use Rattle.seg_manager.proofs.Steps.{IsSeen, seen_blank, seen_gone}
 use Rattle.seg_manager.proofs.Stated.{state_over}
 use Rattle.seg_manager.proofs.Storing.{GoesToo, absorbed, apart_by}
-use Rattle.seg_manager.proofs.Unused.{KeepsMore, entry_there, keeps_more}
+use Rattle.seg_manager.proofs.Unused.{KeepsMore, entry_there, is_unreferenced_by, keeps_more, unreferenced_same}
 
 -- Openings
 
-past_start : {A : Type 0} (test : A → Bool) (k : ℕ) (xs : List A) (i : ℕ) → position_from test k xs ≡ Some i → k ≤ i
+pub past_start : {A : Type 0} (test : A → Bool) (k : ℕ) (xs : List A) (i : ℕ) → position_from test k xs ≡ Some i → k ≤ i
 past_start test k [] i e = absurd (cc e)
 past_start test k (x ∷ xs) i e = by (test x) e (past_start test (k + 1) xs i)
   where
@@ -219,8 +219,8 @@ module _ (m : Machine) (told : Option Segments) (cs : List Named) (ks : List Kep
       by None e = refl
       by (Some d) e = at d d.segment (ap (option_and_then (λ (c : Cache). c.segment)) e)
 
-  keeps : KeepsMore ks (unused_in now rs cache) (is_unreferenced V) m
-  keeps = keeps_more m told now rs noted t.regions t.apart cache ks (is_unreferenced W) t.kept t.once t.named was_used others
+  keeps : KeepsMore ks (unused_in now rs cache) (is_unreferenced_by m now rs) m
+  keeps = keeps_more m now rs noted t.apart cache ks (is_unreferenced W) t.kept t.once t.named was_used (λ q apart. sym (unreferenced_same m told now rs t.regions q) ∙ others q apart)
 
   -- What is noted is tied, with the cache kept that nothing refers to any more.
   pub tied_closed : AreTied m told now (ks ++ unused_in now rs cache) room rs
@@ -228,7 +228,7 @@ module _ (m : Machine) (told : Option Segments) (cs : List Named) (ks : List Kep
     caches = noted;
     regions = t.regions;
     apart = t.apart;
-    kept = keeps.kept;
+    kept = λ q. keeps.kept q ∙ sym (unreferenced_same m told now rs t.regions q);
     named = keeps.named;
     once = keeps.once;
     fits = omega (arith, t.fits, ap length c.then_is, length-set cs c.place (record c.named { openings = c.named.openings - 1 }));

@@ -104,9 +104,6 @@ module _ (m : Machine) (told : Option Segments) (caches : List Named) (first : K
   pub there : (c : Cache) × (cache_of m n ≡ Some c) × (c.segment ≡ Some seg)
   there = segment_cache m n seg t.named.0
 
-  pub first_there : cache_of m n ≡ Some there.0
-  first_there = there.1
-
   some : 1 ≤ n
   some = (numbered_place m.caches n there.0 there.1).0
 

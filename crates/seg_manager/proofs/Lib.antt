@@ -28,6 +28,13 @@ pub mod Starting
 pub mod Lifting
 pub mod Temping
 pub mod Dropping
+pub mod Parting
 pub mod Temporary
 pub mod Staying
 pub mod Temped
+pub mod Shapes
+pub mod Passed
+pub mod Served
+pub mod Mapping
+pub mod Noting
+pub mod Adding

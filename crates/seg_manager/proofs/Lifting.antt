@@ -64,6 +64,14 @@ actor_maps m actor address length (Some rs) p is e =
 pub place_maps : (m : Machine) (actor address length : ℕ) (p : Place) → place m actor address length ≡ Ok p → is_mapped m p.region.cache ≡ true
 place_maps m actor address length p e = actor_maps m actor address length (actor_of m actor) p refl e
 
+or_false : (b : Bool) → (b || false) ≡ b
+or_false true = refl
+or_false false = refl
+
+-- an actor without regions maps nothing
+pub actor_mapped : (actors : List (Option Actor)) (k : ℕ) → list_any (maps_in k) (actors ++ Some [] ∷ []) ≡ list_any (maps_in k) actors
+actor_mapped actors k = list_any-append (maps_in k) actors (Some [] ∷ []) ∙ or_false (list_any (maps_in k) actors)
+
 -- The rows, beside these openings
 module _ (openings : ℕ → ℕ) where
   abbrev pub references : Machine → ReferenceMachine
@@ -79,7 +87,7 @@ module _ (openings : ℕ → ℕ) where
   abbrev pub is_hidden : Machine → ℕ → Bool
   is_hidden m n = option_map_or (goes (references m) n) (cache_of m n) false
 
-  mapped_stays : (m : Machine) (n : ℕ) (s : Option ℕ) → is_mapped m n ≡ true → option_map_or (λ seg. not (nat_lt 0 (openings seg) || is_mapped m n)) s false ≡ false
+  pub mapped_stays : (m : Machine) (n : ℕ) (s : Option ℕ) → is_mapped m n ≡ true → option_map_or (λ seg. not (nat_lt 0 (openings seg) || is_mapped m n)) s false ≡ false
   mapped_stays m n None e = refl
   mapped_stays m n (Some seg) e = ap (λ (b : Bool). not (nat_lt 0 (openings seg) || b)) e ∙ by (nat_lt 0 (openings seg))
     where
@@ -161,13 +169,13 @@ module _ (openings : ℕ → ℕ) where
       (lift_unless (is_denied_page m h p.region.cache p.page) refusals.WriteDenied m _
       ∙ (λ i. plain.unless (denied_same m h p.region.cache p.page there i) refusals.WriteDenied (seen m) (plain.reply replies.Done (write_lifts m p bytes there i)))))
 
-  lift_some : {A : Type 0} (o : Option A) (r : Refusal) (m : Machine) (go go' : A → plain.Answered) → ((x : A) → o ≡ Some x → lift (go x) ≡ go' x) → lift (plain.with_some o r m go) ≡ plain.with_some o r (seen m) go'
+  pub lift_some : {A : Type 0} (o : Option A) (r : Refusal) (m : Machine) (go go' : A → plain.Answered) → ((x : A) → o ≡ Some x → lift (go x) ≡ go' x) → lift (plain.with_some o r m go) ≡ plain.with_some o r (seen m) go'
   unfolding plain.with_some
   lift_some None r m go go' same = refl
   lift_some (Some x) r m go go' same = same x refl
 
   -- where it isn't refused, what comes then lifts
-  lift_then : (bad : Bool) (r : Refusal) (m : Machine) (go go' : plain.Answered) → lift go ≡ go' → lift (plain.unless bad r m go) ≡ plain.unless bad r (seen m) go'
+  pub lift_then : (bad : Bool) (r : Refusal) (m : Machine) (go go' : plain.Answered) → lift go ≡ go' → lift (plain.unless bad r m go) ≡ plain.unless bad r (seen m) go'
   lift_then bad r m go go' e = lift_unless bad r m go ∙ ap (plain.unless bad r (seen m)) e
 
   used_goes : (m n : ReferenceMachine) → ((k : ℕ) (c : Cache) → goes n k c ≡ goes m k c) → (k : ℕ) (xs : Caches) → used n k xs ≡ used m k xs
@@ -180,18 +188,11 @@ module _ (openings : ℕ → ℕ) where
   unfolding plain.make_actor_of
   actor_lifts m = lift_then _ _ m _ _ (λ i. plain.reply (replies.Actor (record { 0 = length m.actors + 1 })) (record m {
     actors = m.actors ++ Some [] ∷ [];
-    caches = used_goes (references m) (references (record m { actors = m.actors ++ Some [] ∷ [] })) (λ k c j. option_map_or (λ seg. not (nat_lt 0 (openings seg) || mapped k j)) c.segment false) 1 m.caches i;
+    caches = used_goes (references m) (references (record m { actors = m.actors ++ Some [] ∷ [] })) (λ k c j. option_map_or (λ seg. not (nat_lt 0 (openings seg) || actor_mapped m.actors k j)) c.segment false) 1 m.caches i;
   }))
-    where
-      or_false : (b : Bool) → (b || false) ≡ b
-      or_false true = refl
-      or_false false = refl
-
-      mapped : (k : ℕ) → list_any (maps_in k) (m.actors ++ Some [] ∷ []) ≡ list_any (maps_in k) m.actors
-      mapped k = list_any-append (maps_in k) m.actors (Some [] ∷ []) ∙ or_false (list_any (maps_in k) m.actors)
 
   -- what a copy comes to where both caches are found
-  abbrev copy_rest : Machine → Span → Segments → Cache → Cache → plain.Answered
+  abbrev pub copy_rest : Machine → Span → Segments → Cache → Cache → plain.Answered
   copy_rest m s h source destination =
       plain.unless (plain.passes_an_end s source destination) refusals.OutOfCache m
       (plain.unless (plain.overlaps_itself s) refusals.Overlap m

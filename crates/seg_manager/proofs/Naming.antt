@@ -13,7 +13,7 @@ abbrev pub has_named : ℕ → List (Option Cache) → Bool
 has_named seg cs = is_some (cache_named cs seg)
 
 module _ (seg : ℕ) where
-  head_named : (o rest : Option Cache) → is_some (cond (is_named_by seg o) o rest) ≡ cond (is_named_by seg o) true (is_some rest)
+  pub head_named : (o rest : Option Cache) → is_some (cond (is_named_by seg o) o rest) ≡ cond (is_named_by seg o) true (is_some rest)
   head_named None rest = refl
   head_named (Some c) rest = by (is_named_by seg (Some c))
     where

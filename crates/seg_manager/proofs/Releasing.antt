@@ -80,12 +80,17 @@ pub closed_seen : (told : Option Segments) (m : Machine) (cs : List Named) (ks :
 closed_seen None m cs ks room rs t seg cache now c bare =
     let n : ReferenceMachine = closed m None cs ks room rs t seg cache now c in
     let openings = closed_openings m None cs ks room rs t seg cache now c in
-    (seen_blank m cs bare, seen_gone m n cs now bare (goes_too m None cs ks room rs t seg cache now c n openings refl) refl openings)
+    (seen_blank m cs bare, seen_gone m m.actors n cs now bare (goes_too m None cs ks room rs t seg cache now c n openings refl) refl openings)
 closed_seen (Some h) m cs ks room rs t seg cache now c bare =
     let n : ReferenceMachine = closed m (Some h) cs ks room rs t seg cache now c in
     let openings = closed_openings m (Some h) cs ks room rs t seg cache now c in
     sym (absorbed (whole_of m (Some h) cs) n (goes_too m (Some h) cs ks room rs t seg cache now c n openings refl) m.caches refl refl (apart_by m t.apart)
     ∙ (λ i. let_go (record { memory = m; stored = stored_beside m (Some h); openings = openings i })))
+
+-- What is seen where the machine stays
+pub seen_same : (told : Option Segments) (m : Machine) (cs : List Named) → IfNone told (m ≡ blank m) → IsSeen told (state_over told m cs) (state_over told m cs) (references_seen m told cs)
+seen_same None m cs bare = (seen_blank m cs bare, seen_blank m cs bare)
+seen_same (Some h) m cs bare = refl
 
 -- the row of the table
 close_row : (r : ReferenceMachine) (seg : ℕ) → is_open r seg ≡ true → close_of r seg ≡ reply replies.Done (let_go (close_one seg r))
@@ -182,7 +187,7 @@ not_released M G before old seg can none = record {
     rises = no_counts;
     rose = rise_none (M.counts before);
     is = record {
-      step = step_by (state_of G old (M.held before)) (state_of G old (M.held before)) (commands.Close seg) (Err (troubles.Refused refusals.NotOpen)) no_counts seen (λ h. (0, row)) (same (segments_of (M.held before)) m old.caches.items (blank_told (M.held before) m can.blank));
+      step = step_by (state_of G old (M.held before)) (state_of G old (M.held before)) (commands.Close seg) (Err (troubles.Refused refusals.NotOpen)) no_counts seen (λ h. (0, row)) (seen_same (segments_of (M.held before)) m old.caches.items (blank_told (M.held before) m can.blank));
       denied = refl;
     };
   };
@@ -197,10 +202,6 @@ not_released M G before old seg can none = record {
 
     row : close_of seen seg.0 ≡ refuse seen refusals.NotOpen
     row = not_open_row seen seg.0 (ap (λ (f : ℕ → ℕ). nat_lt 0 (f seg.0)) (seen_openings (segments_of (M.held before)) m old.caches.items) ∙ ap (nat_lt 0) none)
-
-    same : (told : Option Segments) (m : Machine) (cs : List Named) → IfNone told (m ≡ blank m) → IsSeen told (state_over told m cs) (state_over told m cs) (references_seen m told cs)
-    same None m cs bare = (seen_blank m cs bare, seen_blank m cs bare)
-    same (Some h) m cs bare = refl
 
 -- The same by the calls that it makes
 module _ {Manager X Chooser : Type 0} (M : GhostsOfMapper X) (G : GhostsOfGmi Manager X Chooser) (before : X) (old then_closed : SegManager Manager) (seg : SegId) (cache : CacheId) (can : CanCall G old (M.held before) (M.page_bytes before))

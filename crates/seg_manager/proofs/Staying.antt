@@ -1,16 +1,22 @@
 -- A command that leaves what is seen: what such a call of the manager of segments comes to.
-use Rattle.std.proofs.Common.{◌≡◌, ℕ, ◌+◌, ◌*◌, ◌^◌, ◌≤◌, List, length, Option, Some, None, refl, sym, ap, ◌∙◌, arith}
+use Rattle.std.proofs.Common.{◌≡◌, ℕ, ◌+◌, ◌*◌, ◌^◌, ◌≤◌, List, length, Option, Some, None, refl, sym, ap, subst, ◌∙◌, arith}
 use Rattle.std.specs.Prelude.{IfNone, Err, option_map}
-use Rattle.vm_ids.specs.Counting.{MapperCounts, Rise}
+use Rattle.vm_ids.specs.Counting.{MapperCounts, Rise, no_counts}
 use Rattle.vm_ids.specs.Held.{Segments, segments_of}
+use Rattle.vm_ids.specs.declared.command.Command.{Command}
 use Rattle.vm_ids.specs.declared.command.KeepCommand.{KeepCommand}
+use Rattle.vm_ids.specs.declared.refusal.Refusal.TheVariants.{TooMany}
 use Rattle.vm_ids.specs.declared.reply.Trouble.{Trouble}
+use Rattle.vm_ids.specs.declared.reply.Trouble.TheVariants.{Refused}
+use Rattle.vm_model.specs.Answering as plain
+use Rattle.vm_model.specs.Answering.{Answer}
 use Rattle.vm_model.specs.Machine.{Machine}
-use Rattle.vm_model.specs.Outcome.{blank}
+use Rattle.vm_model.specs.Outcome.{Outcome, OutcomeAt, blank}
+use Rattle.vm_model.specs.PageForest.{PageForest, forest_shown}
 use Rattle.vm_port.specs.declared.traits.mapper.Mapper.{Ghosts as GhostsOfMapper}
 use Rattle.gmi_calls.specs.declared.gmi.Gmi.{Ghosts as GhostsOfGmi}
 use Rattle.seg_manager.specs.Calling.{SegmentCall, call_budget}
-use Rattle.seg_manager.specs.Outcome.{Outcome}
+use Rattle.seg_manager.specs.Outcome as keep
 use Rattle.seg_manager.specs.ReferenceMachine.{ReferenceMachine}
 use Rattle.seg_manager.specs.Seen.{references_seen, state_of}
 use Rattle.seg_manager.specs.Stepping.{State, blank_references}
@@ -19,7 +25,7 @@ use Rattle.seg_manager.specs.Tying.{CanCall}
 use Rattle.seg_manager.specs.declared.manager.SegManager.{SegManager}
 use Rattle.seg_manager.specs.declared.tables.Named.{Named}
 use Rattle.seg_manager.proofs.Releasing.{blank_told}
-use Rattle.seg_manager.proofs.Steps.{AreSeen, seen_blank, step_whole}
+use Rattle.seg_manager.proofs.Steps.{AreSeen, alike_err, seen_blank, step_whole}
 
 -- without bytes, where nothing is told
 pub blank_seen : (told : Option Segments) (m : Machine) (cs : List Named) → IfNone told (m ≡ blank m) → IfNone told (references_seen m told cs ≡ blank_references (references_seen m told cs))
@@ -33,6 +39,25 @@ same_seen None (Some h) e before after r x y bare = absurd (cc e)
 same_seen (Some h) None e before after r x y bare = absurd (cc e)
 same_seen (Some h) (Some g) e before after r x y bare = (x, y)
 
+-- refused, it would be refused again
+pub refused_again : (told : Option Segments) (m n : Machine) (f g : Option PageForest) (c : Command) → ((x : Machine) (f g : PageForest) (h : Segments) → plain.answer_of x f c h ≡ plain.answer_of x g c h) → (t : Trouble) (rises : MapperCounts) → n ≡ m
+    → OutcomeAt told m f c (Err t) n rises → t ≡ Refused TooMany → OutcomeAt told n g c (Err (Refused TooMany)) n no_counts
+refused_again (Some h) m n f g c same_for t rises same o e =
+    same_for n (forest_shown g n) (forest_shown f n) h
+    ∙ subst (λ (x : Machine). plain.answer_of x (forest_shown f x) c h ≡ record { answer = Err (Refused TooMany); next = n }) (sym same) (subst (λ (x : Trouble). Outcome m f c h (Err x) n rises) e o)
+refused_again None m n f g c same_for t rises same o e = record {
+  whole = o.whole;
+  whole_next = o.whole_next;
+  segments = o.segments;
+  whole_answer = Err (Refused TooMany);
+  is = same ∙ o.is;
+  is_next = o.is_next;
+  pages = o.pages;
+  alike = refl;
+  outcome = same_for o.whole (forest_shown g o.whole) (forest_shown f o.whole) o.segments
+      ∙ subst (λ (a : Answer). Outcome o.whole f c o.segments a o.whole_next rises) (alike_err t o.whole_answer o.alike ∙ ap (λ (x : Trouble). Err x) e) o.outcome;
+}
+
 module _ {Manager X Chooser : Type 0} (M : GhostsOfMapper X) (G : GhostsOfGmi Manager X Chooser) (before : X) (old : SegManager Manager) (able : CanCall G old (M.held before) (M.page_bytes before)) where
   -- The same caches are seen then.
   pub record Stays (after : X) (new : SegManager Manager) (rises : MapperCounts) : Type 0 where
@@ -45,7 +70,7 @@ module _ {Manager X Chooser : Type 0} (M : GhostsOfMapper X) (G : GhostsOfGmi Ma
     pub denied : denied_by M G after ≡ denied_by M G before
 
   pub stays_call : (after : X) (new : SegManager Manager) (command : KeepCommand) (t : Trouble) (rises : MapperCounts) → Stays after new rises
-      → ((h : Segments) → Outcome (seen_with M G old before) None command h 0 (Err t) (seen_with M G old before) rises) → SegmentCall M G before old command (Err t) after new
+      → ((h : Segments) → keep.Outcome (seen_with M G old before) None command h 0 (Err t) (seen_with M G old before) rises) → SegmentCall M G before old command (Err t) after new
   stays_call after new command t rises s outcome = record {
     can = s.can;
     made = s.made;

@@ -7,8 +7,9 @@ use Rattle.vm_ids.specs.Counting.{MapperCounts}
 use Rattle.vm_ids.specs.Held.{Segments}
 use Rattle.vm_ids.specs.declared.command.KeepCommand.{KeepCommand}
 use Rattle.vm_ids.specs.declared.reply.Reply.TheVariants as replies
+use Rattle.vm_ids.specs.declared.reply.Trouble.{Trouble}
 use Rattle.vm_model.specs.Answering.{Answer}
-use Rattle.vm_model.specs.Machine.{Cache, Machine}
+use Rattle.vm_model.specs.Machine.{Actor, Cache, Machine}
 use Rattle.vm_model.specs.Outcome.{IsAlike, blank, blank_cache}
 use Rattle.seg_manager.specs.Outcome.{Outcome}
 use Rattle.seg_manager.specs.ReferenceMachine.{ReferenceMachine, goes, let_go, used, used_at}
@@ -21,6 +22,10 @@ use Rattle.seg_manager.proofs.Storing.{GoesToo, used_twice}
 pub alike_self : (a : Answer) → IsAlike a a
 alike_self (Ok (replies.Bytes bytes)) = refl
 alike_self a = refl
+
+pub alike_err : (t : Trouble) (a : Answer) → IsAlike a (Err t) → a ≡ Err t
+alike_err t (Ok (replies.Bytes bytes)) h = h
+alike_err t a h = h
 
 abbrev pub no_segments : Segments
 no_segments = record { pages = empty; denied = [] }
@@ -70,9 +75,9 @@ seen_blank m cs bare = λ i. record {
 }
 
 -- The same where references go: by those of n, over what is left by those of m.
-pub seen_gone : (m : Machine) (n : ReferenceMachine) (was now : List Named) → m ≡ blank m → GoesToo (whole_of m None was) n → n.memory ≡ (references_seen m None was).memory → n.openings ≡ openings_in now
-    → references_seen m None now ≡ blank_references (let_go n)
-seen_gone m n was now bare too memory openings = λ i. record {
+pub seen_gone : (m : Machine) (actors : List (Option Actor)) (n : ReferenceMachine) (was now : List Named) → m ≡ blank m → GoesToo (whole_of m None was) n → n.memory ≡ record (references_seen m None was).memory { actors = actors } → n.openings ≡ openings_in now
+    → references_seen (record m { actors = actors }) None now ≡ blank_references (let_go n)
+seen_gone m actors n was now bare too memory openings = λ i. record {
   memory = record (sym memory i) { caches = caches i };
   stored = λ seg. None;
   openings = sym openings i;
@@ -82,14 +87,11 @@ seen_gone m n was now bare too memory openings = λ i. record {
     W = whole_of m None was
 
     V : ReferenceMachine
-    V = whole_of m None now
-
-    actors : V.memory.actors ≡ n.memory.actors
-    actors = sym (ap (λ (x : Machine). x.actors) memory)
+    V = whole_of (record m { actors = actors }) None now
 
     caches : used V 1 m.caches ≡ map (option_map blank_cache) (used n 1 n.memory.caches)
     caches =
-        used_same n V (sym openings) actors 1 m.caches
+        used_same n V (sym openings) (sym (ap (λ (x : Machine). x.actors) memory)) 1 m.caches
         ∙ sym (used_twice W n too 1 m.caches)
         ∙ ap (used n 1) (sym (ap (λ (x : Machine). x.caches) memory))
         ∙ ap (used n 1) (ap (λ (x : Machine). x.caches) memory ∙ ap (used W 1) (ap (λ (x : Machine). x.caches) bare) ∙ sym (blank_used W 1 m.caches) ∙ sym (ap (λ (x : Machine). map (option_map blank_cache) x.caches) memory))

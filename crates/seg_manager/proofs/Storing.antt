@@ -90,9 +90,6 @@ module _ (m n : ReferenceMachine) (too : GoesToo m n) (cs : Caches) (caches : n.
   abbrev whole : ReferenceMachine
   whole = record { memory = record n.memory { caches = cs }; stored = m.stored; openings = n.openings }
 
-  goes_whole : (k : ℕ) (c : Cache) → goes whole k c ≡ goes n k c
-  goes_whole k c = refl
-
   used_whole : (k : ℕ) (xs : Caches) → used whole k xs ≡ used n k xs
   used_whole k [] = refl
   used_whole k (None ∷ xs) = ap (λ (ys : Caches). None ∷ ys) (used_whole (k + 1) xs)

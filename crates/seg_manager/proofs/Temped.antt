@@ -46,8 +46,8 @@ use Rattle.seg_manager.proofs.Leaving.{credit_few, seen_length}
 use Rattle.seg_manager.proofs.Opened.{appended, number_next}
 use Rattle.seg_manager.proofs.Pushed.{Told}
 use Rattle.seg_manager.proofs.Releasing.{blank_told}
-use Rattle.seg_manager.proofs.Staying.{Stays, stays_call}
-use Rattle.seg_manager.proofs.Steps.{AreSeen, step_whole}
+use Rattle.seg_manager.proofs.Staying.{Stays, refused_again, stays_call}
+use Rattle.seg_manager.proofs.Steps.{AreSeen, alike_err, step_whole}
 use Rattle.seg_manager.proofs.Temping.{temp_leaves}
 use Rattle.seg_manager.proofs.Temporary.{nameless, seen_temp, tied_temp}
 use Rattle.seg_manager.proofs.Tried.{can_same, seen_same}
@@ -129,25 +129,6 @@ seen_bytes : (told : Option Segments) (m : Machine) (cs : List Named) → (refer
 seen_bytes None m cs = refl
 seen_bytes (Some h) m cs = refl
 
--- refused, it would be refused again
-refused_again : (told : Option Segments) (m n : Machine) (f g : Option PageForest) (pages : ℕ) (r : Refusal) (rises : MapperCounts) → n ≡ m → OutcomeAt told m f (MakeTemp pages) (Err (troubles.Refused r)) n rises → OutcomeAt told n g (MakeTemp pages) (Err (troubles.Refused r)) n no_counts
-refused_again (Some h) m n f g pages r rises same o = subst (λ (x : Machine). plain.make_temp_of x pages ≡ record { answer = Err (troubles.Refused r); next = n }) (sym same) o
-refused_again None m n f g pages r rises same o = record {
-  whole = o.whole;
-  whole_next = o.whole_next;
-  segments = o.segments;
-  whole_answer = Err (troubles.Refused r);
-  is = same ∙ o.is;
-  is_next = o.is_next;
-  pages = o.pages;
-  alike = refl;
-  outcome = subst (λ (a : Answer). plain_outcome.Outcome o.whole f (MakeTemp pages) o.segments a o.whole_next rises) (back o.whole_answer o.alike) o.outcome;
-}
-  where
-    back : (a : Answer) → IsAlike a (Err (troubles.Refused r)) → a ≡ Err (troubles.Refused r)
-    back (Ok (replies.Bytes bytes)) h = h
-    back a h = h
-
 -- which trouble it is
 only_many : (m : Machine) (pages : ℕ) (r : Refusal) (n : Machine) → plain.make_temp_of m pages ≡ record { answer = Err (troubles.Refused r); next = n } → r ≡ refusals.TooMany
 unfolding plain.make_temp_of
@@ -168,11 +149,7 @@ which_at : (told : Option Segments) (m n : Machine) (f : Option PageForest) (pag
 which_at (Some h) m n f pages t rises o = which m n f h pages t rises o
 which_at None m n f pages t rises o =
     which o.whole o.whole_next f o.segments pages t rises
-    (subst (λ (a : Answer). plain_outcome.Outcome o.whole f (MakeTemp pages) o.segments a o.whole_next rises) (back o.whole_answer o.alike) o.outcome)
-  where
-    back : (a : Answer) → IsAlike a (Err t) → a ≡ Err t
-    back (Ok (replies.Bytes bytes)) h = h
-    back a h = h
+    (subst (λ (a : Answer). plain_outcome.Outcome o.whole f (MakeTemp pages) o.segments a o.whole_next rises) (alike_err t o.whole_answer o.alike) o.outcome)
 
 module _ {Manager X Chooser : Type 0} (M : GhostsOfMapper X) (G : GhostsOfGmi Manager X Chooser) (before : X) (old : SegManager Manager) (pages : ℕ) (can : CanCall G old (M.held before) (M.page_bytes before)) where
   pub temp_credit : G.made old.gmi ≤ 2 ^ 61 → credit M G old before ≤ 2 ^ 61 + 2 ^ 32
@@ -227,12 +204,14 @@ module _ {Manager X Chooser : Type 0} (M : GhostsOfMapper X) (G : GhostsOfGmi Ma
       not_made none = record {
         call = stays_call M G before old can after left (commands.Plain (MakeTemp pages)) t rises stays
             (λ h. says h (which_at (segments_of (M.held after)) m (machine_at M G left after) (forest M G by gmi middle after (MakeTemp pages) (Err t) thins.can call) pages t its_rises (call_is M G by gmi middle after (MakeTemp pages) (Err t) thins.can call).is.outcome));
-        kept = (kept_behind, (λ e. (let is : t ≡ troubles.Refused refusals.TooMany = cc e in (
-          none is,
-          refused_again (segments_of (M.held after)) m (machine_at M G left after) (forest M G by gmi middle after (MakeTemp pages) (Err t) thins.can call) (G.forest gmi (M.held after)) pages refusals.TooMany its_rises same
-              (subst (λ (x : Trouble). OutcomeAt (segments_of (M.held after)) m (forest M G by gmi middle after (MakeTemp pages) (Err t) thins.can call) (MakeTemp pages) (Err x) (machine_at M G left after) its_rises) is
-              (call_is M G by gmi middle after (MakeTemp pages) (Err t) thins.can call).is.outcome),
-        ))));
+        kept = (
+          kept_behind,
+          (λ e. (let is : t ≡ troubles.Refused refusals.TooMany = cc e in (
+            none is,
+            refused_again (segments_of (M.held after)) m (machine_at M G left after) (forest M G by gmi middle after (MakeTemp pages) (Err t) thins.can call) (G.forest gmi (M.held after)) (MakeTemp pages) (λ x f g h. refl) t its_rises same
+                (call_is M G by gmi middle after (MakeTemp pages) (Err t) thins.can call).is.outcome is,
+          ))),
+        );
       }
 
     -- Another cache couldn't make room.

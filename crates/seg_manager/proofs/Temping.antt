@@ -19,6 +19,7 @@ use Rattle.gmi_calls.specs.declared.gmi.Gmi.{Ghosts as GhostsOfGmi}
 use Rattle.seg_manager.specs.Tying.{CanCall}
 use Rattle.seg_manager.specs.declared.manager.SegManager.{SegManager}
 use Rattle.seg_manager.proofs.Calls.{call_is, forest}
+use Rattle.seg_manager.proofs.Steps.{alike_err}
 use Rattle.seg_manager.proofs.Tried.{Leaves}
 
 by_row : (m : Machine) (pages : ℕ) (t : Trouble) (n : Machine) → make_temp_of m pages ≡ record { answer = Err t; next = n } → n ≡ m
@@ -31,10 +32,6 @@ by_outcome : (m n : Machine) (f : Option PageForest) (h : Segments) (pages : ℕ
 by_outcome m n f h pages (troubles.Refused r) rises o = by_row m pages (troubles.Refused r) n o
 by_outcome m n f h pages (troubles.Mapper at) rises o = o.0
 by_outcome m n f h pages troubles.Memory rises o = o.0
-
-alike_err : (t : Trouble) (a : Answer) → IsAlike a (Err t) → a ≡ Err t
-alike_err t (Ok (replies.Bytes bytes)) h = h
-alike_err t a h = h
 
 -- a temporary cache that isn't made leaves the machine
 temp_stays : (told : Option Segments) (m n : Machine) (f : Option PageForest) (pages : ℕ) (t : Trouble) (rises : MapperCounts) → OutcomeAt told m f (vm_commands.MakeTemp pages) (Err t) n rises → n ≡ m

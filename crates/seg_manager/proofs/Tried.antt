@@ -72,23 +72,6 @@ module _ {Manager X Chooser : Type 0} (M : GhostsOfMapper X) (G : GhostsOfGmi Ma
           rose = (call_is M G manager gmi before after c a can call).rose;
         }
 
--- Room is made
-
-too_many_is : (t : Trouble) → is_too_many t ≡ true → t ≡ troubles.Refused refusals.TooMany
-too_many_is (troubles.Refused refusals.TooMany) e = refl
-too_many_is t e = absurd (cc e)
-
-module _ {Manager X Chooser : Type 0} (M : GhostsOfMapper X) (G : GhostsOfGmi Manager X Chooser) (trouble : Trouble) (before : X) (old : SegManager Manager) where
-  pub no_room : (trouble ≡ troubles.Refused refusals.TooMany → old.kept.items ≡ []) → IsRoomMade M G trouble before old (Err trouble) before old
-  no_room none = inl (record { mapper = refl; same = refl; is = refl; none = none })
-
-  pub not_wanted : is_too_many trouble ≡ false → IsRoomMade M G trouble before old (Err trouble) before old
-  not_wanted e = no_room (λ is. absurd (let yes : is_too_many trouble ≡ true = ap is_too_many is in cc (e, yes)))
-
-  pub room_made : is_too_many trouble ≡ true → 1 ≤ length old.kept.items → (result : Result (Unit {0}) Trouble) (after : X) (new : SegManager Manager) → IsDestroyed M G before old result after new → IsRoomMade M G trouble before old result after new
-  room_made e some (Ok u) after new d = record { wanted = too_many_is trouble e; thins = d.0; less = omega (arith, ap length d.1, length-drop 1 old.kept.items, some) }
-  room_made e some (Err t) after new d = inr (record { wanted = too_many_is trouble e; fails = d })
-
 -- The loop
 
 -- what is noted isn't of the segment
@@ -110,9 +93,6 @@ module _ {Manager X Chooser : Type 0} (M : GhostsOfMapper X) (G : GhostsOfGmi Ma
   Leaves c gmi mapper = (t : Trouble) (after : X) (then_gmi : Manager) → MapperCall M (meanings_of G) mapper gmi c (Err t) after then_gmi → G.machine then_gmi (M.held after) ≡ G.machine gmi (M.held mapper)
 
   module _ (c : Command) (middle : X) (by : SegManager Manager) (thins : Thins M G before old middle by) (leaves : Leaves c by.gmi middle) where
-    pub made_here : credit M G old before ≤ 2 ^ 61 + 2 ^ 32 → G.made by.gmi ≤ 2 ^ 62
-    made_here h = omega (arith, h, thins.credit)
-
     pub tries_ok : (cache : CacheId) (after : X) (gmi : Manager) → MapperCall M (meanings_of G) middle by.gmi c (Ok (replies.Cache cache)) after gmi → IsTried M G c before old (Ok cache) after (record by { gmi = gmi })
     tries_ok cache after gmi call = record { middle = middle; by = by; thins = thins; call = call; same = refl }
 

@@ -5,6 +5,7 @@ use Rattle.std.specs.List.{AllByRecursion, list_any}
 use Rattle.std.specs.Option.{option_map_or}
 use Rattle.std.proofs.lemmas.Bool.{cases_eq, eq-eqb, eqb-true, ne_eqb}
 use Rattle.std.proofs.lemmas.Bool.Decides.{nat_tests}
+use Rattle.std.proofs.lemmas.List.{append-nil}
 use Rattle.std.proofs.lemmas.List.Folds.{list_any-append}
 use Rattle.vm_ids.specs.Held.{Segments}
 use Rattle.vm_ids.specs.declared.numbers.CacheId.{CacheId}
@@ -129,26 +130,36 @@ no_reference k b = by (nat_lt 0 k) refl
     by true e = let some : (k == 0) ≡ false = grind (arith, nat_tests) in (λ i. not (e i || b)) ∙ sym (ap (λ (c : Bool). c && not b) some)
     by false e = let none : (k == 0) ≡ true = grind (arith, nat_tests) in (λ i. not (e i || b)) ∙ sym (ap (λ (c : Bool). c && not b) none)
 
-module _ (m : Machine) (told : Option Segments) (cs : List Named) (rs : List Mapped) (noted : map naming_of cs ≡ namings 1 m.caches) (regions : map noted_of rs ≡ noted_regions 1 m.actors)
+-- nothing refers to the cache, by the regions that are noted
+abbrev pub is_unreferenced_by : Machine → List Named → List Mapped → ℕ → Bool
+is_unreferenced_by m cs rs n = option_map_or (λ seg. not (nat_lt 0 (openings_in cs seg) || list_any (maps n) rs)) (segment_of m n) false
+
+-- by the regions of the machine it is the same
+pub unreferenced_same : (m : Machine) (told : Option Segments) (cs : List Named) (rs : List Mapped) → map noted_of rs ≡ noted_regions 1 m.actors → (n : ℕ) → is_unreferenced (whole_of m told cs) n ≡ is_unreferenced_by m cs rs n
+unreferenced_same m told cs rs regions n = by (cache_of m n)
+  where
+    by : (o : Option Cache) → option_map_or (goes (whole_of m told cs) n) o false ≡ option_map_or (λ seg. not (nat_lt 0 (openings_in cs seg) || list_any (maps n) rs)) (option_and_then (λ (c : Cache). c.segment) o) false
+    by None = refl
+    by (Some c) = λ i. option_map_or (λ seg. not (nat_lt 0 (openings_in cs seg) || sym (mapped_is m rs regions n) i)) c.segment false
+
+module _ (m : Machine) (cs : List Named) (rs : List Mapped) (noted : map naming_of cs ≡ namings 1 m.caches)
     (apart : (i j seg : ℕ) → segment_of m i ≡ Some seg → segment_of m j ≡ Some seg → i ≡ j) (cache : CacheId) where
   abbrev n : ℕ
   n = cache.0
 
   abbrev U : Bool
-  U = is_unreferenced (whole_of m told cs) n
+  U = is_unreferenced_by m cs rs n
 
   -- as its entry says
   entry_says : (s : ℕ) → segment_of m n ≡ Some s → (e : Named) × (named_with n cs ≡ Some e) × (e.seg.0 ≡ s) × (U ≡ ((e.openings == 0) && not (list_any (maps n) rs)))
   entry_says s of =
-      let c = segment_cache m n s of in
       let e = entry_there m cs noted n s of in
       let o = named_openings n s cs (ones_of m cs noted apart n s of) e.0 e.1 in (
         e.0,
         e.1,
         o.0,
-        ap (λ (x : Option Cache). option_map_or (goes (whole_of m told cs) n) x false) c.1
-            ∙ ap (λ (x : Option ℕ). option_map_or (λ seg. not (nat_lt 0 (openings_in cs seg) || is_mapped m n)) x false) c.2
-            ∙ (λ i. not (nat_lt 0 (o.1 i) || sym (mapped_is m rs regions n) i))
+        ap (λ (x : Option ℕ). option_map_or (λ seg. not (nat_lt 0 (openings_in cs seg) || list_any (maps n) rs)) x false) of
+            ∙ ap (λ (k : ℕ). not (nat_lt 0 k || list_any (maps n) rs)) o.1
             ∙ no_reference e.0.openings (list_any (maps n) rs),
       )
 
@@ -165,11 +176,7 @@ module _ (m : Machine) (told : Option Segments) (cs : List Named) (rs : List Map
   unused_found sure = by (segment_of m n) refl
     where
       none : segment_of m n ≡ None → U ≡ false
-      none e = at (cache_of m n) refl e
-        where
-          at : (o : Option Cache) → cache_of m n ≡ o → option_and_then (λ (c : Cache). c.segment) o ≡ None → option_map_or (goes (whole_of m told cs) n) o false ≡ false
-          at None is e = refl
-          at (Some c) is e = ap (λ (x : Option ℕ). option_map_or (λ seg. not (nat_lt 0 (openings_in cs seg) || is_mapped m n)) x false) e
+      none e = ap (λ (x : Option ℕ). option_map_or (λ seg. not (nat_lt 0 (openings_in cs seg) || list_any (maps n) rs)) x false) e
 
       by : (o : Option ℕ) → segment_of m n ≡ o → Finds
       by None e = absurd (let not_so = none e in cc (sure, not_so))
@@ -225,50 +232,56 @@ all_append : {A : Type 0} (P : A → Type 0) (xs ys : List A) → AllByRecursion
 all_append P [] ys h g = g
 all_append P (x ∷ xs) ys h g = (h.0, all_append P xs ys h.1 g)
 
-pub keeps_more : (m : Machine) (told : Option Segments) (cs : List Named) (rs : List Mapped) → map naming_of cs ≡ namings 1 m.caches → map noted_of rs ≡ noted_regions 1 m.actors
+pub keeps_more : (m : Machine) (cs : List Named) (rs : List Mapped) → map naming_of cs ≡ namings 1 m.caches
     → ((i j seg : ℕ) → segment_of m i ≡ Some seg → segment_of m j ≡ Some seg → i ≡ j)
     → (cache : CacheId) (ks : List Kept) (was : ℕ → Bool) → ((q : ℕ) → is_kept ks q ≡ was q) → AreOnce ks → AllByRecursion (λ (k : Kept). segment_of m k.cache.0 ≡ Some k.seg.0) ks
-    → was cache.0 ≡ false → ((q : ℕ) → q ≢ cache.0 → is_unreferenced (whole_of m told cs) q ≡ was q)
-    → KeepsMore ks (unused_in cs rs cache) (is_unreferenced (whole_of m told cs)) m
-keeps_more m told cs rs noted regions apart cache ks was kept once named free same = by (is_unreferenced (whole_of m told cs) cache.0) refl
+    → was cache.0 ≡ false → ((q : ℕ) → q ≢ cache.0 → is_unreferenced_by m cs rs q ≡ was q)
+    → KeepsMore ks (unused_in cs rs cache) (is_unreferenced_by m cs rs) m
+keeps_more m cs rs noted apart cache ks was kept once named free same = by (is_unreferenced_by m cs rs cache.0) refl
   where
-    by : (b : Bool) → is_unreferenced (whole_of m told cs) cache.0 ≡ b → KeepsMore ks (unused_in cs rs cache) (is_unreferenced (whole_of m told cs)) m
+    by : (b : Bool) → is_unreferenced_by m cs rs cache.0 ≡ b → KeepsMore ks (unused_in cs rs cache) (is_unreferenced_by m cs rs) m
     by false e =
-        subst (λ (more : List Kept). KeepsMore ks more (is_unreferenced (whole_of m told cs)) m) (sym (used_found m told cs rs noted regions apart cache e)) (record {
+        subst (λ (more : List Kept). KeepsMore ks more (is_unreferenced_by m cs rs) m) (sym (used_found m cs rs noted apart cache e)) (record {
           kept = λ q. kept_append ks [] q ∙ or_none (is_kept ks q) ∙ kept q ∙ elim (cases_eq q cache.0) [
-            | inl is ↦ ap was is ∙ free ∙ sym e ∙ ap (is_unreferenced (whole_of m told cs)) (sym is)
+            | inl is ↦ ap was is ∙ free ∙ sym e ∙ ap (is_unreferenced_by m cs rs) (sym is)
             | inr other ↦ sym (same q other)
           ];
-          once = subst AreOnce (sym (nil ks)) once;
-          named = subst (AllByRecursion (λ (k : Kept). segment_of m k.cache.0 ≡ Some k.seg.0)) (sym (nil ks)) named;
+          once = subst AreOnce (sym (append-nil ks)) once;
+          named = subst (AllByRecursion (λ (k : Kept). segment_of m k.cache.0 ≡ Some k.seg.0)) (sym (append-nil ks)) named;
         })
-      where
-        nil : {A : Type 0} (xs : List A) → xs ++ [] ≡ xs
-        nil [] = refl
-        nil (x ∷ xs) = ap (λ ys. x ∷ ys) (nil xs)
     by true e =
-        let f = unused_found m told cs rs noted regions apart cache e in
+        let f = unused_found m cs rs noted apart cache e in
         let number : f.kept.cache.0 ≡ cache.0 = ap (λ (c : CacheId). c.0) f.cache_is in
-        subst (λ (more : List Kept). KeepsMore ks more (is_unreferenced (whole_of m told cs)) m) (sym f.is) (record {
+        subst (λ (more : List Kept). KeepsMore ks more (is_unreferenced_by m cs rs) m) (sym f.is) (record {
           kept = λ q. kept_append ks (f.kept ∷ []) q ∙ elim (cases_eq q cache.0) [
-            | inl is ↦ (λ i. (kept q ∙ ap was is ∙ free) i || ((eq-eqb f.kept.cache.0 q (number ∙ sym is)) i || false)) ∙ sym (ap (is_unreferenced (whole_of m told cs)) is ∙ e)
+            | inl is ↦ (λ i. (kept q ∙ ap was is ∙ free) i || ((eq-eqb f.kept.cache.0 q (number ∙ sym is)) i || false)) ∙ sym (ap (is_unreferenced_by m cs rs) is ∙ e)
             | inr other ↦ (λ i. is_kept ks q || (ne_eqb f.kept.cache.0 q (λ s. other (sym s ∙ number)) i || false)) ∙ or_none (is_kept ks q) ∙ kept q ∙ sym (same q other)
           ];
           once = once_more ks f.kept once (ap (is_kept ks) number ∙ kept cache.0 ∙ free);
           named = all_append (λ (k : Kept). segment_of m k.cache.0 ≡ Some k.seg.0) ks (f.kept ∷ []) named (ap (segment_of m) number ∙ f.of ∙ ap (λ (s : ℕ). Some s) (sym f.named), tt);
         })
 
--- the segment of what is found unused, as it is said of the machine
+-- the segment of what is found unused
+pub left_noted : (m : Machine) (cs : List Named) (rs : List Mapped) → map naming_of cs ≡ namings 1 m.caches
+    → ((i j seg : ℕ) → segment_of m i ≡ Some seg → segment_of m j ≡ Some seg → i ≡ j)
+    → (cache : CacheId) → kept_segments (unused_in cs rs cache) ≡ cond (is_unreferenced_by m cs rs cache.0) (option_map_or (λ seg. seg ∷ []) (segment_of m cache.0) []) []
+left_noted m cs rs noted apart cache = by (is_unreferenced_by m cs rs cache.0) refl
+  where
+    by : (b : Bool) → is_unreferenced_by m cs rs cache.0 ≡ b → kept_segments (unused_in cs rs cache) ≡ cond (is_unreferenced_by m cs rs cache.0) (option_map_or (λ seg. seg ∷ []) (segment_of m cache.0) []) []
+    by false e =
+        ap kept_segments (used_found m cs rs noted apart cache e)
+        ∙ sym (ap (λ (b : Bool). cond b (option_map_or (λ seg. seg ∷ []) (segment_of m cache.0) []) []) e)
+    by true e =
+        let f = unused_found m cs rs noted apart cache e in
+        ap kept_segments f.is ∙ ap (λ (s : ℕ). s ∷ []) f.named
+        ∙ sym (ap (λ (b : Bool). cond b (option_map_or (λ seg. seg ∷ []) (segment_of m cache.0) []) []) e ∙ ap (λ (o : Option ℕ). option_map_or (λ seg. seg ∷ []) o []) f.of)
+
+-- the same, as it is said of the machine
+pub left_unreferenced : (m : Machine) (told : Option Segments) (cs : List Named) (rs : List Mapped) → map noted_of rs ≡ noted_regions 1 m.actors
+    → (q : ℕ) → left_one (whole_of m told cs) q ≡ cond (is_unreferenced_by m cs rs q) (option_map_or (λ seg. seg ∷ []) (segment_of m q) []) []
+left_unreferenced m told cs rs regions q = ap (λ (b : Bool). cond b (option_map_or (λ seg. seg ∷ []) (segment_of m q) []) []) (unreferenced_same m told cs rs regions q)
+
 pub left_is : (m : Machine) (told : Option Segments) (cs : List Named) (rs : List Mapped) → map naming_of cs ≡ namings 1 m.caches → map noted_of rs ≡ noted_regions 1 m.actors
     → ((i j seg : ℕ) → segment_of m i ≡ Some seg → segment_of m j ≡ Some seg → i ≡ j)
     → (cache : CacheId) → kept_segments (unused_in cs rs cache) ≡ left_one (whole_of m told cs) cache.0
-left_is m told cs rs noted regions apart cache = by (is_unreferenced (whole_of m told cs) cache.0) refl
-  where
-    by : (b : Bool) → is_unreferenced (whole_of m told cs) cache.0 ≡ b → kept_segments (unused_in cs rs cache) ≡ left_one (whole_of m told cs) cache.0
-    by false e =
-        ap kept_segments (used_found m told cs rs noted regions apart cache e)
-        ∙ sym (ap (λ (b : Bool). cond b (option_map_or (λ seg. seg ∷ []) (segment_of m cache.0) []) []) e)
-    by true e =
-        let f = unused_found m told cs rs noted regions apart cache e in
-        ap kept_segments f.is ∙ ap (λ (s : ℕ). s ∷ []) f.named
-        ∙ sym (ap (λ (b : Bool). cond b (option_map_or (λ seg. seg ∷ []) (segment_of m cache.0) []) []) e ∙ ap (λ (o : Option ℕ). option_map_or (λ seg. seg ∷ []) o []) f.of)
+left_is m told cs rs noted regions apart cache = left_noted m cs rs noted apart cache ∙ sym (left_unreferenced m told cs rs regions cache.0)

@@ -1,5 +1,5 @@
 -- What the inner calls say.
-use Rattle.std.specs.Prelude.{◌≡◌, ◌==◌, ◌||◌, ◌&&◌, ◌≤◌, nat_lt, not, ℕ, ◌+◌, ◌-◌, Bool, true, false, List, [], ◌∷◌, filter, Option, Some, None, Result, Ok, Err, slice_get, slice_set, if◌then◌else◌}
+use Rattle.std.specs.Prelude.{◌≡◌, ◌==◌, ◌||◌, ◌&&◌, ◌≤◌, nat_lt, not, ℕ, ◌+◌, ◌-◌, Bool, true, false, List, [], ◌∷◌, ◌++◌, filter, Option, Some, None, Result, Ok, Err, slice_get, slice_set, if◌then◌else◌}
 use Rattle.std.specs.List.{list_any, position_from}
 use Rattle.vm_ids.specs.declared.command.Mapping.{Mapping}
 use Rattle.vm_ids.specs.declared.command.Span.{Span}
@@ -72,6 +72,20 @@ kept_by regions cache (Some c) =
 
 abbrev pub unused_in : List Named → List Mapped → CacheId → List Kept
 unused_in caches regions cache = kept_by regions cache (named_with cache.0 caches)
+
+-- the regions that stay
+abbrev pub staying : Leaving → List Mapped → List Mapped
+staying leaving regions = filter (λ x. not (leaves leaving x)) regions
+
+-- the caches that are kept as the last of these regions go, one after the other, while others stay
+abbrev pub unused_after : List Named → List Mapped → List Mapped → List Kept
+unused_after caches stay [] = []
+unused_after caches stay (x ∷ xs) =
+    unused_in caches (xs ++ stay) x.cache ++ unused_after caches stay xs
+
+abbrev pub unused_then : List Named → Leaving → List Mapped → List Kept
+unused_then caches leaving regions =
+    unused_after caches (staying leaving regions) (filter (leaves leaving) regions)
 
 -- An opening of the segment of this cache is taken back.
 pub record Closes (caches : List Named) (seg : SegId) (cache : CacheId) (now : List Named)

@@ -128,7 +128,10 @@ impl<G> SegManager<G> {
             → Serves M.Mapper G.Gmi mapper self.old (Command.Map actor mapping)
             (answer_by Reply.Region result) mapper self.new }
     {
-        self.regions.reserve(1)?;
+        match self.regions.reserve(1) {
+            Ok(()) => {}
+            Err(_) => return Err(Trouble::Memory),
+        }
         let Mapping {
             extent,
             address,
@@ -140,21 +143,23 @@ impl<G> SegManager<G> {
             first: extent.first,
             pages: extent.pages,
         };
-        let region = self.gmi.map(
-            actor,
-            Mapping {
-                extent,
-                address,
-                prot,
-            },
-        )?;
-        self.note_region(Mapped {
-            actor,
-            region,
+        let found = Mapping {
+            extent,
             address,
-            cache,
-        });
-        Ok(region)
+            prot,
+        };
+        match self.gmi.map(actor, found) {
+            Ok(region) => {
+                self.note_region(Mapped {
+                    actor,
+                    region,
+                    address,
+                    cache,
+                });
+                Ok(region)
+            }
+            Err(trouble) => Err(trouble),
+        }
     }
 
     // Notes a region, for which there is room.

@@ -1,7 +1,9 @@
 // Actors that end and regions that go.
-ghost use Rattle.std.specs.Prelude.{◌≤◌, ◌^◌};
+ghost use Rattle.std.specs.Prelude.{◌≡◌, ◌≤◌, ◌+◌, ◌++◌, ◌^◌, length};
+ghost use Rattle.std.specs.VecDeque.{deque_capacity};
 ghost use Rattle.gmi_calls.specs.Calling.{done_by};
 ghost use Rattle.seg_manager.specs.Calling.{Serves};
+ghost use Rattle.seg_manager.specs.Inner.{staying, unused_then};
 ghost use Rattle.seg_manager.specs.Tying.{CanCall};
 
 use crate::SegManager;
@@ -25,7 +27,10 @@ impl<G> SegManager<G> {
         ensures { Serves M.Mapper G.Gmi mapper.old self.old (Command.ExitActor actor)
             (done_by result) mapper.new self.new }
     {
-        self.gmi.exit_actor(actor)?;
+        match self.gmi.exit_actor(actor) {
+            Ok(()) => {}
+            Err(trouble) => return Err(trouble),
+        }
         self.drop_regions(Leaving::Actor(actor));
         self.trim(mapper, chooser);
         Ok(())
@@ -45,7 +50,10 @@ impl<G> SegManager<G> {
         ensures { Serves M.Mapper G.Gmi mapper.old self.old (Command.Unmap region)
             (done_by result) mapper.new self.new }
     {
-        self.gmi.unmap(region)?;
+        match self.gmi.unmap(region) {
+            Ok(()) => {}
+            Err(trouble) => return Err(trouble),
+        }
         self.drop_regions(Leaving::Region(region));
         self.trim(mapper, chooser);
         Ok(())
@@ -53,7 +61,17 @@ impl<G> SegManager<G> {
 
     // Takes the regions away that go, in order of address, and keeps the caches to which nothing
     // refers any more.
-    fn drop_regions(&mut self, leaving: Leaving) {
+    fn drop_regions(&mut self, leaving: Leaving)
+        requires room { length self.old.kept.items
+            + length (unused_then self.old.caches.items leaving self.old.regions.items)
+            ≤ deque_capacity self.old.kept }
+        ensures regions { self.new.regions.items ≡ staying leaving self.old.regions.items }
+        ensures kept { self.new.kept.items ≡ self.old.kept.items
+            ++ unused_then self.old.caches.items leaving self.old.regions.items }
+        ensures capacity { deque_capacity self.new.kept ≡ deque_capacity self.old.kept }
+        ensures same { self.new
+            ≡ record self.old { kept = self.new.kept; regions = self.new.regions } }
+    {
         while let Some(place) = first_leaving(&self.regions, leaving) {
             let mapped = self.regions.remove(place);
             self.keep_unused(mapped.cache);

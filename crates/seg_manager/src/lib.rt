@@ -17,7 +17,5 @@ pub mod laws;
 mod manager;
 mod openings;
 mod tables;
-#[cfg(test)]
-mod tests;
 
 pub use manager::SegManager;

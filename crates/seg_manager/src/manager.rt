@@ -40,6 +40,7 @@ impl<G> SegManager<G> {
             → IsBare G.Gmi gmi told page_bytes
             → state_of G.Gmi result told ≡ beginning (G.machine gmi told) (segments_of told) }
         ensures made { made_by G.Gmi result ≡ G.made gmi }
+        ensures limit { result.limit ≡ limit }
     {
         let caches = Vec::new(alloc);
         let kept = VecDeque::new(alloc);

@@ -10,7 +10,7 @@ ghost use Rattle.seg_manager.specs.Tying.{CanCall};
 use crate::SegManager;
 use crate::tables::{Named, drop_kept};
 use gmi_calls::Gmi;
-use vm_ids::{CacheId, NoMemory, SegId, Trouble};
+use vm_ids::{CacheId, Command, NoMemory, SegId, Trouble};
 use vm_port::{Chooser, Mapper};
 
 impl<G> SegManager<G> {

@@ -1,0 +1,24 @@
+use Rattle.seg_manager.specs.declared.tables.Leaving.TheVariants.{Actor}
+use Rattle.seg_manager.proofs.Parting.{done_serves, drop_room, refused_serves, trim_can, trim_made}
+use Rattle.seg_manager.proofs.manager.SegManager.exit_actor.Goals as goal
+
+pub drop_regions-requires : goal.drop_regions-requires
+drop_regions-requires g c = record { room = drop_room g.M.Mapper g.G.Gmi c.args.mapper.now c.args.self.now (Actor c.args.actor) c.requires.can }
+
+pub trim-requires-clause-can : goal.trim-requires-clause-can
+trim-requires-clause-can g c =
+    trim_can g.M.Mapper g.G.Gmi c.args.mapper.now c.args.self.now (Actor c.args.actor) c.requires.can c.exit_actor.new.self c.in-Ok.ensures
+    c.drop_regions.new.self c.drop_regions.ensures.regions c.drop_regions.ensures.kept c.drop_regions.ensures.capacity c.drop_regions.ensures.same
+
+pub trim-requires-clause-made : goal.trim-requires-clause-made
+trim-requires-clause-made g c =
+    trim_made g.M.Mapper g.G.Gmi c.args.mapper.now c.args.self.now (Actor c.args.actor) c.requires.can c.exit_actor.new.self c.in-Ok.ensures
+    c.drop_regions.new.self c.drop_regions.ensures.regions c.drop_regions.ensures.kept c.drop_regions.ensures.capacity c.drop_regions.ensures.same c.requires.made
+
+pub returns-in-Err : goal.returns-in-Err
+returns-in-Err g c = refused_serves g.M.Mapper g.G.Gmi c.args.mapper.now c.args.self.now (Actor c.args.actor) c.requires.can c.exit_actor.new.self c.in-Err.trouble c.in-Err.ensures
+
+pub returns : goal.returns
+returns g c =
+    done_serves g.M.Mapper g.G.Gmi c.args.mapper.now c.args.self.now (Actor c.args.actor) c.requires.can c.exit_actor.new.self c.in-Ok.ensures
+    c.drop_regions.new.self c.drop_regions.ensures.regions c.drop_regions.ensures.kept c.drop_regions.ensures.capacity c.drop_regions.ensures.same c.trim.new.mapper c.trim.new.self c.trim.ensures
