@@ -42,12 +42,7 @@ pub trait Answerer<M: Mapper, C: Chooser> {
         ensures formed { IfOk result formed };
 
     /// Answers a command.
-    fn answer_command(
-        &mut self,
-        command: &Self::Command,
-        mapper: &mut M,
-        chooser: &mut C,
-    ) -> Answer
+    fn answer_command(&mut self, command: &Self::Command, mapper: &mut M, chooser: &mut C) -> Answer
         requires formed { formed command.now }
         requires able { able self.old (M.held mapper.old) (M.page_bytes mapper.old) }
         requires made { made self.old ≤ 2 ^ 61 }

@@ -35,12 +35,7 @@ impl<G: Gmi<M, C>, M: Mapper, C: Chooser> Answerer<M, C> for Ports<G> {
         read_ports(line)
     }
 
-    fn answer_command(
-        &mut self,
-        command: &PortCommand,
-        mapper: &mut M,
-        chooser: &mut C,
-    ) -> Answer {
+    fn answer_command(&mut self, command: &PortCommand, mapper: &mut M, chooser: &mut C) -> Answer {
         self.call(command, mapper, chooser)
     }
 }

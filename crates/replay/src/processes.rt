@@ -35,12 +35,7 @@ impl<G: Gmi<M, C>, M: Mapper, C: Chooser> Answerer<M, C> for Mix<G> {
         read_mix(line)
     }
 
-    fn answer_command(
-        &mut self,
-        command: &MixCommand,
-        mapper: &mut M,
-        chooser: &mut C,
-    ) -> Answer {
+    fn answer_command(&mut self, command: &MixCommand, mapper: &mut M, chooser: &mut C) -> Answer {
         self.answer(command, mapper, chooser)
     }
 }

@@ -81,7 +81,13 @@ pub fn replay_commands<S: Source, K: Sink, M: Mapper, C: Chooser, D: Dispatcher>
     };
     let mut commands = Commands { gmi: manager };
     replay_lines(
-        alloc, &mut commands, source, sink, mapper, chooser, dispatcher,
+        alloc,
+        &mut commands,
+        source,
+        sink,
+        mapper,
+        chooser,
+        dispatcher,
     )
 }
 
@@ -113,7 +119,13 @@ pub fn replay_processes<S: Source, K: Sink, M: Mapper, C: Chooser, D: Dispatcher
     let answerer = Mix::new::<M, C>(alloc, manager);
     let mut processes = AtOnce { answerer };
     replay_lines(
-        alloc, &mut processes, source, sink, mapper, chooser, dispatcher,
+        alloc,
+        &mut processes,
+        source,
+        sink,
+        mapper,
+        chooser,
+        dispatcher,
     )
 }
 
@@ -145,9 +157,7 @@ pub fn replay_messages<S: Source, K: Sink, M: Mapper, C: Chooser, D: Dispatcher>
     };
     let answerer = Ports::new::<M, C>(alloc, manager);
     let mut ports = AtOnce { answerer };
-    replay_lines(
-        alloc, &mut ports, source, sink, mapper, chooser, dispatcher,
-    )
+    replay_lines(alloc, &mut ports, source, sink, mapper, chooser, dispatcher)
 }
 
 /// Replays the script of segments that the source has left, over a manager of so many page frames.
@@ -180,6 +190,12 @@ pub fn replay_segments<S: Source, K: Sink, M: Mapper, C: Chooser, D: Dispatcher>
     let answerer = SegManager::new::<M, C>(alloc, manager, limit);
     let mut segments = AtOnce { answerer };
     replay_lines(
-        alloc, &mut segments, source, sink, mapper, chooser, dispatcher,
+        alloc,
+        &mut segments,
+        source,
+        sink,
+        mapper,
+        chooser,
+        dispatcher,
     )
 }

@@ -35,12 +35,7 @@ impl<G: Gmi<M, C>, M: Mapper, C: Chooser> Answerer<M, C> for SegManager<G> {
         read_keep(line)
     }
 
-    fn answer_command(
-        &mut self,
-        command: &KeepCommand,
-        mapper: &mut M,
-        chooser: &mut C,
-    ) -> Answer {
+    fn answer_command(&mut self, command: &KeepCommand, mapper: &mut M, chooser: &mut C) -> Answer {
         self.call(command, mapper, chooser)
     }
 }

@@ -284,7 +284,11 @@ impl Plain {
     }
 
     fn region(&self, place: usize, at: usize) -> u32 {
-        match self.segments.get(place).and_then(|segment| segment.regions.get(at)) {
+        match self
+            .segments
+            .get(place)
+            .and_then(|segment| segment.regions.get(at))
+        {
             Some(Some(region)) => *region,
             _ => 9999,
         }
@@ -303,10 +307,7 @@ fn play(alloc: Global, draws: &mut Draws, plain: &mut Plain) -> Result<Turn, NoM
     let address = 0x10000 * (2 * segment as u64 + at as u64 + 1) + page as u64 * PAGE as u64;
     let number = plain.number(s);
     match draws.below(16) {
-        0 => Ok(turn(
-            format!(in alloc; "pageout 3")?,
-            format!(in alloc; "ok")?,
-        )),
+        0 => Ok(turn(format!(in alloc; "pageout 3")?, format!(in alloc; "ok")?)),
         1..=2 => Ok(turn(
             format!(in alloc; "open {}", segment + 1)?,
             plain.open(alloc, s)?,
@@ -360,10 +361,7 @@ fn play(alloc: Global, draws: &mut Draws, plain: &mut Plain) -> Result<Turn, NoM
                 Some(seen) => format!(in alloc; "ok {seen:02x}")?,
                 None => format!(in alloc; "no BadAddress")?,
             };
-            Ok(turn(
-                format!(in alloc; "load a1 {address:x} 1")?,
-                reply,
-            ))
+            Ok(turn(format!(in alloc; "load a1 {address:x} 1")?, reply))
         }
     }
 }
@@ -394,12 +392,7 @@ fn drawn_script(alloc: Global, seed: u64, limit: usize) -> Result<Script, NoMemo
 
 // At this limit a drawn script has the replies of the plain machine. At the greatest limit these
 // differ in the numbers of caches alone.
-fn drawn_at(
-    rt: &impl Abort,
-    alloc: Global,
-    words: &[&str],
-    limit: usize,
-) -> Result<(), NoMemory>
+fn drawn_at(rt: &impl Abort, alloc: Global, words: &[&str], limit: usize) -> Result<(), NoMemory>
     requires { PAGE ≡ page_size_of (map (λ w. w.now) words.now) }
 {
     for seed in 0..6 {
@@ -421,7 +414,12 @@ fn drawn_scripts_of_segments(rt: HostRuntime) -> Result<(), NoMemory> {
     drawn_at(&rt, alloc, &["keep", "--limit", "0", "--frames", "3"], 0)?;
     drawn_at(&rt, alloc, &["keep", "--limit", "1", "--frames", "3"], 1)?;
     drawn_at(&rt, alloc, &["keep", "--limit", "3", "--frames", "3"], 3)?;
-    drawn_at(&rt, alloc, &["keep", "--limit", "1024", "--frames", "3"], 1024)
+    drawn_at(
+        &rt,
+        alloc,
+        &["keep", "--limit", "1024", "--frames", "3"],
+        1024,
+    )
 }
 
 const ONE_SEGMENT: &str = "open 1
