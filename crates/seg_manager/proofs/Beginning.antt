@@ -30,14 +30,14 @@ use Rattle.gmi_calls.specs.Managing.{meanings_of}
 use Rattle.gmi_calls.specs.declared.gmi.Gmi.{Ghosts as GhostsOfGmi}
 use Rattle.gmi_calls.proofs.Rising.{rise_none, rise_then}
 use Rattle.seg_manager.specs.Answering.{Answered, open_anew, open_by, open_of, refuse, reply_cache}
-use Rattle.seg_manager.specs.Calling.{Acquires}
+use Rattle.seg_manager.specs.Calling.{HasNoRoom, Acquires}
 use Rattle.seg_manager.specs.Inner.{first_of}
 use Rattle.seg_manager.specs.Keeping.{AreBehind, IsAcquired}
 use Rattle.seg_manager.specs.Outcome.{GoesOn, Outcome}
 use Rattle.seg_manager.specs.ReferenceMachine.{ReferenceMachine, number_in, used}
 use Rattle.seg_manager.specs.Seen.{kept_segments, references_seen, state_of, whole_of}
 use Rattle.seg_manager.specs.Stepping.{State}
-use Rattle.seg_manager.specs.Thinning.{Fails, IsDestroyFault, IsTried, Thins, Tries, credit, seen_with}
+use Rattle.seg_manager.specs.Thinning.{Fails, IsDestroyFault, IsTried, Thins, Tries, credit, seen_with, Trying}
 use Rattle.seg_manager.specs.Tying.{AreTied, CanCall}
 use Rattle.seg_manager.specs.declared.manager.SegManager.{SegManager}
 use Rattle.seg_manager.specs.declared.tables.Kept.{Kept}
@@ -104,9 +104,9 @@ goes_on_by r seg number at e (Some pages) f = subst (λ (x : Answered). GoesOn a
     something : (at : FaultAt) → GoesOn at (commands.Plain (OpenSegment seg)) (Ok (replies.Cache (record { 0 = number })))
     something at = tt
 
-behind_not : (b : Bool) (seg : ℕ) (kept now : List ℕ) (result : Result CacheId Trouble) → b ≡ false → AreBehind kept now → IsAcquired b seg kept result now
-behind_not false seg kept now result e h = h
-behind_not true seg kept now result e h = absurd (cc e)
+behind_not : (Cause : Type 0) (b : Bool) (seg : ℕ) (kept now : List ℕ) (result : Result CacheId Trouble) → b ≡ false → AreBehind Cause kept now → IsAcquired Cause b seg kept result now
+behind_not Cause false seg kept now result e h = h
+behind_not Cause true seg kept now result e h = absurd (cc e)
 
 -- what is stored for it is what the mapper holds then
 stored_as : (m : Machine) (told now : Option Segments) (cs : List Named) (ks : List Kept) (room : ℕ) (rs : List Mapped) (t : AreTied m told cs ks room rs) (seg : SegId) (anew : None ≡ position_from (first_of seg.0) 0 cs) → Told m told now
@@ -201,7 +201,10 @@ module _ {Manager X Chooser : Type 0} (M : GhostsOfMapper X) (G : GhostsOfGmi Ma
   pub start_anew : None ≡ position_from (first_of seg.0) 0 start.caches.items
   start_anew = anew ∙ ap (position_from (first_of seg.0) 0) (sym caches)
 
-  module _ (middle : X) (by : SegManager Manager) (thins : Thins M G before start middle by) where
+  module _ (middle : X) (by : SegManager Manager) (trying : Trying M G (OpenSegment seg) before start middle by) where
+    abbrev thins : Thins M G before start middle by
+    thins = trying.thins
+
     abbrev m : Machine
     m = G.machine by.gmi (M.held middle)
 
@@ -223,8 +226,14 @@ module _ {Manager X Chooser : Type 0} (M : GhostsOfMapper X) (G : GhostsOfGmi Ma
     as_many : length m.caches ≡ length m0.caches
     as_many = sym (seen_length told m by.caches.items) ∙ ap (λ (r : ReferenceMachine). length r.memory.caches) thins.seen ∙ seen_length told0 m0 start.caches.items
 
-    kept_behind : AreBehind (kept_segments old.kept.items) (kept_segments by.kept.items)
-    kept_behind = (thins.kept.0, ap kept_segments (thins.kept.1 ∙ ap (drop thins.kept.0) kept) ∙ sym (drop-map (λ (k : Kept). k.seg.0) thins.kept.0 old.kept.items))
+    abbrev Cause : Type 0
+    Cause = HasNoRoom G old.gmi (M.held before) (OpenSegment seg)
+
+    kept_behind : AreBehind Cause (kept_segments old.kept.items) (kept_segments by.kept.items)
+    kept_behind = elim trying.first [
+      | inl at ↦ inl (ap kept_segments (ap (λ (x : SegManager Manager). x.kept.items) at.0 ∙ kept))
+      | inr none ↦ inr (none, thins.kept.0, ap kept_segments (thins.kept.1 ∙ ap (drop thins.kept.0) kept) ∙ sym (drop-map (λ (k : Kept). k.seg.0) thins.kept.0 old.kept.items))
+    ]
 
     no_cache : (n : ℕ) → number_in 1 m0.caches seg.0 ≡ Some n → ⊥
     no_cache n e = (let wrong : None ≡ Some n = sym (number_below m0 told0 old.caches.items old.kept.items (deque_capacity old.kept) old.regions.items can.tied seg anew) ∙ e in cc wrong)
@@ -268,9 +277,9 @@ module _ {Manager X Chooser : Type 0} (M : GhostsOfMapper X) (G : GhostsOfGmi Ma
             seen = vain_seen ∙ seen_by;
             denied = vain_denied ∙ thins.denied;
           }) (λ h. subst (λ (r : ReferenceMachine). Outcome r None (commands.Plain (OpenSegment seg)) h 0 (Err t) r vain_rises) seen_by (vain_outcome t f.fault vain_rises (omega (arith, f.failed)) h));
-          kept = behind_not (list_any (λ s. s == seg.0) (kept_segments old.kept.items)) seg.0 (kept_segments old.kept.items) (kept_segments new.kept.items) (Err t)
+          kept = behind_not (HasNoRoom G old.gmi (M.held before) (OpenSegment seg)) (list_any (λ s. s == seg.0) (kept_segments old.kept.items)) seg.0 (kept_segments old.kept.items) (kept_segments new.kept.items) (Err t)
               (not_kept m0 told0 old.caches.items old.kept.items (deque_capacity old.kept) old.regions.items can.tied seg anew)
-              (subst (AreBehind (kept_segments old.kept.items)) (sym (ap (λ (x : SegManager Manager). kept_segments x.kept.items) f.same)) kept_behind);
+              (subst (AreBehind Cause (kept_segments old.kept.items)) (sym (ap (λ (x : SegManager Manager). kept_segments x.kept.items) f.same)) kept_behind);
           again = λ k e. absurd (no_cache k e);
           too_many = λ e. absurd (never_many t f.fault (let s : t ≡ troubles.Refused refusals.TooMany = cc e in s));
         }
@@ -324,7 +333,7 @@ module _ {Manager X Chooser : Type 0} (M : GhostsOfMapper X) (G : GhostsOfGmi Ma
           seen = seen_same M G by gmi middle after (OpenSegment seg) (Err t) thins.can call same ∙ seen_by;
           denied = denied_then ∙ thins.denied;
         }) (λ h. subst (λ (r : ReferenceMachine). Outcome r None (commands.Plain (OpenSegment seg)) h 0 (Err t) r rises) seen_by (said (open_ended M G by middle thins.can seg anew_by (Err t) after gmi call) h));
-        kept = behind_not (list_any (λ s. s == seg.0) (kept_segments old.kept.items)) seg.0 (kept_segments old.kept.items) (kept_segments left.kept.items) (Err t)
+        kept = behind_not (HasNoRoom G old.gmi (M.held before) (OpenSegment seg)) (list_any (λ s. s == seg.0) (kept_segments old.kept.items)) seg.0 (kept_segments old.kept.items) (kept_segments left.kept.items) (Err t)
             (not_kept m0 told0 old.caches.items old.kept.items (deque_capacity old.kept) old.regions.items can.tied seg anew) kept_behind;
         again = λ k e. absurd (no_cache k e);
         too_many = λ e. (let is : t ≡ troubles.Refused refusals.TooMany = cc e in (
@@ -420,7 +429,7 @@ module _ {Manager X Chooser : Type 0} (M : GhostsOfMapper X) (G : GhostsOfGmi Ma
             denied = open_denied ∙ thins.denied;
           };
         };
-        kept = behind_not (list_any (λ s. s == seg.0) (kept_segments old.kept.items)) seg.0 (kept_segments old.kept.items) (kept_segments final.kept.items) (Ok cache)
+        kept = behind_not (HasNoRoom G old.gmi (M.held before) (OpenSegment seg)) (list_any (λ s. s == seg.0) (kept_segments old.kept.items)) seg.0 (kept_segments old.kept.items) (kept_segments final.kept.items) (Ok cache)
             (not_kept m0 told0 old.caches.items old.kept.items (deque_capacity old.kept) old.regions.items can.tied seg anew) kept_behind;
         again = λ k e. absurd (no_cache k e);
         too_many = λ e. absurd (cc e);
@@ -438,8 +447,8 @@ module _ {Manager X Chooser : Type 0} (M : GhostsOfMapper X) (G : GhostsOfGmi Ma
       seen = ap (references_seen m0 told0) caches;
       denied = refl;
     }) (λ h. (refl, tt, tt));
-    kept = behind_not (list_any (λ s. s == seg.0) (kept_segments old.kept.items)) seg.0 (kept_segments old.kept.items) (kept_segments start.kept.items) (Err troubles.Memory)
-        (not_kept m0 told0 old.caches.items old.kept.items (deque_capacity old.kept) old.regions.items can.tied seg anew) (0, ap kept_segments kept);
+    kept = behind_not (HasNoRoom G old.gmi (M.held before) (OpenSegment seg)) (list_any (λ s. s == seg.0) (kept_segments old.kept.items)) seg.0 (kept_segments old.kept.items) (kept_segments start.kept.items) (Err troubles.Memory)
+        (not_kept m0 told0 old.caches.items old.kept.items (deque_capacity old.kept) old.regions.items can.tied seg anew) (inl (ap kept_segments kept));
     again = λ k e. absurd (let wrong : None ≡ Some k = sym (number_below m0 told0 old.caches.items old.kept.items (deque_capacity old.kept) old.regions.items can.tied seg anew) ∙ e in cc wrong);
     too_many = λ e. absurd (cc e);
   }
@@ -449,18 +458,18 @@ module _ {Manager X Chooser : Type 0} (M : GhostsOfMapper X) (G : GhostsOfGmi Ma
   tried_not t after s2 (inl r) =
       let tr : Tries M G (OpenSegment seg) before start (Err t) after s2 = r.0 in
       subst (λ (x : SegManager Manager). Acquires M G before old seg (Err t) after x) (sym tr.same)
-      (not_opened tr.middle tr.by tr.thins t after s2.gmi tr.call (λ e. sym (ap (λ (x : SegManager Manager). x.kept.items) tr.same) ∙ r.1 e))
+      (not_opened tr.middle tr.by tr.trying t after s2.gmi tr.call (λ e. sym (ap (λ (x : SegManager Manager). x.kept.items) tr.same) ∙ r.1 e))
   tried_not t after s2 (inr v) =
-      in_vain v.tries.middle v.tries.by v.tries.thins v.middle v.by.gmi v.tries.call t after s2
+      in_vain v.tries.middle v.tries.by v.tries.trying v.middle v.by.gmi v.tries.call t after s2
       (subst (λ (x : SegManager Manager). Fails M G v.middle x t after s2) v.tries.same v.fails)
 
   pub tried_ok : (cache : CacheId) (after : X) (s2 new : SegManager Manager) → length s1.caches.items + 1 ≤ deque_capacity s1.kept → IsTried M G (OpenSegment seg) before start (Ok cache) after s2
       → new.caches.items ≡ s2.caches.items ++ (record { seg = seg; cache = cache; openings = 1 }) ∷ [] → new ≡ record s2 { caches = new.caches } → Acquires M G before old seg (Ok cache) after new
   tried_ok cache after s2 new all tr pushed same =
       subst (λ (x : SegManager Manager). Acquires M G before old seg (Ok cache) after x) (sym (same ∙ (λ i. record (tr.same i) { caches = new.caches })))
-      (was_opened tr.middle tr.by tr.thins cache after s2.gmi tr.call new
+      (was_opened tr.middle tr.by tr.trying cache after s2.gmi tr.call new
       (pushed ∙ ap (λ (x : SegManager Manager). x.caches.items ++ (record { seg = seg; cache = cache; openings = 1 }) ∷ []) tr.same)
-      (omega (arith, all, tr.thins.few, tr.thins.fits)))
+      (omega (arith, all, tr.trying.thins.few, tr.trying.thins.fits)))
 
   -- The same by the calls that it makes
   module _ (is : s1 ≡ start) where

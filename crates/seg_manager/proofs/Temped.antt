@@ -31,12 +31,12 @@ use Rattle.gmi_calls.specs.Managing.{meanings_of}
 use Rattle.gmi_calls.specs.declared.gmi.Gmi.{Ghosts as GhostsOfGmi}
 use Rattle.gmi_calls.proofs.Rising.{rise_then}
 use Rattle.seg_manager.specs.Answering.{make_temp_of, reply_cache}
-use Rattle.seg_manager.specs.Calling.{Serves}
+use Rattle.seg_manager.specs.Calling.{HasNoRoom, Serves}
 use Rattle.seg_manager.specs.Keeping.{AreBehind}
 use Rattle.seg_manager.specs.Outcome.{IsWanted, Outcome}
 use Rattle.seg_manager.specs.ReferenceMachine.{ReferenceMachine, add_cache}
 use Rattle.seg_manager.specs.Seen.{kept_segments, references_seen, state_of}
-use Rattle.seg_manager.specs.Thinning.{Fails, IsDestroyFault, IsTried, Thins, Tries, credit, machine_at, seen_with}
+use Rattle.seg_manager.specs.Thinning.{Fails, IsDestroyFault, IsTried, Thins, Tries, credit, machine_at, seen_with, Trying}
 use Rattle.seg_manager.specs.Tying.{AreTied, CanCall}
 use Rattle.seg_manager.specs.declared.manager.SegManager.{SegManager}
 use Rattle.seg_manager.specs.declared.tables.Kept.{Kept}
@@ -155,7 +155,10 @@ module _ {Manager X Chooser : Type 0} (M : GhostsOfMapper X) (G : GhostsOfGmi Ma
   pub temp_credit : G.made old.gmi ≤ 2 ^ 61 → credit M G old before ≤ 2 ^ 61 + 2 ^ 32
   temp_credit h = omega (arith, h, credit_few M G old before can)
 
-  module _ (middle : X) (by : SegManager Manager) (thins : Thins M G before old middle by) where
+  module _ (middle : X) (by : SegManager Manager) (trying : Trying M G (MakeTemp pages) before old middle by) where
+    abbrev thins : Thins M G before old middle by
+    thins = trying.thins
+
     abbrev m : Machine
     m = machine_at M G by middle
 
@@ -168,8 +171,14 @@ module _ {Manager X Chooser : Type 0} (M : GhostsOfMapper X) (G : GhostsOfGmi Ma
     as_many : length m.caches ≡ length (machine_at M G old before).caches
     as_many = sym (seen_length told m by.caches.items) ∙ ap (λ (r : ReferenceMachine). length r.memory.caches) thins.seen ∙ seen_length (segments_of (M.held before)) (machine_at M G old before) old.caches.items
 
-    kept_behind : AreBehind (kept_segments old.kept.items) (kept_segments by.kept.items)
-    kept_behind = (thins.kept.0, ap kept_segments thins.kept.1 ∙ sym (drop-map (λ (k : Kept). k.seg.0) thins.kept.0 old.kept.items))
+    abbrev Cause : Type 0
+    Cause = HasNoRoom G old.gmi (M.held before) (MakeTemp pages)
+
+    kept_behind : AreBehind Cause (kept_segments old.kept.items) (kept_segments by.kept.items)
+    kept_behind = elim trying.first [
+      | inl at ↦ inl (ap kept_segments (ap (λ (x : SegManager Manager). x.kept.items) at.0))
+      | inr none ↦ inr (none, thins.kept.0, ap kept_segments thins.kept.1 ∙ sym (drop-map (λ (k : Kept). k.seg.0) thins.kept.0 old.kept.items))
+    ]
 
     -- It was asked, and made none.
     module _ (t : Trouble) (after : X) (gmi : Manager) (call : MapperCall M (meanings_of G) middle by.gmi (MakeTemp pages) (Err t) after gmi) where
@@ -248,7 +257,7 @@ module _ {Manager X Chooser : Type 0} (M : GhostsOfMapper X) (G : GhostsOfGmi Ma
       in_vain = record {
         call = stays_call M G before old can later new (commands.Plain (MakeTemp pages)) t vain_rises vain (vain_says t f.fault);
         kept = (
-          subst (AreBehind (kept_segments old.kept.items)) (sym (ap (λ (x : SegManager Manager). kept_segments x.kept.items) f.same)) kept_behind,
+          subst (AreBehind Cause (kept_segments old.kept.items)) (sym (ap (λ (x : SegManager Manager). kept_segments x.kept.items) f.same)) kept_behind,
           (λ e. absurd (never_many t f.fault (let s : t ≡ troubles.Refused refusals.TooMany = cc e in s))),
         );
       }
@@ -329,11 +338,11 @@ module _ {Manager X Chooser : Type 0} (M : GhostsOfMapper X) (G : GhostsOfGmi Ma
   -- What the tries came to
   pub temp_served : (result : Result CacheId Trouble) (after : X) (new : SegManager Manager) → IsTried M G (MakeTemp pages) before old result after new → Serves M G before old (MakeTemp pages) (answer_by replies.Cache result) after new
   temp_served (Ok cache) after new tr =
-      subst (λ (x : SegManager Manager). Serves M G before old (MakeTemp pages) (Ok (replies.Cache cache)) after x) (sym tr.same) (was_made tr.middle tr.by tr.thins cache after new.gmi tr.call)
+      subst (λ (x : SegManager Manager). Serves M G before old (MakeTemp pages) (Ok (replies.Cache cache)) after x) (sym tr.same) (was_made tr.middle tr.by tr.trying cache after new.gmi tr.call)
   temp_served (Err t) after new (inl r) =
       let tr : Tries M G (MakeTemp pages) before old (Err t) after new = r.0 in
       subst (λ (x : SegManager Manager). Serves M G before old (MakeTemp pages) (Err t) after x) (sym tr.same)
-      (not_made tr.middle tr.by tr.thins t after new.gmi tr.call (λ e. sym (ap (λ (x : SegManager Manager). x.kept.items) tr.same) ∙ r.1 e))
+      (not_made tr.middle tr.by tr.trying t after new.gmi tr.call (λ e. sym (ap (λ (x : SegManager Manager). x.kept.items) tr.same) ∙ r.1 e))
   temp_served (Err t) after new (inr v) =
-      in_vain v.tries.middle v.tries.by v.tries.thins v.middle v.by.gmi v.tries.call t after new
+      in_vain v.tries.middle v.tries.by v.tries.trying v.middle v.by.gmi v.tries.call t after new
       (subst (λ (x : SegManager Manager). Fails M G v.middle x t after new) v.tries.same v.fails)

@@ -7,6 +7,7 @@ use Rattle.std.specs.VecDeque.{deque_capacity}
 use Rattle.std.proofs.lemmas.List.{length-set}
 use Rattle.vm_ids.specs.Counting.{counts_sum, no_counts}
 use Rattle.vm_ids.specs.Held.{Segments, segments_of}
+use Rattle.vm_ids.specs.declared.command.Command.{Command}
 use Rattle.vm_ids.specs.declared.command.Command.TheVariants as commands
 use Rattle.vm_ids.specs.declared.reply.Reply.TheVariants as replies
 use Rattle.vm_ids.specs.declared.reply.Trouble.{Trouble}
@@ -23,7 +24,7 @@ use Rattle.gmi_calls.specs.declared.gmi.Gmi.{Ghosts as GhostsOfGmi}
 use Rattle.gmi_calls.proofs.Rising.{rise_none, rise_then}
 use Rattle.seg_manager.specs.Seen.{references_seen}
 use Rattle.seg_manager.specs.Tying.{AreTied, CanCall}
-use Rattle.seg_manager.specs.Thinning.{Fails, Thins}
+use Rattle.seg_manager.specs.Thinning.{Fails, Thins, Trying}
 use Rattle.seg_manager.specs.declared.manager.SegManager.{SegManager}
 use Rattle.seg_manager.specs.declared.tables.Kept.{Kept}
 use Rattle.seg_manager.specs.declared.tables.Mapped.{Mapped}
@@ -77,6 +78,9 @@ module _ {Manager X Chooser : Type 0} (M : GhostsOfMapper X) (G : GhostsOfGmi Ma
     rises = no_counts;
     rose = rise_none (M.counts before);
   }
+
+  pub trying_none : (c : Command) (before : X) (manager : SegManager Manager) → CanCall G manager (M.held before) (M.page_bytes before) → Trying M G c before manager before manager
+  trying_none c before manager can = record { thins = thins_none before manager can; first = inl (refl, refl) }
 
   pub thins_then : (before : X) (old : SegManager Manager) (mid : X) (by : SegManager Manager) (after : X) (new : SegManager Manager) → Thins M G before old mid by → Thins M G mid by after new → Thins M G before old after new
   thins_then before old mid by after new f g = record {

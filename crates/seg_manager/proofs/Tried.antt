@@ -1,10 +1,10 @@
 -- A command that makes a cache, where caches that are kept make room.
-use Rattle.std.proofs.Common.{◌≡◌, inl, inr, ℕ, ◌+◌, ◌≤◌, Bool, true, false, cond, List, [], ◌∷◌, length, Some, None, refl, sym, ap, subst, ◌∙◌, arith}
+use Rattle.std.proofs.Common.{◌≡◌, ◌⊎◌, inl, inr, Option, ℕ, ◌+◌, ◌≤◌, Bool, true, false, cond, List, [], ◌∷◌, length, Some, None, refl, sym, ap, subst, ◌∙◌, arith}
 use Rattle.std.specs.Prelude.{◌==◌, ◌^◌, Ok, Err}
 use Rattle.std.specs.List.{AllByRecursion, position_from}
 use Rattle.std.specs.VecDeque.{deque_capacity}
-use Rattle.vm_ids.specs.Counting.{MapperCounts}
-use Rattle.vm_ids.specs.Held.{segments_of}
+use Rattle.vm_ids.specs.Counting.{MapperCounts, no_counts}
+use Rattle.vm_ids.specs.Held.{Segments, segments_of}
 use Rattle.vm_ids.specs.declared.command.Command.{Command}
 use Rattle.vm_ids.specs.declared.command.Command.TheVariants as vm_commands
 use Rattle.vm_ids.specs.declared.numbers.CacheId.{CacheId}
@@ -14,7 +14,9 @@ use Rattle.vm_ids.specs.declared.refusal.Refusal.TheVariants as refusals
 use Rattle.vm_ids.specs.declared.reply.Reply.TheVariants as replies
 use Rattle.vm_ids.specs.declared.reply.Trouble.{Trouble}
 use Rattle.vm_ids.specs.declared.reply.Trouble.TheVariants as troubles
-use Rattle.vm_model.specs.Answering.{Answer}
+use Rattle.vm_model.specs.Answering.{Answer, answer_of, open_of}
+use Rattle.vm_model.specs.Outcome.{Outcome, OutcomeAt}
+use Rattle.vm_model.specs.PageForest.{PageForest, forest_shown}
 use Rattle.vm_model.specs.Machine.{Machine, live_pages}
 use Rattle.vm_port.specs.declared.traits.mapper.Mapper.{Ghosts as GhostsOfMapper}
 use Rattle.gmi_calls.specs.Calling.{MapperCall, RaisesMade}
@@ -22,12 +24,15 @@ use Rattle.gmi_calls.specs.Managing.{meanings_of}
 use Rattle.gmi_calls.specs.declared.gmi.Gmi.{Ghosts as GhostsOfGmi}
 use Rattle.seg_manager.specs.Inner.{first_of}
 use Rattle.seg_manager.specs.Seen.{references_seen}
-use Rattle.seg_manager.specs.Thinning.{IsRoomMade, IsTried, MakesRoom, Thins, Tries, credit, seen_with}
+use Rattle.seg_manager.specs.Calling.{HasNoRoom}
+use Rattle.seg_manager.specs.Thinning.{IsRoomMade, IsTried, MakesRoom, Thins, Tries, Trying, credit, seen_with}
 use Rattle.seg_manager.specs.Tying.{AreTied, CanCall}
 use Rattle.seg_manager.specs.declared.manager.SegManager.{SegManager}
 use Rattle.seg_manager.specs.declared.tables.Named.{Named}
 use Rattle.seg_manager.proofs.Anew.{unnamed}
-use Rattle.seg_manager.proofs.Calls.{able_after, backed_before, call_is, denied_after, forest, made_after, seen_after}
+use Rattle.seg_manager.proofs.Calls.{able_after, backed_before, call_is, denied_after, forest, made_after, seen_after, told_after}
+use Rattle.seg_manager.proofs.Pushed.{Follow, Told}
+use Rattle.seg_manager.proofs.Steps.{alike_err}
 use Rattle.seg_manager.proofs.Opened.{Ends, failed, lacks, made, many, nowhere, open_ends}
 use Rattle.seg_manager.proofs.Thinned.{retold, thins_then}
 
@@ -70,6 +75,33 @@ module _ {Manager X Chooser : Type 0} (M : GhostsOfMapper X) (G : GhostsOfGmi Ma
           rose = (call_is M G manager gmi before after c a can call).rose;
         }
 
+-- A machine refuses a command so by what is beside its caches
+
+abbrev pub IsSameRow : Command → Machine → Type 0
+IsSameRow c m = (f : PageForest) (h u : Segments) → Follow m h u → answer_of m f c h ≡ answer_of m f c u
+
+module _ (m n : Machine) (f : Option PageForest) (c : Command) (row : IsSameRow c m) (t : Trouble) (rises : MapperCounts) (same : n ≡ m) (e : t ≡ troubles.Refused refusals.TooMany) where
+  no_room : (was now : Option Segments) → Told m was now → OutcomeAt now m f c (Err t) n rises → OutcomeAt was m f c (Err (troubles.Refused refusals.TooMany)) m no_counts
+  no_room None now told o =
+      let b = subst (λ (x : Option Segments). OutcomeAt x m f c (Err t) n rises) (told.none refl) o in
+      record {
+        whole = b.whole;
+        whole_next = b.whole_next;
+        segments = b.segments;
+        whole_answer = Err (troubles.Refused refusals.TooMany);
+        is = b.is;
+        is_next = sym same ∙ b.is_next;
+        pages = b.pages;
+        alike = refl;
+        outcome = subst (λ (a : Answer). Outcome b.whole f c b.segments a b.whole_next rises) (alike_err t b.whole_answer b.alike ∙ ap (λ (x : Trouble). Err x) e) b.outcome;
+      }
+  no_room (Some h) now told o =
+      let u = told.some h refl in
+      let refused : Outcome m f c u.0 (Err (troubles.Refused refusals.TooMany)) n rises =
+      subst (λ (x : Trouble). Outcome m f c u.0 (Err x) n rises) e (subst (λ (x : Option Segments). OutcomeAt x m f c (Err t) n rises) u.1 o)
+      in
+      row (forest_shown f m) h u.0 u.2 ∙ refused ∙ (λ i. record { answer = Err (troubles.Refused refusals.TooMany); next = same i })
+
 -- The loop
 
 -- what is noted isn't of the segment
@@ -90,9 +122,12 @@ module _ {Manager X Chooser : Type 0} (M : GhostsOfMapper X) (G : GhostsOfGmi Ma
   abbrev pub Leaves : Command → Manager → X → Type 0
   Leaves c gmi mapper = (t : Trouble) (after : X) (then_gmi : Manager) → MapperCall M (meanings_of G) mapper gmi c (Err t) after then_gmi → G.machine then_gmi (M.held after) ≡ G.machine gmi (M.held mapper)
 
-  module _ (c : Command) (middle : X) (by : SegManager Manager) (thins : Thins M G before old middle by) (leaves : Leaves c by.gmi middle) where
+  module _ (c : Command) (middle : X) (by : SegManager Manager) (trying : Trying M G c before old middle by) (leaves : Leaves c by.gmi middle) (row : IsSameRow c (G.machine by.gmi (M.held middle))) where
+    abbrev thins : Thins M G before old middle by
+    thins = trying.thins
+
     pub tries_ok : (cache : CacheId) (after : X) (gmi : Manager) → MapperCall M (meanings_of G) middle by.gmi c (Ok (replies.Cache cache)) after gmi → IsTried M G c before old (Ok cache) after (record by { gmi = gmi })
-    tries_ok cache after gmi call = record { middle = middle; by = by; thins = thins; call = call; same = refl }
+    tries_ok cache after gmi call = record { middle = middle; by = by; trying = trying; call = call; same = refl }
 
     module _ (trouble : Trouble) (after : X) (gmi : Manager) (call : MapperCall M (meanings_of G) middle by.gmi c (Err trouble) after gmi) where
       abbrev tried : SegManager Manager
@@ -108,13 +143,26 @@ module _ {Manager X Chooser : Type 0} (M : GhostsOfMapper X) (G : GhostsOfGmi Ma
       made_tried h = omega (arith, h, thins.credit, made_after M G by gmi middle after c (Err trouble) thins.can call)
 
       tries : Tries M G c before old (Err trouble) after tried
-      tries = record { middle = middle; by = by; thins = thins; call = call; same = refl }
+      tries = record { middle = middle; by = by; trying = trying; call = call; same = refl }
 
-      pub tries_more : (later : X) (new : SegManager Manager) → MakesRoom M G trouble after tried later new → Thins M G before old later new
-      tries_more later new r =
-          thins_then M G before old after tried later new
-          (thins_then M G before old middle by after tried thins (thins_refused M G by gmi middle after c (Err trouble) thins.can call stays refusals.TooMany (ap (λ (t : Trouble). Err t) r.wanted)))
-          r.thins
+      -- The first time it had no room as it was at first.
+      had_none : ((by ≡ old) × (middle ≡ before)) ⊎ HasNoRoom G old.gmi (M.held before) c → trouble ≡ troubles.Refused refusals.TooMany → HasNoRoom G old.gmi (M.held before) c
+      had_none (inr none) e = none
+      had_none (inl at) e =
+          let it = call_is M G by gmi middle after c (Err trouble) thins.can call in
+          subst (λ (x : X). HasNoRoom G old.gmi (M.held x) c) at.1
+          (subst (λ (s : SegManager Manager). HasNoRoom G s.gmi (M.held middle) c) at.0
+          (no_room (G.machine by.gmi (M.held middle)) (G.machine gmi (M.held after)) (forest M G by gmi middle after c (Err trouble) thins.can call) c row trouble it.rises stays e
+          (segments_of (M.held middle)) (segments_of (M.held after)) (told_after M G by gmi middle after c (Err trouble) thins.can call) it.is.outcome))
+
+      pub tries_more : (later : X) (new : SegManager Manager) → MakesRoom M G trouble after tried later new → Trying M G c before old later new
+      tries_more later new r = record {
+        thins =
+            thins_then M G before old after tried later new
+            (thins_then M G before old middle by after tried thins (thins_refused M G by gmi middle after c (Err trouble) thins.can call stays refusals.TooMany (ap (λ (t : Trouble). Err t) r.wanted)))
+            r.thins;
+        first = inr (had_none trying.first r.wanted);
+      }
 
       pub tries_err : (answer : Trouble) (later : X) (new : SegManager Manager) → IsRoomMade M G trouble after tried (Err answer) later new → IsTried M G c before old (Err answer) later new
       tries_err answer later new (inl r) = inl (
@@ -150,3 +198,8 @@ module _ {Manager X Chooser : Type 0} (M : GhostsOfMapper X) (G : GhostsOfGmi Ma
       by (nowhere e s h) = s
       by (failed e s h) = s
       by (lacks e s) = s
+
+  pub open_row : IsSameRow (vm_commands.OpenSegment seg) (G.machine manager.gmi (M.held mapper))
+  open_row f h u follow =
+      ap (open_of (G.machine manager.gmi (M.held mapper)) seg.0) (sym (follow.beside seg.0
+      (unnamed (G.machine manager.gmi (M.held mapper)) (segments_of (M.held mapper)) manager.caches.items manager.kept.items (deque_capacity manager.kept) manager.regions.items can.tied seg (sym anew))))

@@ -93,7 +93,8 @@ pub record Acquires {Manager Mapper Chooser : Type 0} (M : GhostsOfMapper Mapper
     : Type 0 where
   pub call : SegmentCall M G before old (commands.Plain (plain_commands.OpenSegment seg))
       (answer_by replies.Cache result) after new
-  pub kept : IsAcquired (list_any (λ s. s == seg.0) (kept_segments old.kept.items)) seg.0
+  pub kept : IsAcquired (HasNoRoom G old.gmi (M.held before) (plain_commands.OpenSegment seg))
+      (list_any (λ s. s == seg.0) (kept_segments old.kept.items)) seg.0
       (kept_segments old.kept.items) result (kept_segments new.kept.items)
   pub again : (n : ℕ) → number_in 1 (G.machine old.gmi (M.held before)).caches seg.0 ≡ Some n
       → (after ≡ before) × IfOk result (λ cache. cache.0 ≡ n)
@@ -145,7 +146,8 @@ AnswersKept M G before old (plain_commands.Unmap region) answer after new =
     KeepsLastBy M G before old (mapped_under (G.machine old.gmi (M.held before)) region.0) answer
     after new
 AnswersKept M G before old (plain_commands.MakeTemp pages) answer after new =
-    AreBehind (kept_segments old.kept.items) (kept_segments new.kept.items)
+    AreBehind (HasNoRoom G old.gmi (M.held before) (plain_commands.MakeTemp pages))
+    (kept_segments old.kept.items) (kept_segments new.kept.items)
     × (answer ≡ Err (Refused TooMany) → (new.kept.items ≡ [])
     × HasNoRoom G new.gmi (M.held after) (plain_commands.MakeTemp pages))
 AnswersKept M G before old command answer after new = new.kept.items ≡ old.kept.items

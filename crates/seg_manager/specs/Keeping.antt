@@ -9,15 +9,16 @@ use Rattle.vm_model.specs.Machine.{Actor, Machine, Region, segment_of}
 use Rattle.seg_manager.specs.ReferenceMachine.{ReferenceMachine, number_in}
 use Rattle.seg_manager.specs.Tying.{is_unreferenced}
 
--- some of the least recently used are gone
-abbrev pub AreBehind : List ℕ → List ℕ → Type 0
-AreBehind before now = (n : ℕ) × (now ≡ drop n before)
+-- None is gone; or there was a cause, and some of the least recently used are gone.
+abbrev pub AreBehind : Type 0 → List ℕ → List ℕ → Type 0
+AreBehind Cause before now = (now ≡ before) ⊎ (Cause × (n : ℕ) × (now ≡ drop n before))
 
--- After an opening of a segment: if it was kept, it is no longer; else some may have made room.
-abbrev pub IsAcquired : Bool → ℕ → List ℕ → Result CacheId Trouble → List ℕ → Type 0
-IsAcquired true seg before (Ok cache) now = now ≡ filter (λ s. not (s == seg)) before
-IsAcquired true seg before (Err trouble) now = now ≡ before
-IsAcquired false seg before result now = AreBehind before now
+-- After an opening of a segment: if it was kept, it is no longer; else some may have made room,
+-- where there was a cause.
+abbrev pub IsAcquired : Type 0 → Bool → ℕ → List ℕ → Result CacheId Trouble → List ℕ → Type 0
+IsAcquired Cause true seg before (Ok cache) now = now ≡ filter (λ s. not (s == seg)) before
+IsAcquired Cause true seg before (Err trouble) now = now ≡ before
+IsAcquired Cause false seg before result now = AreBehind Cause before now
 
 -- Of these, as many are left as may be, the most recently used: or some more, where the mapper
 -- failed meanwhile.

@@ -19,6 +19,7 @@ use Rattle.vm_model.specs.Machine.{Machine, live_pages}
 use Rattle.vm_model.specs.declared.limits.TheConstants.{LIVE_PAGES}
 use Rattle.vm_port.specs.declared.traits.mapper.Mapper.{Ghosts as GhostsOfMapper}
 use Rattle.gmi_calls.specs.declared.gmi.Gmi.{Ghosts as GhostsOfGmi}
+use Rattle.seg_manager.specs.Calling.{HasNoRoom}
 use Rattle.seg_manager.specs.Keeping.{AreLast}
 use Rattle.seg_manager.specs.ReferenceMachine.{ReferenceMachine}
 use Rattle.seg_manager.specs.Seen.{kept_segments, references_seen}
@@ -107,13 +108,20 @@ module _ {Manager Mapper Chooser : Type 0} (M : GhostsOfMapper Mapper)
     pub rises : MapperCounts
     pub rose : Rise (M.counts before) (M.counts after) rises
 
+  -- What there is before each try: nothing was done yet; or the manager below had no room, as it was
+  -- at first, and some of the least recently used were destroyed.
+  pub record Trying (c : Command) (before : Mapper) (old : SegManager Manager) (now : Mapper)
+      (new : SegManager Manager) : Type 0 where
+    pub thins : Thins before old now new
+    pub first : ((new ≡ old) × (now ≡ before)) ⊎ HasNoRoom G old.gmi (M.held before) c
+
   -- The manager below was asked once some of the least recently used caches were destroyed, and
   -- answered so.
   pub record Tries (c : Command) (before : Mapper) (old : SegManager Manager) (answer : Answer)
       (after : Mapper) (new : SegManager Manager) : Type 0 where
     pub middle : Mapper
     pub by : SegManager Manager
-    pub thins : Thins before old middle by
+    pub trying : Trying c before old middle by
     pub call : MapperCall M (meanings_of G) middle by.gmi c answer after new.gmi
     pub same : new ≡ record by { gmi = new.gmi }
 

@@ -1,4 +1,4 @@
-use Rattle.std.proofs.Common.{arith}
+use Rattle.std.proofs.Common.{arith, refl}
 use Rattle.std.specs.Prelude.{Ok, Err}
 use Rattle.vm_ids.specs.declared.command.Command.TheVariants.{MakeTemp}
 use Rattle.vm_ids.specs.declared.reply.Reply.TheVariants as replies
@@ -6,46 +6,46 @@ use Rattle.gmi_calls.specs.Managing.{meanings_of}
 use Rattle.gmi_calls.proofs.Still.{without_mapper}
 use Rattle.seg_manager.proofs.Temped.{temp_credit, temp_served}
 use Rattle.seg_manager.proofs.Temping.{temp_leaves}
-use Rattle.seg_manager.proofs.Thinned.{thins_none}
+use Rattle.seg_manager.proofs.Thinned.{trying_none}
 use Rattle.seg_manager.proofs.Tried.{can_tried, made_tried, tries_err, tries_more, tries_ok}
 use Rattle.seg_manager.proofs.manager.SegManager.make_temp.Goals as goal
 
 pub loop-cache-init : goal.loop-cache-init
-loop-cache-init g c = thins_none g.M.Mapper g.G.Gmi c.args.mapper.now c.args.self.now c.requires.can
+loop-cache-init g c = trying_none g.M.Mapper g.G.Gmi (MakeTemp c.args.pages) c.args.mapper.now c.args.self.now c.requires.can
 
 pub make_temp-requires-clause-made : goal.make_temp-requires-clause-made
-make_temp-requires-clause-made g c = omega (arith, c.loop-cache.invariant.credit, temp_credit g.M.Mapper g.G.Gmi c.args.mapper.now c.args.self.now c.args.pages c.requires.can c.requires.made)
+make_temp-requires-clause-made g c = omega (arith, c.loop-cache.invariant.thins.credit, temp_credit g.M.Mapper g.G.Gmi c.args.mapper.now c.args.self.now c.args.pages c.requires.can c.requires.made)
 
 pub make_room-requires-clause-can : goal.make_room-requires-clause-can
 make_room-requires-clause-can g c =
-    let leaves = temp_leaves g.M.Mapper g.G.Gmi c.loop-cache.self c.loop-cache.mapper c.loop-cache.invariant.can c.args.pages in
-    let call = without_mapper g.M.Mapper (meanings_of g.G.Gmi) c.loop-cache.mapper c.loop-cache.self.gmi c.loop-cache.invariant.can.valid (MakeTemp c.args.pages) (Err c.in-Err.trouble) c.make_temp.new.self c.in-Err.ensures in
-    can_tried g.M.Mapper g.G.Gmi c.args.mapper.now c.args.self.now (MakeTemp c.args.pages) c.loop-cache.mapper c.loop-cache.self c.loop-cache.invariant leaves c.in-Err.trouble c.loop-cache.mapper c.make_temp.new.self call
+    let leaves = temp_leaves g.M.Mapper g.G.Gmi c.loop-cache.self c.loop-cache.mapper c.loop-cache.invariant.thins.can c.args.pages in
+    let call = without_mapper g.M.Mapper (meanings_of g.G.Gmi) c.loop-cache.mapper c.loop-cache.self.gmi c.loop-cache.invariant.thins.can.valid (MakeTemp c.args.pages) (Err c.in-Err.trouble) c.make_temp.new.self c.in-Err.ensures in
+    can_tried g.M.Mapper g.G.Gmi c.args.mapper.now c.args.self.now (MakeTemp c.args.pages) c.loop-cache.mapper c.loop-cache.self c.loop-cache.invariant leaves (λ f h u w. refl) c.in-Err.trouble c.loop-cache.mapper c.make_temp.new.self call
 
 pub make_room-requires-clause-made : goal.make_room-requires-clause-made
 make_room-requires-clause-made g c =
-    let leaves = temp_leaves g.M.Mapper g.G.Gmi c.loop-cache.self c.loop-cache.mapper c.loop-cache.invariant.can c.args.pages in
-    let call = without_mapper g.M.Mapper (meanings_of g.G.Gmi) c.loop-cache.mapper c.loop-cache.self.gmi c.loop-cache.invariant.can.valid (MakeTemp c.args.pages) (Err c.in-Err.trouble) c.make_temp.new.self c.in-Err.ensures in
-    made_tried g.M.Mapper g.G.Gmi c.args.mapper.now c.args.self.now (MakeTemp c.args.pages) c.loop-cache.mapper c.loop-cache.self c.loop-cache.invariant leaves c.in-Err.trouble c.loop-cache.mapper c.make_temp.new.self call (temp_credit g.M.Mapper g.G.Gmi c.args.mapper.now c.args.self.now c.args.pages c.requires.can c.requires.made)
+    let leaves = temp_leaves g.M.Mapper g.G.Gmi c.loop-cache.self c.loop-cache.mapper c.loop-cache.invariant.thins.can c.args.pages in
+    let call = without_mapper g.M.Mapper (meanings_of g.G.Gmi) c.loop-cache.mapper c.loop-cache.self.gmi c.loop-cache.invariant.thins.can.valid (MakeTemp c.args.pages) (Err c.in-Err.trouble) c.make_temp.new.self c.in-Err.ensures in
+    made_tried g.M.Mapper g.G.Gmi c.args.mapper.now c.args.self.now (MakeTemp c.args.pages) c.loop-cache.mapper c.loop-cache.self c.loop-cache.invariant leaves (λ f h u w. refl) c.in-Err.trouble c.loop-cache.mapper c.make_temp.new.self call (temp_credit g.M.Mapper g.G.Gmi c.args.mapper.now c.args.self.now c.args.pages c.requires.can c.requires.made)
 
 pub loop-cache-preserved : goal.loop-cache-preserved
 loop-cache-preserved g c =
-    let leaves = temp_leaves g.M.Mapper g.G.Gmi c.loop-cache.self c.loop-cache.mapper c.loop-cache.invariant.can c.args.pages in
-    let call = without_mapper g.M.Mapper (meanings_of g.G.Gmi) c.loop-cache.mapper c.loop-cache.self.gmi c.loop-cache.invariant.can.valid (MakeTemp c.args.pages) (Err c.in-Err.trouble) c.make_temp.new.self c.in-Err.ensures in
-    tries_more g.M.Mapper g.G.Gmi c.args.mapper.now c.args.self.now (MakeTemp c.args.pages) c.loop-cache.mapper c.loop-cache.self c.loop-cache.invariant leaves c.in-Err.trouble c.loop-cache.mapper c.make_temp.new.self call
+    let leaves = temp_leaves g.M.Mapper g.G.Gmi c.loop-cache.self c.loop-cache.mapper c.loop-cache.invariant.thins.can c.args.pages in
+    let call = without_mapper g.M.Mapper (meanings_of g.G.Gmi) c.loop-cache.mapper c.loop-cache.self.gmi c.loop-cache.invariant.thins.can.valid (MakeTemp c.args.pages) (Err c.in-Err.trouble) c.make_temp.new.self c.in-Err.ensures in
+    tries_more g.M.Mapper g.G.Gmi c.args.mapper.now c.args.self.now (MakeTemp c.args.pages) c.loop-cache.mapper c.loop-cache.self c.loop-cache.invariant leaves (λ f h u w. refl) c.in-Err.trouble c.loop-cache.mapper c.make_temp.new.self call
     c.make_room.new.mapper c.make_room.new.self c.in-Ok-make_room.ensures
 
 pub returns-in-Err-make_room : goal.returns-in-Err-make_room
 returns-in-Err-make_room g c =
-    let leaves = temp_leaves g.M.Mapper g.G.Gmi c.loop-cache.self c.loop-cache.mapper c.loop-cache.invariant.can c.args.pages in
-    let call = without_mapper g.M.Mapper (meanings_of g.G.Gmi) c.loop-cache.mapper c.loop-cache.self.gmi c.loop-cache.invariant.can.valid (MakeTemp c.args.pages) (Err c.in-Err.trouble) c.make_temp.new.self c.in-Err.ensures in
+    let leaves = temp_leaves g.M.Mapper g.G.Gmi c.loop-cache.self c.loop-cache.mapper c.loop-cache.invariant.thins.can c.args.pages in
+    let call = without_mapper g.M.Mapper (meanings_of g.G.Gmi) c.loop-cache.mapper c.loop-cache.self.gmi c.loop-cache.invariant.thins.can.valid (MakeTemp c.args.pages) (Err c.in-Err.trouble) c.make_temp.new.self c.in-Err.ensures in
     temp_served g.M.Mapper g.G.Gmi c.args.mapper.now c.args.self.now c.args.pages c.requires.can (Err c.in-Err-make_room.trouble) c.make_room.new.mapper c.make_room.new.self
-    (tries_err g.M.Mapper g.G.Gmi c.args.mapper.now c.args.self.now (MakeTemp c.args.pages) c.loop-cache.mapper c.loop-cache.self c.loop-cache.invariant leaves c.in-Err.trouble c.loop-cache.mapper c.make_temp.new.self call
+    (tries_err g.M.Mapper g.G.Gmi c.args.mapper.now c.args.self.now (MakeTemp c.args.pages) c.loop-cache.mapper c.loop-cache.self c.loop-cache.invariant leaves (λ f h u w. refl) c.in-Err.trouble c.loop-cache.mapper c.make_temp.new.self call
     c.in-Err-make_room.trouble c.make_room.new.mapper c.make_room.new.self c.in-Err-make_room.ensures)
 
 pub returns-in-Ok : goal.returns-in-Ok
 returns-in-Ok g c =
-    let leaves = temp_leaves g.M.Mapper g.G.Gmi c.loop-cache.self c.loop-cache.mapper c.loop-cache.invariant.can c.args.pages in
-    let call = without_mapper g.M.Mapper (meanings_of g.G.Gmi) c.loop-cache.mapper c.loop-cache.self.gmi c.loop-cache.invariant.can.valid (MakeTemp c.args.pages) (Ok (replies.Cache c.in-Ok.cache)) c.make_temp.new.self c.in-Ok.ensures in
+    let leaves = temp_leaves g.M.Mapper g.G.Gmi c.loop-cache.self c.loop-cache.mapper c.loop-cache.invariant.thins.can c.args.pages in
+    let call = without_mapper g.M.Mapper (meanings_of g.G.Gmi) c.loop-cache.mapper c.loop-cache.self.gmi c.loop-cache.invariant.thins.can.valid (MakeTemp c.args.pages) (Ok (replies.Cache c.in-Ok.cache)) c.make_temp.new.self c.in-Ok.ensures in
     temp_served g.M.Mapper g.G.Gmi c.args.mapper.now c.args.self.now c.args.pages c.requires.can (Ok c.in-Ok.cache) c.loop-cache.mapper (record c.loop-cache.self { gmi = c.make_temp.new.self })
-    (tries_ok g.M.Mapper g.G.Gmi c.args.mapper.now c.args.self.now (MakeTemp c.args.pages) c.loop-cache.mapper c.loop-cache.self c.loop-cache.invariant leaves c.in-Ok.cache c.loop-cache.mapper c.make_temp.new.self call)
+    (tries_ok g.M.Mapper g.G.Gmi c.args.mapper.now c.args.self.now (MakeTemp c.args.pages) c.loop-cache.mapper c.loop-cache.self c.loop-cache.invariant leaves (λ f h u w. refl) c.in-Ok.cache c.loop-cache.mapper c.make_temp.new.self call)

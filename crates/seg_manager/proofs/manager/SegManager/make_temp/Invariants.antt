@@ -1,9 +1,10 @@
 use Rattle.std.proofs.Common.{length}
-use Rattle.seg_manager.specs.Thinning.{Thins}
+use Rattle.vm_ids.specs.declared.command.Command.TheVariants.{MakeTemp}
+use Rattle.seg_manager.specs.Thinning.{Trying}
 use Rattle.seg_manager.proofs.manager.SegManager.make_temp.Given as goal
 
 abbrev pub invariant-loop-cache : goal.invariant-loop-cache
-invariant-loop-cache g l = Thins g.M.Mapper g.G.Gmi l.fn.mapper l.fn.self l.mapper l.self
+invariant-loop-cache g l = Trying g.M.Mapper g.G.Gmi (MakeTemp l.fn.pages) l.fn.mapper l.fn.self l.mapper l.self
 
 abbrev pub decreases-loop-cache : goal.decreases-loop-cache
 decreases-loop-cache g l = length l.self.kept.items

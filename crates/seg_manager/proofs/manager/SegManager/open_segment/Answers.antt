@@ -1,34 +1,34 @@
 use Rattle.vm_ids.specs.declared.command.Command.TheVariants.{OpenSegment}
 use Rattle.seg_manager.specs.Inner.{first_of}
-use Rattle.seg_manager.proofs.Thinned.{thins_none}
-use Rattle.seg_manager.proofs.Tried.{can_tried, made_tried, none_noted, noted_none, open_leaves, tries_err, tries_more}
+use Rattle.seg_manager.proofs.Thinned.{trying_none}
+use Rattle.seg_manager.proofs.Tried.{can_tried, made_tried, none_noted, noted_none, open_leaves, open_row, tries_err, tries_more}
 use Rattle.seg_manager.proofs.manager.SegManager.open_segment.Goals as goal
 
 pub loop-cache-init : goal.loop-cache-init
-loop-cache-init g c = thins_none g.M.Mapper g.G.Gmi c.args.mapper.now c.args.self.now c.requires.can
+loop-cache-init g c = trying_none g.M.Mapper g.G.Gmi (OpenSegment c.args.seg) c.args.mapper.now c.args.self.now c.requires.can
 
 pub make_room-requires-clause-can : goal.make_room-requires-clause-can
 make_room-requires-clause-can g c =
-    let anew = noted_none c.args.seg.0 0 c.loop-cache.self.caches.items (c.loop-cache.invariant.among (first_of c.args.seg.0) (none_noted c.args.seg.0 0 c.args.self.now.caches.items c.requires.anew)) in
-    let leaves = open_leaves g.M.Mapper g.G.Gmi c.loop-cache.self c.loop-cache.mapper c.loop-cache.invariant.can c.args.seg anew in
-    can_tried g.M.Mapper g.G.Gmi c.args.mapper.now c.args.self.now (OpenSegment c.args.seg) c.loop-cache.mapper c.loop-cache.self c.loop-cache.invariant leaves c.in-Err.trouble c.open_segment.new.mapper c.open_segment.new.self c.in-Err.ensures
+    let anew = noted_none c.args.seg.0 0 c.loop-cache.self.caches.items (c.loop-cache.invariant.thins.among (first_of c.args.seg.0) (none_noted c.args.seg.0 0 c.args.self.now.caches.items c.requires.anew)) in
+    let leaves = open_leaves g.M.Mapper g.G.Gmi c.loop-cache.self c.loop-cache.mapper c.loop-cache.invariant.thins.can c.args.seg anew in
+    can_tried g.M.Mapper g.G.Gmi c.args.mapper.now c.args.self.now (OpenSegment c.args.seg) c.loop-cache.mapper c.loop-cache.self c.loop-cache.invariant leaves (open_row g.M.Mapper g.G.Gmi c.loop-cache.self c.loop-cache.mapper c.loop-cache.invariant.thins.can c.args.seg anew) c.in-Err.trouble c.open_segment.new.mapper c.open_segment.new.self c.in-Err.ensures
 
 pub make_room-requires-clause-made : goal.make_room-requires-clause-made
 make_room-requires-clause-made g c =
-    let anew = noted_none c.args.seg.0 0 c.loop-cache.self.caches.items (c.loop-cache.invariant.among (first_of c.args.seg.0) (none_noted c.args.seg.0 0 c.args.self.now.caches.items c.requires.anew)) in
-    let leaves = open_leaves g.M.Mapper g.G.Gmi c.loop-cache.self c.loop-cache.mapper c.loop-cache.invariant.can c.args.seg anew in
-    made_tried g.M.Mapper g.G.Gmi c.args.mapper.now c.args.self.now (OpenSegment c.args.seg) c.loop-cache.mapper c.loop-cache.self c.loop-cache.invariant leaves c.in-Err.trouble c.open_segment.new.mapper c.open_segment.new.self c.in-Err.ensures c.requires.made
+    let anew = noted_none c.args.seg.0 0 c.loop-cache.self.caches.items (c.loop-cache.invariant.thins.among (first_of c.args.seg.0) (none_noted c.args.seg.0 0 c.args.self.now.caches.items c.requires.anew)) in
+    let leaves = open_leaves g.M.Mapper g.G.Gmi c.loop-cache.self c.loop-cache.mapper c.loop-cache.invariant.thins.can c.args.seg anew in
+    made_tried g.M.Mapper g.G.Gmi c.args.mapper.now c.args.self.now (OpenSegment c.args.seg) c.loop-cache.mapper c.loop-cache.self c.loop-cache.invariant leaves (open_row g.M.Mapper g.G.Gmi c.loop-cache.self c.loop-cache.mapper c.loop-cache.invariant.thins.can c.args.seg anew) c.in-Err.trouble c.open_segment.new.mapper c.open_segment.new.self c.in-Err.ensures c.requires.made
 
 pub loop-cache-preserved : goal.loop-cache-preserved
 loop-cache-preserved g c =
-    let anew = noted_none c.args.seg.0 0 c.loop-cache.self.caches.items (c.loop-cache.invariant.among (first_of c.args.seg.0) (none_noted c.args.seg.0 0 c.args.self.now.caches.items c.requires.anew)) in
-    let leaves = open_leaves g.M.Mapper g.G.Gmi c.loop-cache.self c.loop-cache.mapper c.loop-cache.invariant.can c.args.seg anew in
-    tries_more g.M.Mapper g.G.Gmi c.args.mapper.now c.args.self.now (OpenSegment c.args.seg) c.loop-cache.mapper c.loop-cache.self c.loop-cache.invariant leaves c.in-Err.trouble c.open_segment.new.mapper c.open_segment.new.self c.in-Err.ensures
+    let anew = noted_none c.args.seg.0 0 c.loop-cache.self.caches.items (c.loop-cache.invariant.thins.among (first_of c.args.seg.0) (none_noted c.args.seg.0 0 c.args.self.now.caches.items c.requires.anew)) in
+    let leaves = open_leaves g.M.Mapper g.G.Gmi c.loop-cache.self c.loop-cache.mapper c.loop-cache.invariant.thins.can c.args.seg anew in
+    tries_more g.M.Mapper g.G.Gmi c.args.mapper.now c.args.self.now (OpenSegment c.args.seg) c.loop-cache.mapper c.loop-cache.self c.loop-cache.invariant leaves (open_row g.M.Mapper g.G.Gmi c.loop-cache.self c.loop-cache.mapper c.loop-cache.invariant.thins.can c.args.seg anew) c.in-Err.trouble c.open_segment.new.mapper c.open_segment.new.self c.in-Err.ensures
     c.make_room.new.mapper c.make_room.new.self c.in-Ok-make_room.ensures
 
 pub returns-in-Err-make_room : goal.returns-in-Err-make_room
 returns-in-Err-make_room g c =
-    let anew = noted_none c.args.seg.0 0 c.loop-cache.self.caches.items (c.loop-cache.invariant.among (first_of c.args.seg.0) (none_noted c.args.seg.0 0 c.args.self.now.caches.items c.requires.anew)) in
-    let leaves = open_leaves g.M.Mapper g.G.Gmi c.loop-cache.self c.loop-cache.mapper c.loop-cache.invariant.can c.args.seg anew in
-    tries_err g.M.Mapper g.G.Gmi c.args.mapper.now c.args.self.now (OpenSegment c.args.seg) c.loop-cache.mapper c.loop-cache.self c.loop-cache.invariant leaves c.in-Err.trouble c.open_segment.new.mapper c.open_segment.new.self c.in-Err.ensures
+    let anew = noted_none c.args.seg.0 0 c.loop-cache.self.caches.items (c.loop-cache.invariant.thins.among (first_of c.args.seg.0) (none_noted c.args.seg.0 0 c.args.self.now.caches.items c.requires.anew)) in
+    let leaves = open_leaves g.M.Mapper g.G.Gmi c.loop-cache.self c.loop-cache.mapper c.loop-cache.invariant.thins.can c.args.seg anew in
+    tries_err g.M.Mapper g.G.Gmi c.args.mapper.now c.args.self.now (OpenSegment c.args.seg) c.loop-cache.mapper c.loop-cache.self c.loop-cache.invariant leaves (open_row g.M.Mapper g.G.Gmi c.loop-cache.self c.loop-cache.mapper c.loop-cache.invariant.thins.can c.args.seg anew) c.in-Err.trouble c.open_segment.new.mapper c.open_segment.new.self c.in-Err.ensures
     c.in-Err-make_room.trouble c.make_room.new.mapper c.make_room.new.self c.in-Err-make_room.ensures
