@@ -41,3 +41,13 @@ pub mod Alike
 pub mod InRow
 -- Nodes that keep their names.
 pub mod NodesKept
+-- The way up to an owner.
+pub mod WayUp
+-- Which page has which node.
+pub mod PagesKept
+-- The first nodes of pages.
+pub mod MadePages
+-- Nodes that come.
+pub mod NodesCome
+-- Nodes under each other's names.
+pub mod Exchanged

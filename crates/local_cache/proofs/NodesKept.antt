@@ -149,7 +149,7 @@ many_short m c numbered first (suc k) fits held = omega (arith, given_below m c 
 
 -- Counters further on
 
-given_on : (c d : Counters) (n : ℕ) → c.fresh ≤ d.fresh → c.working ≤ d.working → IsGiven c n → IsGiven d n
+pub given_on : (c d : Counters) (n : ℕ) → c.fresh ≤ d.fresh → c.working ≤ d.working → IsGiven c n → IsGiven d n
 given_on c d n fresh working given = elim given [
   | inl first ↦ inl first
   | inr later ↦ elim later [
@@ -178,7 +178,7 @@ module _ (m : Cells) (c d : Counters) (first count : ℕ) (numbered : AreNumbere
   abbrev IsNext : ℕ → ℕ → Type 0
   IsNext n j = (k : ℕ) × (k < count) × (n ≡ first + k) × (j ≡ c.made + 1 + k)
 
-  next_or_old : (n j : ℕ) → key_at working_number renamed n ≡ Some j → IsNext n j ⊎ (key_at working_number m n ≡ Some j)
+  pub next_or_old : (n j : ℕ) → key_at working_number renamed n ≡ Some j → IsNext n j ⊎ (key_at working_number m n ≡ Some j)
   next_or_old n j e = elim (cases_lt n first) [
     | inl low ↦ inr (sym (ap (option_and_then working_number) (each_before m first (λ k. named (WorkingNode (c.made + 1 + k))) count n low)) ∙ e)
     | inr from ↦ elim (cases_lt n (first + count)) [

@@ -12,7 +12,7 @@ ghost use Rattle.local_cache.specs.PageNodes.{name_behind};
 ghost use Rattle.local_cache.specs.Runs.{run};
 
 use crate::runs::pieces::numbers_from;
-use crate::runs::{NodeTable, PlainState, Run, Single};
+use crate::runs::{NodeTable, Run, Single};
 use stretches::Stretch;
 use vm_ids::{CacheId, NodeId, NodeName, PageNo};
 
@@ -246,15 +246,16 @@ impl NodeTable {
         ensures { IsOnWay self.now.cells first result }
     {
         let nodes = self.run_from(first);
-        if nodes.value.own != PlainState::Absent {
+        if !nodes.value.own.is_absent() {
             return Way::Owner(first);
         }
         let mut node = nodes.value.parent.unwrap().0;
         while let Some(nodes) = self.nodes.stretch_beside(node) {
-            if nodes.value.own != PlainState::Absent {
+            if !nodes.value.own.is_absent() {
                 return Way::Owner(node);
             }
-            node = nodes.value.parent.unwrap().0 + (node - nodes.first);
+            let before = (node - nodes.first) as u32;
+            node = nodes.value.parent_after(before).unwrap().0;
         }
         Way::On(node)
     }

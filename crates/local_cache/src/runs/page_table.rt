@@ -116,6 +116,8 @@ impl PageTable {
         requires held { HaveNodes self.old.nodes.cells name count }
         requires short { IsShortFor name count }
         ensures pages { self.new.nodes.cells ≡ without_pages self.old.nodes.cells name count }
+        ensures within { result ≤ count }
+        ensures fewer { map.len self.new.nodes.cells + result ≡ map.len self.old.nodes.cells }
         ensures count { self.new.nodes.count + result ≡ self.old.nodes.count }
         ensures room { self.new.nodes.room ≡ self.old.nodes.room }
     {
@@ -133,7 +135,7 @@ impl PageTable {
     pub(crate) fn set_named(&mut self, name: NodeName, count: u32, node: NodeId)
         requires held { HaveNodes self.old.nodes.cells name count }
         requires short { IsShortFor name count }
-        requires nodes { node.0 + count < 2 ^ 64 }
+        requires nodes { 1 < count → node.0 + count < 2 ^ 64 }
         ensures pages { self.new.nodes.cells ≡ with_pages self.old.nodes.cells name node count }
         ensures count { self.new.nodes.count ≡ self.old.nodes.count }
         ensures room { self.new.nodes.room ≡ self.old.nodes.room }
@@ -146,8 +148,8 @@ impl PageTable {
     // So many pages, from one on, which have nodes, have other ones.
     fn set(&mut self, page: u64, count: u32, node: NodeId)
         requires held { (k : ℕ) → k < count → IsSome (map.get self.old.nodes.cells (page + k)) }
-        requires short { page + count < 2 ^ 64 }
-        requires nodes { node.0 + count < 2 ^ 64 }
+        requires short { 1 < count → page + count < 2 ^ 64 }
+        requires nodes { 1 < count → node.0 + count < 2 ^ 64 }
         ensures pages { self.new.nodes.cells ≡ pages_from self.old.nodes.cells page node count }
         ensures count { self.new.nodes.count ≡ self.old.nodes.count }
         ensures room { self.new.nodes.room ≡ self.old.nodes.room }

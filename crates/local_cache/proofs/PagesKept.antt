@@ -39,7 +39,7 @@ page_stays pages (Live cache page) q other =
     remove_other pages (page_number cache.0 page.0 + 0) q (λ e. other (ap Some (let at : page_number cache.0 page.0 ≡ q = omega (arith, e) in at)))
 page_stays pages (Working k) q other = refl
 
-key_there : (o : Option Cell) → IsSome o → option_and_then page_key o ≡ page_of_name (unwrap_or o blank).name
+pub key_there : (o : Option Cell) → IsSome o → option_and_then page_key o ≡ page_of_name (unwrap_or o blank).name
 key_there None some = absurd (false≢true some)
 key_there (Some c) some = refl
 
@@ -47,7 +47,7 @@ abbrev number_if : Option NodeId → ℕ
 number_if None = 0
 number_if (Some m) = m.0
 
-same_node : (a b : ℕ) → ◌≡◌ {A = Option NodeId} (Some (record { 0 = a })) (Some (record { 0 = b })) → a ≡ b
+pub same_node : (a b : ℕ) → ◌≡◌ {A = Option NodeId} (Some (record { 0 = a })) (Some (record { 0 = b })) → a ≡ b
 same_node a b e = ap number_if e
 
 -- One node that goes, or gets a name that is no page's: what else has a page key stays

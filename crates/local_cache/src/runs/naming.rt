@@ -23,7 +23,9 @@ fn leave_pages(nodes: &NodeTable, pages: &mut PageTable, first: u64, count: u32)
     requires paged { ArePaged nodes.now.cells pages.old.nodes.cells }
     ensures pages { pages.new.nodes.cells
         ≡ without_names pages.old.nodes.cells nodes.now.cells first count }
-    ensures count { result + map.len pages.new.nodes.cells ≡ map.len pages.old.nodes.cells }
+    ensures within { result ≤ count }
+    ensures fewer { map.len pages.new.nodes.cells + result ≡ map.len pages.old.nodes.cells }
+    ensures count { pages.new.nodes.count + result ≡ pages.old.nodes.count }
     ensures room { pages.new.nodes.room ≡ pages.old.nodes.room }
 {
     let mut done = 0;
@@ -94,6 +96,7 @@ impl NodeRuns {
         requires made { self.old.made + count ≤ 3 * 2 ^ 61 }
         requires fit { HasNumbers run count }
         ensures new { HaveNone self.old result count }
+        ensures later { 2 ^ 61 ≤ result.0 }
         ensures short { result.0 + count ≤ 2 ^ 64 }
         ensures made { self.new ≡ made_working self.old result run count }
     {
@@ -120,6 +123,7 @@ impl NodeRuns {
         requires room { 1 ≤ self.old.room }
         requires made { self.old.made < 3 * 2 ^ 61 }
         ensures new { find self.old result ≡ None }
+        ensures later { 2 ^ 61 ≤ result.0 }
         ensures replaced { self.new
             ≡ with_new (as_working self.old node) result (cell self.old node).name own }
     {

@@ -27,7 +27,7 @@ impl NodeRuns {
                 gone: node,
                 instead: Some(child),
             };
-            self.table.change_there(parent.0, change);
+            self.change_there(parent, change);
         }
         let passed = self.take_place(child, own, parent);
         self.free_one(node);
@@ -43,9 +43,9 @@ impl NodeRuns {
     {
         let passes = !own.is_absent() && self.table.own_state(node.0).is_absent();
         if passes {
-            self.table.change(node.0, Rehang { own, parent });
+            self.change(node, Rehang { own, parent });
         } else {
-            self.table.change_there(node.0, Hang(parent));
+            self.change_there(node, Hang(parent));
         }
         passes
     }
