@@ -154,10 +154,10 @@ module _ (m : PageNodes) (n o : NodeId) (count : ℕ) (c1 c2 : CacheId) (p1 p2 :
     none_at x first f zero h = refl
     none_at x first f (suc i) h = changed_other (changed_each x first f i) (first + i) (f i) q (h i (omega arith)) ∙ none_at x first f i (λ j less. h j (omega (arith, less)))
 
-  node_kept : (k : ℕ) → k < count → map.get (cells_after k) (n.0 + k) ≡ map.get m.cells (n.0 + k)
+  pub node_kept : (k : ℕ) → k < count → map.get (cells_after k) (n.0 + k) ≡ map.get m.cells (n.0 + k)
   node_kept k less = cell_kept k (n.0 + k) (λ j under e. omega (arith, under, e)) (λ j under. apart k j less (omega (arith, under, less)))
 
-  other_kept : (k : ℕ) → k < count → map.get (cells_after k) (o.0 + k) ≡ map.get m.cells (o.0 + k)
+  pub other_kept : (k : ℕ) → k < count → map.get (cells_after k) (o.0 + k) ≡ map.get m.cells (o.0 + k)
   other_kept k less = cell_kept k (o.0 + k) (λ j under e. apart j k (omega (arith, under, less)) less (sym e)) (λ j under e. omega (arith, under, e))
 
   key_of : (x : Cells) (q : ℕ) (y : NodeName) → HasCell x q → (cell_at x q).name ≡ y → key_at page_key x q ≡ page_of_name y

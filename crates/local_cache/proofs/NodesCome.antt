@@ -48,15 +48,14 @@ one_free m c n numbered k h q e = omega (arith, numbered.named q (c.made + 1) (l
 
 -- Working nodes that come as a run
 
-module _ (m : Cells) (c d : Counters) (r : Stretch Run) (numbered : AreNumbered m c) (is : working_number (run_cell r.value) ≡ Some (c.made + 1))
-    (vacant : (n : ℕ) → is_in r n ≡ true → map.get m n ≡ None) where
+module _ (m : Cells) (r : Stretch Run) (number : ℕ) (is : working_number (run_cell r.value) ≡ Some number) (vacant : (n : ℕ) → is_in r n ≡ true → map.get m n ≡ None) where
   abbrev come : Cells
   come = with_stretch run run_cell m r
 
   come_out : (n : ℕ) → is_in r n ≡ false → map.get come n ≡ map.get m n
   come_out n h = get_with run run_cell m r n ∙ cond-false _ _ _ h
 
-  number_in : (n : ℕ) → is_in r n ≡ true → key_at working_number come n ≡ Some (c.made + 1 + (n - r.first))
+  number_in : (n : ℕ) → is_in r n ≡ true → key_at working_number come n ≡ Some (number + (n - r.first))
   number_in n h =
       ap (option_and_then working_number) (get_with run run_cell m r n ∙ cond-true _ _ _ h)
       ∙ run_working r.value (n - r.first) ∙ ap (option_map (λ (i : ℕ). i + (n - r.first))) is
@@ -65,7 +64,7 @@ module _ (m : Cells) (c d : Counters) (r : Stretch Run) (numbered : AreNumbered 
   page_in n h =
       let at = get_with run run_cell m r n ∙ cond-true _ _ _ h in
       ap (option_and_then page_key) at
-      ∙ no_page (run_cell (run_after r.value (n - r.first))).name (c.made + 1 + (n - r.first)) (sym (ap (option_and_then working_number) at) ∙ number_in n h)
+      ∙ no_page (run_cell (run_after r.value (n - r.first))).name (number + (n - r.first)) (sym (ap (option_and_then working_number) at) ∙ number_in n h)
 
   pages_same : (n : ℕ) → key_at page_key come n ≡ key_at page_key m n
   pages_same n = elim (cases_Bool (is_in r n)) [
@@ -79,29 +78,29 @@ module _ (m : Cells) (c d : Counters) (r : Stretch Run) (numbered : AreNumbered 
     (λ h. (paged k n).1 (sym (pages_same n) ∙ h)),
   )
 
-  new_or_old : (n j : ℕ) → key_at working_number come n ≡ Some j → ((is_in r n ≡ true) × (j ≡ c.made + 1 + (n - r.first))) ⊎ (key_at working_number m n ≡ Some j)
+  new_or_old : (n j : ℕ) → key_at working_number come n ≡ Some j → ((is_in r n ≡ true) × (j ≡ number + (n - r.first))) ⊎ (key_at working_number m n ≡ Some j)
   new_or_old n j e = elim (cases_Bool (is_in r n)) [
     | inl inside ↦ inl (inside, sym (same_Some _ _ (sym (number_in n inside) ∙ e)))
     | inr out ↦ inr (sym (ap (option_and_then working_number) (come_out n out)) ∙ e)
   ]
 
-  pub numbered_come : r.first ≡ 2 ^ 63 + c.working → d.fresh ≡ c.fresh → d.working ≡ c.working + r.count → d.made ≡ c.made + r.count → c.made + r.count ≤ 3 * 2 ^ 61 → AreNumbered come d
-  numbered_come first fresh working made few = record {
+  pub numbered_come : (c d : Counters) → AreNumbered m c → number ≡ c.made + 1 → r.first ≡ 2 ^ 63 + c.working → d.fresh ≡ c.fresh → d.working ≡ c.working + r.count → d.made ≡ c.made + r.count → c.made + r.count ≤ 3 * 2 ^ 61 → AreNumbered come d
+  numbered_come c d numbered next first fresh working made few = record {
     given = λ n h. elim (cases_Bool (is_in r n)) [
       | inl inside ↦ inr (inr (omega (arith, low r n inside, first), omega (arith, high r n inside, first, working)))
       | inr out ↦ given_on c d n (omega (arith, fresh)) (omega (arith, working)) (numbered.given n (sym (ap is_some (come_out n out)) ∙ h))
     ];
     named = λ n j h. elim (new_or_old n j h) [
-      | inl new ↦ omega (arith, new.1, low r n new.0, high r n new.0, made)
+      | inl new ↦ omega (arith, next, new.1, low r n new.0, high r n new.0, made)
       | inr old ↦ omega (arith, numbered.named n j old, made)
     ];
     apart = λ n o j h i. elim (new_or_old n j h) [
       | inl new ↦ elim (new_or_old o j i) [
         | inl also ↦ omega (arith, new.1, also.1, low r n new.0, low r o also.0)
-        | inr old ↦ absurd (omega (arith, new.1, numbered.named o j old))
+        | inr old ↦ absurd (omega (arith, next, new.1, numbered.named o j old))
       ]
       | inr old ↦ elim (new_or_old o j i) [
-        | inl new ↦ absurd (omega (arith, new.1, numbered.named n j old))
+        | inl new ↦ absurd (omega (arith, next, new.1, numbered.named n j old))
         | inr also ↦ numbered.apart n o j old also
       ]
     ];
