@@ -1,5 +1,6 @@
 -- Cells of the arena changed: that of one node, those of many, and those of nodes that are linked.
 use Rattle.std.specs.Prelude.{◌≡◌, ℕ, zero, suc, ◌<◌, ◌≤◌, Bool, true, false, ◌&&◌, not, Option, Some, None, option_and_then, slice_get}
+use Rattle.std.specs.FinMap as ids
 use Rattle.vm_ids.specs.declared.node_name.NodeName.TheVariants.{Live}
 use Rattle.vm_ids.specs.declared.numbers.CacheId.{CacheId}
 use Rattle.vm_ids.specs.declared.numbers.NodeId.{NodeId}
@@ -64,9 +65,11 @@ abbrev pub up : Arena → ℕ → NodeId → Option NodeId
 up a zero n = Some n
 up a (suc k) n = option_and_then (λ m. (cell a m).links.parent) (up a k n)
 
--- the first node with an own page on the way up by parents, a node itself included
+-- the first node with an own page on the way up by parents, a node itself included, which is no
+-- longer than there are nodes
 pub record IsOwnerOf (a : Arena) (n owner : NodeId) : Type 0 where
   pub steps : ℕ
+  pub few : steps ≤ ids.len a.cells
   pub reached : up a steps n ≡ Some owner
   pub owns : is_absent (cell a owner).own ≡ false
   pub first : (k : ℕ) (m : NodeId) → k < steps → up a k n ≡ Some m

@@ -1,7 +1,6 @@
 // Page nodes that come and go, and that get other names.
 ghost use Rattle.std.specs.Prelude.{◌≡◌, ℕ, ◌+◌, ◌*◌, ◌<◌, ◌≤◌, ◌^◌, None, true};
 ghost use Rattle.std.specs.FinMap as map;
-ghost use Rattle.local_cache.specs.ManyNodes.{next_node};
 ghost use Rattle.local_cache.specs.NodeCells.{HasCell, HaveCells, cell_at, is_page, own_of_plain};
 ghost use Rattle.local_cache.specs.NodeKeys.{page_number};
 ghost use Rattle.local_cache.specs.PageNodes.{AreApart, AreNamedFrom, ArePaged, HasNode, HaveNodes, HaveNone, as_working, as_working_many, cell, exchanged_many, find, made_first, made_working, name_behind, renamed_each, with_new, without, without_many, without_names};
@@ -139,12 +138,10 @@ impl NodeRuns {
         fresh
     }
 
-    // Names so many nodes of pages, from one on, by the next working names: at once those of one
-    // run. The pages have no nodes then.
+    // Names so many nodes, from one on, by the next working names: at once those of one run. The
+    // pages that they are of have no nodes then.
     pub(crate) fn to_working_many(&mut self, node: NodeId, count: u32)
         requires held { HaveNodes self.old node count }
-        requires pages { (k : ℕ) → k < count
-            → is_page (cell self.old (next_node node k)).name ≡ true }
         requires made { self.old.made + count ≤ 3 * 2 ^ 61 }
         ensures { self.new ≡ as_working_many self.old node count }
     {

@@ -1,5 +1,5 @@
 -- Nodes that get other names, and nodes that give way, on the arena.
-use Rattle.std.proofs.Common.{◌≡◌, ◌≢◌, ℕ, zero, suc, ◌+◌, ◌<◌, ◌≤◌, ◌^◌, Option, Some, None, IsSome, refl, ap, sym, subst, ◌∙◌, inl, inr, arith}
+use Rattle.std.proofs.Common.{◌≡◌, ◌≢◌, ℕ, zero, suc, ◌+◌, ◌<◌, ◌≤◌, ◌^◌, true, Option, Some, None, IsSome, refl, ap, sym, subst, ◌∙◌, inl, inr, arith}
 use Rattle.std.specs.Prelude.{IfSome, is_some, unwrap_or}
 use Rattle.std.proofs.lemmas.Bool.{cases_eq, false≢true}
 use Rattle.std.proofs.lemmas.Option.{none-some, same_Some}
@@ -14,7 +14,7 @@ use Rattle.local_cache.specs.Arena.{Arena, Cell, blank}
 use Rattle.local_cache.specs.Arena as arena
 use Rattle.local_cache.specs.ArenaBy.{CacheRow, CacheRows, arena_by}
 use Rattle.local_cache.specs.ManyNodes.{next_node}
-use Rattle.local_cache.specs.NodeCells.{Cells, HasCell, changed, inheriting, named, with_child}
+use Rattle.local_cache.specs.NodeCells.{Cells, HasCell, changed, inheriting, is_page, named, with_child}
 use Rattle.local_cache.specs.NodeKeys.{key_at, page_key, page_number, page_of_name}
 use Rattle.local_cache.specs.OnCells as on
 use Rattle.local_cache.specs.PageNodes.{AreApart, ArePaged, HasNode, HaveNodes, PageNodes, as_working, cell, exchanged_many, exchanged_names, find, given_way, with_new}
@@ -174,3 +174,16 @@ module _ (m : PageNodes) (c : CacheRows) (right : ArePlaced m c.rows) (n child :
         right = right_took;
       })
       (freed took c right_took n node_there)
+
+-- the parent of a node, if it has one
+pub parent_in : (m : PageNodes) (c : CacheRows) (n : NodeId) → IfSome (arena.cell (arena_by m c) n).links.parent (arena.HasNode (arena_by m c)) → IfSome (cell m n).links.parent (HasNode m)
+unfolding arena.cell
+parent_in m c n h = h
+
+pub passes_by : (m : PageNodes) (c : CacheRows) (n child : NodeId) → nodes.passes m n child ≡ on.passes (arena_by m c) n child
+unfolding arena.cell
+passes_by m c n child = refl
+
+pub page_named : (x : NodeName) → is_page x ≡ true → (cache : CacheId) × (page : PageNo) × (x ≡ Live cache page)
+page_named (Live cache page) e = (cache, page, refl)
+page_named (Working k) e = absurd (false≢true e)

@@ -1,29 +1,17 @@
-use Rattle.std.proofs.Common.{subst, sym}
-use Rattle.local_cache.specs.Arena.{Arena, NodesStay}
-use Rattle.local_cache.specs.Many.{HaveNodes, with_working_many}
-use Rattle.local_cache.proofs.ArenaBy.SeenMany.{fresh_working_over_call, none_held}
-use Rattle.local_cache.proofs.Nodes.Many.{held_working_many, stay_over_two, stay_working}
+use Rattle.std.proofs.Common.{◌≡◌, refl, ap, sym, subst, ◌∙◌, arith}
+use Rattle.local_cache.specs.Arena.{Arena}
+use Rattle.local_cache.specs.ArenaBy.{arena_by}
+use Rattle.local_cache.specs.OnCells as on
+use Rattle.local_cache.specs.PageNodes as nodes
+use Rattle.local_cache.proofs.ArenaBy.Calls.{StandFor}
+use Rattle.local_cache.proofs.ArenaBy.Seen.{node_call}
 use Rattle.local_cache.proofs.caches.Caches.fresh_working_over.Goals as goal
 
-pub invariant_of-self : goal.invariant_of-self
-invariant_of-self c = (fresh_working_over_call c.self.inside.nodes c.self.inside.list c.args.self.now c.self.view_is c.self.invariant c.fresh_working_over.new.self c.fresh_working_over.result c.args.count c.args.older c.args.newer c.fresh_working_over.ensures.new c.fresh_working_over.ensures.changed).right
+made : (c : goal.After-make_working) → StandFor (nodes.made_working c.self.inside.nodes c.make_working.result c.make_working.args.run c.args.count) c.self.inside.list (on.working_over (arena_by c.self.inside.nodes c.self.inside.list) c.make_working.result c.args.parent c.args.older c.args.newer c.args.count)
+made c = ?
 
-pub returns-clause-new : goal.returns-clause-new
-returns-clause-new c = none_held c.self.inside.nodes c.self.inside.list c.args.self.now c.self.view_is c.fresh_working_over.result c.args.count c.fresh_working_over.ensures.new
+pub invariant_of-self : goal.invariant_of-self
+invariant_of-self c = (node_call c.self.inside.nodes c.self.inside.list c.args.self.now c.self.view_is c.self.invariant c.make_working.new.self (nodes.made_working c.self.inside.nodes c.make_working.result c.make_working.args.run c.args.count) (λ (b : Arena). on.working_over b c.make_working.result c.args.parent c.args.older c.args.newer c.args.count) c.make_working.ensures.made (made c)).right
 
 pub returns-clause-changed : goal.returns-clause-changed
-returns-clause-changed c = (fresh_working_over_call c.self.inside.nodes c.self.inside.list c.args.self.now c.self.view_is c.self.invariant c.fresh_working_over.new.self c.fresh_working_over.result c.args.count c.args.older c.args.newer c.fresh_working_over.ensures.new c.fresh_working_over.ensures.changed).is
-
-pub returns-clause-held : goal.returns-clause-held
-returns-clause-held c =
-    let n = c.fresh_working_over.result in
-    let made : Arena = with_working_many c.args.self.now n c.args.count in
-    subst (λ (b : Arena). HaveNodes b n c.args.count) (sym (returns-clause-changed c)) (λ k less.
-    stay_over_two made n c.args.older c.args.newer c.args.count _ (held_working_many c.args.self.now n c.args.count k less))
-
-pub returns-clause-stays : goal.returns-clause-stays
-returns-clause-stays c =
-    let n = c.fresh_working_over.result in
-    let made : Arena = with_working_many c.args.self.now n c.args.count in
-    subst (λ (b : Arena). NodesStay c.args.self.now b) (sym (returns-clause-changed c)) (λ q held.
-    stay_over_two made n c.args.older c.args.newer c.args.count q (stay_working c.args.self.now n c.args.count q held))
+returns-clause-changed c = (node_call c.self.inside.nodes c.self.inside.list c.args.self.now c.self.view_is c.self.invariant c.make_working.new.self (nodes.made_working c.self.inside.nodes c.make_working.result c.make_working.args.run c.args.count) (λ (b : Arena). on.working_over b c.make_working.result c.args.parent c.args.older c.args.newer c.args.count) c.make_working.ensures.made (made c)).is
