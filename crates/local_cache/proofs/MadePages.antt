@@ -17,6 +17,7 @@ use Rattle.local_cache.specs.Arena.{Cell, new_cell, no_links}
 use Rattle.local_cache.specs.NodeCells.{Cells, run_cell}
 use Rattle.local_cache.specs.NodeKeys.{key_at, page_key, page_number, working_number}
 use Rattle.local_cache.specs.NodeRuns.{AreNumbered}
+use Rattle.local_cache.specs.NodeTable.{HasFreeNumber, HaveFreeNumbers}
 use Rattle.local_cache.specs.PageNodes.{ArePaged, PageNodes, made_first, with_new}
 use Rattle.local_cache.specs.Pages.{Pages, pages_from}
 use Rattle.local_cache.specs.Runs.{run, run_after}
@@ -24,14 +25,8 @@ use Rattle.local_cache.specs.declared.own_state.OwnState.{OwnState}
 use Rattle.local_cache.specs.declared.runs.counters.Counters.{Counters}
 use Rattle.local_cache.specs.declared.runs.run.Run.{Run}
 use Rattle.local_cache.proofs.PageRanges.{node_told, pages_of, pages_told}
+use Rattle.local_cache.proofs.PagesKept.{same_node}
 use Rattle.local_cache.proofs.RunAfter.{cell_after, run_cell_after}
-
-abbrev number_if : Option NodeId → ℕ
-number_if None = 0
-number_if (Some m) = m.0
-
-same_node : (a b : ℕ) → ◌≡◌ {A = Option NodeId} (Some (record { 0 = a })) (Some (record { 0 = b })) → a ≡ b
-same_node a b e = ap number_if e
 
 module _ (cache : CacheId) (s : OwnState) (r : Run) (is : run_cell r ≡ new_cell (Live cache (record { 0 = 0 })) s) where
   abbrev base : ℕ
@@ -45,6 +40,10 @@ module _ (cache : CacheId) (s : OwnState) (r : Run) (is : run_cell r ≡ new_cel
 
   abbrev nodes : ℕ → Stretch Run
   nodes count = record { first = base; count = count; value = r }
+
+  -- they have no working numbers
+  pub pages_free : (m : Cells) (count : ℕ) → HaveFreeNumbers m (nodes count)
+  pages_free m count k less = (let P : Cell → Type 0 = λ d. HasFreeNumber m d in subst P (sym (page_cell k)) tt)
 
   module _ (m : PageNodes) (whole : ℕ) where
     pub made_first_is : (count : ℕ) → made_first m cache s count ≡ record m {

@@ -8,7 +8,7 @@ use Rattle.stretches.specs.Stretch.{is_in}
 use Rattle.stretches.specs.declared.stretch.Stretch.{Stretch}
 use Rattle.stretches.proofs.Reading.Numbers.{high, low}
 use Rattle.mixed_map.specs.Mixed.{with_stretch}
-use Rattle.mixed_map.proofs.Maps.{insert_other, insert_same, remove_other, remove_same}
+use Rattle.mixed_map.proofs.Maps.{insert_other, insert_same, not_some, remove_other, remove_same}
 use Rattle.mixed_map.proofs.Telling.{get_with}
 use Rattle.vm_ids.specs.declared.node_name.NodeName.{NodeName}
 use Rattle.vm_ids.specs.declared.node_name.NodeName.TheVariants.{Live, Working as WorkingNode}
@@ -36,6 +36,31 @@ next_free m c r numbered is k less =
     is_free m (working_number (run_cell (run_after r.value k))) (λ j n e h.
     let at : c.made + 1 + k ≡ j = same_Some _ _ (sym (run_working r.value k ∙ ap (option_map (λ (i : ℕ). i + k)) is) ∙ e) in
     omega (arith, at, numbered.named n j h))
+
+-- no node has a number of the next working nodes
+pub next_vacant : (m : Cells) (c : Counters) (r : Stretch Run) → AreNumbered m c → r.first ≡ 2 ^ 63 + c.working → (n : ℕ) → is_in r n ≡ true → map.get m n ≡ None
+next_vacant m c r numbered first n inside =
+    not_some (map.get m n) (λ held.
+      (let from = low r n inside in
+      elim (numbered.given n held) [
+        | inl early ↦ absurd (omega (arith, from, first, early))
+        | inr later ↦ elim later [
+          | inl fresh ↦ absurd (omega (arith, from, first, fresh.1, numbered.fresh, numbered.made))
+          | inr working ↦ absurd (omega (arith, from, first, working.1))
+        ]
+      ]))
+
+-- nor that of the next node that a page gets
+pub fresh_vacant : (m : Cells) (c : Counters) (n : ℕ) → AreNumbered m c → c.fresh < 3 * 2 ^ 61 → n ≡ 2 ^ 61 + c.fresh → map.get m n ≡ None
+fresh_vacant m c n numbered few is =
+    not_some (map.get m n) (λ held.
+      elim (numbered.given n held) [
+        | inl early ↦ absurd (omega (arith, is, early))
+        | inr later ↦ elim later [
+          | inl fresh ↦ absurd (omega (arith, is, fresh.1))
+          | inr working ↦ absurd (omega (arith, is, few, working.0))
+        ]
+      ])
 
 left_key : (m : Cells) (n q j : ℕ) → key_at working_number (map.remove m n) q ≡ Some j → key_at working_number m q ≡ Some j
 left_key m n q j e = elim (cases_eq q n) [

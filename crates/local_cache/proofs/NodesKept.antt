@@ -7,6 +7,7 @@ use Rattle.std.specs.FinMap as map
 use Rattle.mixed_map.proofs.Maps.{remove_other, remove_same}
 use Rattle.vm_ids.specs.declared.node_name.NodeName.{NodeName}
 use Rattle.vm_ids.specs.declared.node_name.NodeName.TheVariants.{Working as WorkingNode}
+use Rattle.vm_ids.specs.declared.numbers.NodeId.{NodeId}
 use Rattle.local_cache.specs.Arena.{Cell, blank}
 use Rattle.local_cache.specs.NodeCells.{Cells, HasCell, HaveCells, cell_at, changed, changed_each, named}
 use Rattle.local_cache.specs.NodeKeys.{key_at, number_of_name, page_key, page_of_name, working_number}
@@ -16,6 +17,7 @@ use Rattle.local_cache.specs.PageNodes.{ArePaged, KeepsNames}
 use Rattle.local_cache.specs.Pages.{Pages}
 use Rattle.local_cache.specs.declared.runs.counters.Counters.{Counters}
 use Rattle.local_cache.specs.declared.runs.page_table.PageTable.{PageTable}
+use Rattle.local_cache.proofs.NodeCells.{len_into}
 use Rattle.local_cache.proofs.Singles.{len_insert_old}
 use Rattle.local_cache.proofs.Stretched.{changed_here, changed_other, each_at, each_before, each_behind}
 use Rattle.local_cache.proofs.TableRight.{has_key, is_free}
@@ -78,6 +80,15 @@ same_right t u p c capacity right same len count room = record {
     pages = right.places.pages;
   };
 }
+
+-- no more pages have nodes than there are nodes
+pub few_pages : (cells : Cells) (pages : Pages) → ArePaged cells pages → map.len pages ≤ map.len cells
+few_pages cells pages paged = len_into (λ (k : ℕ) (v : NodeId). v.0) pages cells
+    (λ k v h. has_key page_key cells v.0 k ((paged k v.0).0 h))
+    (λ j k v w h i same.
+      (let mine = (paged j v.0).0 h in
+      let theirs = (paged k w.0).0 i in
+      same_Some j k (sym mine ∙ ap (key_at page_key cells) same ∙ theirs)))
 
 -- One cell that changes
 

@@ -14,7 +14,7 @@ use Rattle.local_cache.specs.ManyNodes.{each, next_node}
 use Rattle.local_cache.specs.NodeCells.{Cells, HasCell, HaveCells, cell_at, changed, changed_each, named}
 use Rattle.local_cache.specs.NodeKeys.{key_at, page_key, page_number, page_of_name}
 use Rattle.local_cache.specs.PageNodes.{ArePaged, PageNodes, as_working, as_working_many, name_behind, without, without_many, without_names}
-use Rattle.local_cache.specs.Pages.{Pages, pages_with, without_pages}
+use Rattle.local_cache.specs.Pages.{HaveNodes, Pages, pages_with, without_pages}
 use Rattle.local_cache.proofs.Each.{each_more}
 use Rattle.local_cache.proofs.Stretched.{changed_here, changed_other, each_behind}
 
@@ -174,6 +174,21 @@ names_there pages cells first zero q other = refl
 names_there pages cells first (suc k) q other =
     page_stays (without_names pages cells first k) (cell_at cells (first + k)).name q (other k (omega arith))
     ∙ names_there pages cells first k q (λ i less. other i (omega (arith, less)))
+
+-- the pages of a piece have nodes still
+pub pages_held : (cells : Cells) (pages : Pages) (first done some : ℕ) (x : NodeName) → ArePaged cells pages → HaveCells cells first (done + some)
+    → ((k : ℕ) → k < some → (cell_at cells (first + done + k)).name ≡ name_behind x k) → HaveNodes (without_names pages cells first done) x some
+pages_held cells pages first done some (Working number) paged held names = tt
+pages_held cells pages first done some (Live cache page) paged held names k less =
+    let far : first + (done + k) ≡ first + done + k = omega arith in
+    let P : ℕ → Type 0 = λ q. HasCell cells q in
+    let there : HasCell cells (first + done + k) = subst P far (held (done + k) (omega (arith, less))) in
+    let at : page_number cache.0 (page.0 + k) ≡ page_number cache.0 page.0 + k = omega arith in
+    let key : key_at page_key cells (first + done + k) ≡ Some (page_number cache.0 page.0 + k) = key_there (map.get cells (first + done + k)) there ∙ ap page_of_name (names k less) ∙ ap Some at in
+    let found = (paged (page_number cache.0 page.0 + k) (first + done + k)).1 key in
+    ap is_some (names_there pages cells first done (page_number cache.0 page.0 + k) (λ i under e.
+      (let other = (paged (page_number cache.0 page.0 + k) (first + i)).1 (key_there (map.get cells (first + i)) (held i (omega (arith, under))) ∙ e) in
+      omega (arith, under, same_node (first + i) (first + done + k) (sym other ∙ found)))) ∙ found)
 
 -- A node that comes for a page that has none
 pub paged_come : (cells new : Cells) (pages : Pages) (n page : ℕ) → ArePaged cells pages → map.get pages page ≡ None

@@ -45,7 +45,7 @@ cell_after c k = record {
   tree = list_map (λ n. further n k) c.tree;
 }
 
-name_behind_first : (x : RunName) (k : ℕ) → first_name (name_after x k) ≡ name_behind (first_name x) k
+pub name_behind_first : (x : RunName) (k : ℕ) → first_name (name_after x k) ≡ name_behind (first_name x) k
 name_behind_first (Pages cache page) k = refl
 name_behind_first (Working j) k = refl
 

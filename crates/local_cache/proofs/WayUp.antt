@@ -4,20 +4,28 @@ use Rattle.std.specs.Prelude.{is_some, option_and_then, option_map, unwrap_or}
 use Rattle.std.proofs.lemmas.Bool.{cases_Bool, cond-true, cond-false, false≢true}
 use Rattle.std.proofs.lemmas.Option.{none-some, same_Some}
 use Rattle.std.specs.FinMap as map
+use Rattle.stretches.specs.Stretch.{is_in}
+use Rattle.stretches.specs.declared.stretch.Stretch.{Stretch}
+use Rattle.stretches.proofs.Reading.Numbers.{within}
+use Rattle.mixed_map.specs.Mixed.{IsStretchFrom, Tells}
 use Rattle.vm_ids.specs.declared.numbers.NodeId.{NodeId}
 use Rattle.local_cache.specs.Looking.{IsFurtherUp, IsOwner, up}
-use Rattle.local_cache.specs.NodeCells.{Cells, HasCell, cell_at}
+use Rattle.local_cache.specs.Arena.{Cell, blank}
+use Rattle.local_cache.specs.GoingOn.{run_goes_on}
+use Rattle.local_cache.specs.NodeCells.{Cells, HasCell, cell_at, run_cell}
 use Rattle.local_cache.specs.Own.{is_absent}
+use Rattle.local_cache.specs.Runs.{run, run_after}
+use Rattle.local_cache.specs.declared.runs.run.Run.{Run}
 
 module _ (m : Cells) where
-  abbrev bare : ℕ → Bool
+  abbrev pub bare : ℕ → Bool
   bare n = is_absent (cell_at m n).own
 
-  abbrev next_up : ℕ → Option ℕ
+  abbrev pub next_up : ℕ → Option ℕ
   next_up n = option_map (λ (q : NodeId). q.0) (cell_at m n).links.parent
 
   -- the way from a node is that from its parent, and one step more
-  up_next : (k n p : ℕ) → next_up n ≡ Some p → up m (suc k) n ≡ up m k p
+  pub up_next : (k n p : ℕ) → next_up n ≡ Some p → up m (suc k) n ≡ up m k p
   up_next zero n p e = e
   up_next (suc k) n p e = ap (option_and_then next_up) (up_next k n p e)
 
@@ -33,7 +41,7 @@ module _ (m : Cells) where
       by_steps zero e = e
       by_steps (suc s) e = absurd (false≢true (sym owns ∙ o.first 0 n (omega (arith, e)) refl))
 
-    some_steps : bare n ≡ true → 0 < o.steps
+    pub some_steps : bare n ≡ true → 0 < o.steps
     some_steps absent = by_steps o.steps refl where
       by_steps : (s : ℕ) → o.steps ≡ s → 0 < o.steps
       by_steps zero e =
@@ -59,7 +67,7 @@ module _ (m : Cells) where
 
     -- the parent has the same owner
     module _ (p : ℕ) (absent : bare n ≡ true) (parent : next_up n ≡ Some p) where
-      pub parent_owner : IsOwner m p owner
+      abbrev pub parent_owner : IsOwner m p owner
       parent_owner =
           let some = some_steps absent in
           let one : suc (o.steps - 1) ≡ o.steps = omega (arith, some) in
@@ -86,13 +94,12 @@ module _ (m : Cells) where
 
   -- How many nodes without an own page there are on the way up, as far as so many
 
-  pub way : ℕ → ℕ → ℕ
+  abbrev pub way : ℕ → ℕ → ℕ
   way zero n = 0
   way (suc k) n = cond (bare n) (suc (way k (unwrap_or (next_up n) 0))) 0
 
-  way_steps : (l n owner : ℕ) (o : IsOwner m n owner) → o.steps ≤ l → way l n ≡ o.steps
-  way_steps zero n owner o few = omega (arith, few)
-  way_steps (suc l) n owner o few = elim (cases_Bool (bare n)) [
+  way_on : (l : ℕ) → ((n owner : ℕ) (o : IsOwner m n owner) → o.steps ≤ l → way l n ≡ o.steps) → (n owner : ℕ) (o : IsOwner m n owner) → o.steps ≤ suc l → way (suc l) n ≡ o.steps
+  way_on l before n owner o few = elim (cases_Bool (bare n)) [
     | inl absent ↦ by_parent absent (cell_at m n).links.parent refl
     | inr owns ↦ cond-false _ _ _ owns ∙ sym (no_steps n owner o owns)
   ] where
@@ -100,9 +107,13 @@ module _ (m : Cells) where
     by_parent absent None e = absurd (false≢true (ap is_some (sym e) ∙ has_parent n owner o absent))
     by_parent absent (Some p) e =
         let parent : next_up n ≡ Some p.0 = ap (option_map (λ (q : NodeId). q.0)) e in
-        let rest = way_steps l p.0 owner (parent_owner n owner o p.0 absent parent) (omega (arith, few)) in
+        let rest = before p.0 owner (parent_owner n owner o p.0 absent parent) (omega (arith, few)) in
         let one : suc (o.steps - 1) ≡ o.steps = omega (arith, some_steps n owner o absent) in
         cond-true _ _ _ absent ∙ ap (λ (r : Option ℕ). suc (way l (unwrap_or r 0))) parent ∙ ap suc rest ∙ one
+
+  way_steps : (l n owner : ℕ) (o : IsOwner m n owner) → o.steps ≤ l → way l n ≡ o.steps
+  way_steps zero n owner o few = (let none : 0 ≡ o.steps = omega (arith, few) in none)
+  way_steps (suc l) n owner o few = way_on l (way_steps l) n owner o few
 
   abbrev pub way_left : ℕ → ℕ
   way_left n = way (map.len m) n
@@ -111,3 +122,14 @@ module _ (m : Cells) where
   way_falls n p owner further o =
       let there = further owner o in
       omega (arith, way_steps (map.len m) n owner o o.few, way_steps (map.len m) p owner there.0 there.0.few, there.1)
+
+-- What the run of a node says of its way
+
+pub told_cell : (m : Cells) (n : ℕ) (r : Stretch Run) → Tells run run_cell m r → is_in r n ≡ true → cell_at m n ≡ run_cell (run_after r.value (n - r.first))
+told_cell m n r tells has = ap (λ (o : Option Cell). unwrap_or o blank) (tells n has)
+
+pub told_first : (m : Cells) (n : ℕ) (r : Stretch Run) → IsStretchFrom run run_cell m n r → cell_at m n ≡ run_cell r.value
+told_first m n r from =
+    let none : n - r.first ≡ 0 = omega (arith, from.begins) in
+    told_cell m n r from.told_by (within r n (omega (arith, from.begins)) (omega (arith, from.begins, from.fit.some)))
+    ∙ ap (λ (k : ℕ). run_cell (run_after r.value k)) none ∙ ap run_cell (run_goes_on.starts r.value)

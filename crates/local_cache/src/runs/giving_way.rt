@@ -1,12 +1,12 @@
 // A page node that gives way to its only child.
-ghost use Rattle.std.specs.Prelude.{◌≡◌, ◌≢◌, IfSome, ◌&&◌, not};
+ghost use Rattle.std.specs.Prelude.{◌≡◌, IfSome, ◌&&◌, not};
 ghost use Rattle.local_cache.specs.NodeCells.{inheriting};
 ghost use Rattle.local_cache.specs.Own.{is_absent};
 ghost use Rattle.local_cache.specs.PageNodes.{HasNode, cell, given_way, on_cell, passes};
 
 use crate::OwnState;
 use crate::runs::NodeRuns;
-use crate::runs::changes::{Exchange, Hang, Rehang};
+use crate::runs::changes::{Hang, Rehang};
 use vm_ids::NodeId;
 
 impl NodeRuns {
@@ -16,19 +16,12 @@ impl NodeRuns {
         requires held { HasNode self.old node }
         requires child { HasNode self.old child }
         requires parent { IfSome (cell self.old node).links.parent (HasNode self.old) }
-        requires apart { node ≢ child }
         ensures passed { result ≡ passes self.old node child }
         ensures given { self.new ≡ given_way self.old node child }
     {
         let parent = self.table.parent(node.0);
         let own = self.table.own_state(node.0);
-        if let Some(parent) = parent {
-            let change = Exchange {
-                gone: node,
-                instead: Some(child),
-            };
-            self.change_there(parent, change);
-        }
+        self.exchange_child(parent, node, Some(child));
         let passed = self.take_place(child, own, parent);
         self.free_one(node);
         passed

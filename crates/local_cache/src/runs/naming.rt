@@ -156,9 +156,12 @@ impl NodeRuns {
     pub(crate) fn exchange_names(&mut self, node: NodeId, other: NodeId, count: u32)
         requires nodes { AreNamedFrom self.old node count }
         requires others { AreNamedFrom self.old other count }
-        requires apart { AreApart self.old node other count }
+        requires apart { AreApart node other count }
         ensures { self.new ≡ exchanged_many self.old node other count }
     {
+        if count == 0 {
+            return;
+        }
         let name = self.table.name(node.0);
         let other_name = self.table.name(other.0);
         self.table.rename(node.0, count, other_name);
