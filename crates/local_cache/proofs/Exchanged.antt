@@ -8,7 +8,7 @@ use Rattle.std.specs.FinMap.{FinMap}
 use Rattle.std.specs.FinMap as map
 use Rattle.mixed_map.proofs.Maps.{insert_other, insert_same, same}
 use Rattle.vm_ids.specs.declared.node_name.NodeName.{NodeName}
-use Rattle.vm_ids.specs.declared.node_name.NodeName.TheVariants.{Live}
+use Rattle.vm_ids.specs.declared.node_name.NodeName.TheVariants.{Live, Working}
 use Rattle.vm_ids.specs.declared.numbers.CacheId.{CacheId}
 use Rattle.vm_ids.specs.declared.numbers.NodeId.{NodeId}
 use Rattle.vm_ids.specs.declared.numbers.PageNo.{PageNo}
@@ -17,11 +17,11 @@ use Rattle.local_cache.specs.ManyNodes.{each, next_node}
 use Rattle.local_cache.specs.NodeCells.{Cells, HasCell, HaveCells, cell_at, changed, changed_each, named}
 use Rattle.local_cache.specs.NodeKeys.{key_at, page_key, page_number, page_of_name, working_number}
 use Rattle.local_cache.specs.NodeRuns.{AreNumbered}
-use Rattle.local_cache.specs.PageNodes.{AreApart, ArePaged, PageNodes, exchanged_many, exchanged_names, name_behind, renamed_each}
-use Rattle.local_cache.specs.Pages.{Pages, pages_from, with_pages}
+use Rattle.local_cache.specs.PageNodes.{AreApart, AreNamedFrom, ArePaged, HasNode, PageNodes, exchanged_many, exchanged_names, name_behind, renamed_each}
+use Rattle.local_cache.specs.Pages.{HaveNodes as HavePages, Pages, pages_from, with_pages}
 use Rattle.local_cache.specs.declared.runs.counters.Counters.{Counters}
 use Rattle.local_cache.proofs.NodesKept.{numbered_less}
-use Rattle.local_cache.proofs.PagesKept.{same_node}
+use Rattle.local_cache.proofs.PagesKept.{key_there, same_node}
 use Rattle.local_cache.proofs.Stretched.{changed_here, changed_other, each_behind, each_before}
 
 -- What is done at different numbers can be done in either order
@@ -161,10 +161,7 @@ module _ (m : PageNodes) (n o : NodeId) (count : ℕ) (c1 c2 : CacheId) (p1 p2 :
   other_kept k less = cell_kept k (o.0 + k) (λ j under e. apart j k (omega (arith, under, less)) less (sym e)) (λ j under e. omega (arith, under, e))
 
   key_of : (x : Cells) (q : ℕ) (y : NodeName) → HasCell x q → (cell_at x q).name ≡ y → key_at page_key x q ≡ page_of_name y
-  key_of x q y held is = by_there (map.get x q) held ∙ ap page_of_name is where
-    by_there : (s : Option Cell) → IsSome s → option_and_then page_key s ≡ page_of_name (unwrap_or s blank).name
-    by_there None some = absurd (none-some 0 (ap (λ (z : _). Some 0) some))
-    by_there (Some d) some = refl
+  key_of x q y held is = key_there (map.get x q) held ∙ ap page_of_name is
 
   -- no page is both's
   pages_differ : (i j : ℕ) → i < count → j < count → page_number c1.0 p1 + i ≢ page_number c2.0 p2 + j
@@ -241,3 +238,46 @@ numbered_renamed_pages m c first (suc k) cache page numbered held =
       | inl at ↦ absurd (none-some j (sym (ap (option_and_then working_number) (changed_here x (first + k) (named (name_behind (Live cache page) k)) q at)) ∙ h))
       | inr other ↦ sym (ap (option_and_then working_number) (changed_other x (first + k) (named (name_behind (Live cache page) k)) q other)) ∙ h
     ])
+
+-- Nodes that are named from one on
+
+module _ (m : PageNodes) (n : NodeId) (count : ℕ) (a : AreNamedFrom m n count) where
+  abbrev pub from : NodeName
+  from = Live a.cache (record { 0 = a.page })
+
+  pub first_held : 0 < count → HasNode m n
+  first_held some =
+      let at : n.0 + 0 ≡ n.0 = omega arith in
+      ap (λ (q : ℕ). is_some (map.get m.cells q)) (sym at) ∙ a.held 0 some
+
+  pub first_named : 0 < count → (cell_at m.cells n.0).name ≡ from
+  first_named some =
+      let at : n.0 + 0 ≡ n.0 = omega arith in
+      let page : a.page + 0 ≡ a.page = omega arith in
+      ap (λ (q : ℕ). (cell_at m.cells q).name) (sym at) ∙ a.named 0 some ∙ (λ i. Live a.cache (record { 0 = page i }))
+
+  -- their pages have nodes
+  pub from_held : ArePaged m.cells m.pages → HavePages m.pages from count
+  from_held paged k less =
+      let at : page_number a.cache.0 (a.page + k) ≡ page_number a.cache.0 a.page + k = omega arith in
+      let key = key_there (map.get m.cells (n.0 + k)) (a.held k less) ∙ ap page_of_name (a.named k less) ∙ ap Some at in
+      ap is_some ((paged (page_number a.cache.0 a.page + k) (n.0 + k)).1 key)
+
+-- what was there is there still
+pub still_has : (m : Cells) (first : ℕ) (f : ℕ → Cell → Cell) (count q : ℕ) → HasCell m q → HasCell (changed_each m first f count) q
+still_has m first f zero q there = there
+still_has m first f (suc k) q there = elim (cases_eq q (first + k)) [
+  | inl here ↦ ap is_some (changed_here (changed_each m first f k) (first + k) (f k) q here)
+  | inr other ↦ ap is_some (changed_other (changed_each m first f k) (first + k) (f k) q other) ∙ still_has m first f k q there
+]
+
+pub still_paged : (pages : Pages) (page : ℕ) (n : NodeId) (count q : ℕ) → IsSome (map.get pages q) → IsSome (map.get (pages_from pages page n count) q)
+still_paged pages page n zero q there = there
+still_paged pages page n (suc k) q there = elim (cases_eq q (page + k)) [
+  | inl here ↦ ap is_some (insert_same (pages_from pages page n k) (page + k) (next_node n k) q here)
+  | inr other ↦ ap is_some (insert_other (pages_from pages page n k) (page + k) (next_node n k) q other) ∙ still_paged pages page n k q there
+]
+
+pub still_named : (pages : Pages) (x : NodeName) (n : NodeId) (count q : ℕ) → IsSome (map.get pages q) → IsSome (map.get (with_pages pages x n count) q)
+still_named pages (Live cache page) n count q there = still_paged pages (page_number cache.0 page.0) n count q there
+still_named pages (Working k) n count q there = there

@@ -1,19 +1,21 @@
 -- What holds of nodes, pages and counters, where nodes change and keep their names.
 use Rattle.std.proofs.Common.{◌≡◌, ◌≢◌, ℕ, zero, suc, ◌+◌, ◌-◌, ◌*◌, ◌^◌, ◌<◌, ◌≤◌, Option, Some, None, IsSome, refl, sym, ap, subst, ◌∙◌, inl, inr, arith}
-use Rattle.std.specs.Prelude.{◌↔◌, ◌⊎◌, is_some, option_and_then, option_map, unwrap_or}
+use Rattle.std.specs.Prelude.{◌↔◌, ◌⊎◌, IfSome, is_some, option_and_then, option_map, unwrap_or}
 use Rattle.std.proofs.lemmas.Bool.{cases_eq, cases_lt, false≢true}
 use Rattle.std.proofs.lemmas.Option.{none-some, same_Some}
+use Rattle.std.specs.Ordering.{nat_cmp}
+use Rattle.std.specs.FinMap.{get-empty, len-empty}
 use Rattle.std.specs.FinMap as map
 use Rattle.mixed_map.proofs.Maps.{remove_other, remove_same}
 use Rattle.vm_ids.specs.declared.node_name.NodeName.{NodeName}
 use Rattle.vm_ids.specs.declared.node_name.NodeName.TheVariants.{Working as WorkingNode}
 use Rattle.vm_ids.specs.declared.numbers.NodeId.{NodeId}
 use Rattle.local_cache.specs.Arena.{Cell, blank}
-use Rattle.local_cache.specs.NodeCells.{Cells, HasCell, HaveCells, cell_at, changed, changed_each, named}
+use Rattle.local_cache.specs.NodeCells.{Cells, HasCell, HaveCells, cell_at, changed, changed_each, named, with_child}
 use Rattle.local_cache.specs.NodeKeys.{key_at, number_of_name, page_key, page_of_name, working_number}
 use Rattle.local_cache.specs.NodeRuns.{AreNodesRight, AreNumbered, IsGiven}
 use Rattle.local_cache.specs.NodeTable.{AreFreeNumbers, HasFreeNumber, Table}
-use Rattle.local_cache.specs.PageNodes.{ArePaged, KeepsNames}
+use Rattle.local_cache.specs.PageNodes.{ArePaged, HasNode, KeepsNames, PageNodes, cell, cut_from, on_cell}
 use Rattle.local_cache.specs.Pages.{Pages}
 use Rattle.local_cache.specs.declared.runs.counters.Counters.{Counters}
 use Rattle.local_cache.specs.declared.runs.page_table.PageTable.{PageTable}
@@ -107,15 +109,15 @@ len_changed m n f held = len_insert_old m n (f (cell_at m n)) held
 
 -- Many
 
-module _ (m : Cells) (first : ℕ) (f : ℕ → Cell → Cell) (keeps : (k : ℕ) → KeepsNames (f k)) where
+module _ (m : Cells) (first : ℕ) (f : ℕ → Cell → Cell) where
   next_there : (k : ℕ) → HasCell m (first + k) → HasCell (changed_each m first f k) (first + k)
   next_there k held = ap is_some (each_behind m first f k (first + k) (omega arith)) ∙ held
 
-  pub names_each : (count : ℕ) → HaveCells m first count → SameNames m (changed_each m first f count)
-  names_each zero held = λ n. refl
-  names_each (suc k) held = λ n.
+  pub names_each : ((k : ℕ) → KeepsNames (f k)) → (count : ℕ) → HaveCells m first count → SameNames m (changed_each m first f count)
+  names_each keeps zero held = λ n. refl
+  names_each keeps (suc k) held = λ n.
       names_changed (changed_each m first f k) (first + k) (f k) (keeps k) (next_there k (held k (omega arith))) n
-      ∙ names_each k (λ j less. held j (omega (arith, less))) n
+      ∙ names_each keeps k (λ j less. held j (omega (arith, less))) n
 
   pub len_each : (count : ℕ) → HaveCells m first count → map.len (changed_each m first f count) ≡ map.len m
   len_each zero held = refl
@@ -158,6 +160,46 @@ pub many_short : (m : Cells) (c : Counters) → AreNumbered m c → (first count
 many_short m c numbered first zero fits held = omega (arith, fits)
 many_short m c numbered first (suc k) fits held = omega (arith, given_below m c numbered (first + k) (held k (omega arith)))
 
+-- No node
+
+no_key : (key : Cell → Option ℕ) (cells : Cells) (n k : ℕ) → cells ≡ map.empty → key_at key cells n ≡ Some k → ⊥
+no_key key cells n k none e = none-some k (sym (ap (λ (m : Cells). option_and_then key (map.get m n)) none ∙ ap (option_and_then key) (get-empty nat_cmp n)) ∙ e)
+
+pub empty_right : (t : Table) (p : PageTable) (c : Counters) → t.cells ≡ map.empty → t.count ≡ 0 → p.nodes.cells ≡ map.empty → p.nodes.count ≡ 0
+    → c ≡ record { nodes = 0; live = 0; made = 0; fresh = 0; working = 0 } → AreNodesRight t p c 0
+empty_right t p c cells count pages pages_count is =
+    let len : map.len t.cells ≡ 0 = ap map.len cells ∙ len-empty nat_cmp Cell in
+    let page_len : map.len p.nodes.cells ≡ 0 = ap map.len pages ∙ len-empty nat_cmp NodeId in
+    let made : c.made ≡ 0 = ap (λ (d : Counters). d.made) is in
+    let fresh : c.fresh ≡ 0 = ap (λ (d : Counters). d.fresh) is in
+    let working : c.working ≡ 0 = ap (λ (d : Counters). d.working) is in
+    record {
+      paged = λ k n. (
+        (λ h. absurd (none-some _ (sym (ap (λ (m : Pages). map.get m k) pages ∙ get-empty nat_cmp k) ∙ h))),
+        (λ h. absurd (no_key page_key t.cells n k cells h)),
+      );
+      numbered = record {
+        given = λ n h. absurd (false≢true (sym (ap (λ (m : Cells). is_some (map.get m n)) cells ∙ ap is_some (get-empty nat_cmp n)) ∙ h));
+        named = λ n k h. absurd (no_key working_number t.cells n k cells h);
+        apart = λ n o k h i. absurd (no_key working_number t.cells n k cells h);
+        fresh = omega (arith, fresh);
+        working = omega (arith, working);
+        made = omega (arith, made);
+      };
+      counted = record {
+        nodes = ap (λ (d : Counters). d.nodes) is ∙ sym len;
+        live = ap (λ (d : Counters). d.live) is ∙ sym page_len;
+        table = count ∙ sym len;
+        pages = pages_count ∙ sym page_len;
+      };
+      places = record {
+        few = omega arith;
+        nodes = omega (arith, len);
+        table = omega arith;
+        pages = omega arith;
+      };
+    }
+
 -- Counters further on
 
 pub given_on : (c d : Counters) (n : ℕ) → c.fresh ≤ d.fresh → c.working ≤ d.working → IsGiven c n → IsGiven d n
@@ -168,6 +210,17 @@ given_on c d n fresh working given = elim given [
     | inr b ↦ inr (inr (b.0, omega (arith, b.1, working)))
   ]
 ]
+
+-- what is counted besides doesn't matter
+pub numbered_as : (m : Cells) (c d : Counters) → d.fresh ≡ c.fresh → d.working ≡ c.working → d.made ≡ c.made → AreNumbered m c → AreNumbered m d
+numbered_as m c d fresh working made numbered = record {
+  given = λ n h. given_on c d n (omega (arith, fresh)) (omega (arith, working)) (numbered.given n h);
+  named = λ n k h. omega (arith, numbered.named n k h, made);
+  apart = numbered.apart;
+  fresh = omega (arith, fresh, made, numbered.fresh);
+  working = omega (arith, working, made, numbered.working);
+  made = omega (arith, made, numbered.made);
+}
 
 -- where nodes go
 pub numbered_less : (m new : Cells) (c : Counters) → AreNumbered m c → ((n : ℕ) → HasCell new n → HasCell m n) → ((n k : ℕ) → key_at working_number new n ≡ Some k → key_at working_number m n ≡ Some k) → AreNumbered new c
@@ -235,3 +288,35 @@ module _ (m : Cells) (c d : Counters) (first count : ℕ) (numbered : AreNumbere
     working = omega (arith, working, made, numbered.working);
     made = omega (arith, made, few);
   }
+
+-- A parent that loses a child
+
+-- the parent of a node is there
+pub parent_told : (m : PageNodes) (n : NodeId) (p : Option NodeId) → p ≡ (cell m n).links.parent → IfSome (cell m n).links.parent (HasNode m) → IfSome p (HasNode m)
+parent_told m n p is there = (let P : Option NodeId → Type 0 = λ o. IfSome o (HasNode m) in subst P (sym is) there)
+
+pub parent_still : (m new : Cells) → SameNames m new → (p : Option NodeId) → IfSome p (λ q. HasCell m q.0) → IfSome p (λ q. HasCell new q.0)
+parent_still m new same None there = there
+parent_still m new same (Some p) there = there_same m new same p.0 ∙ there
+
+pub cut_there : (m : PageNodes) (n : NodeId) (instead : Option NodeId) (q : NodeId) (p : Option NodeId) → IfSome p (HasNode m)
+    → is_some (map.get (cut_from m p n instead).cells q.0) ≡ is_some (map.get m.cells q.0)
+cut_there m n instead q None there = refl
+cut_there m n instead q (Some p) there =
+    there_same m.cells (changed m.cells p.0 (with_child n instead)) (names_changed m.cells p.0 (with_child n instead) (λ d. refl) there) q.0
+
+pub cut_own : (m : PageNodes) (n : NodeId) (instead : Option NodeId) (q : NodeId) (p : Option NodeId) → (cell (cut_from m p n instead) q).own ≡ (cell m q).own
+cut_own m n instead q None = refl
+cut_own m n instead q (Some p) = elim (cases_eq q.0 p.0) [
+  | inl here ↦
+      ap (λ (o : Option Cell). (unwrap_or o blank).own) (changed_here m.cells p.0 (with_child n instead) q.0 here)
+      ∙ ap (λ (k : ℕ). (cell_at m.cells k).own) (sym here)
+  | inr other ↦ ap (λ (o : Option Cell). (unwrap_or o blank).own) (changed_other m.cells p.0 (with_child n instead) q.0 other)
+]
+
+-- a node is there still where another one is changed
+pub took_there : (m : PageNodes) (n q : NodeId) (f : Cell → Cell) → HasNode m q → HasNode (on_cell m n f) q
+took_there m n q f there = elim (cases_eq q.0 n.0) [
+  | inl here ↦ ap is_some (changed_here m.cells n.0 f q.0 here)
+  | inr other ↦ ap is_some (changed_other m.cells n.0 f q.0 other) ∙ there
+]

@@ -9,10 +9,13 @@ use Rattle.stretches.specs.declared.stretch.Stretch.{Stretch}
 use Rattle.stretches.proofs.Reading.Numbers.{high, low, within}
 use Rattle.mixed_map.specs.Mixed.{with_stretch, without_range}
 use Rattle.mixed_map.proofs.Telling.{gone}
+use Rattle.vm_ids.specs.declared.node_name.NodeName.{NodeName}
+use Rattle.vm_ids.specs.declared.node_name.NodeName.TheVariants.{Live, Working}
 use Rattle.vm_ids.specs.declared.numbers.NodeId.{NodeId}
 use Rattle.local_cache.specs.ManyNodes.{next_node}
-use Rattle.local_cache.specs.Pages.{Pages, pages_from}
-use Rattle.local_cache.proofs.Stretched.{each_told, put_again}
+use Rattle.local_cache.specs.NodeKeys.{page_number}
+use Rattle.local_cache.specs.Pages.{HaveNodes, Pages, pages_from, with_pages}
+use Rattle.local_cache.proofs.Stretched.{each_told, len_come, len_put, put_again}
 
 -- what the pages are told
 abbrev pub node_told : Rising → NodeId
@@ -40,3 +43,13 @@ vacant_pages m page n count vacant q h =
 pub left_pages : (m : Pages) (page : ℕ) (n : NodeId) (count k : ℕ) → k < count → map.get (without_range m page count) (page + k) ≡ None
 left_pages m page n count k less =
     gone m (pages_of page n count) (page + k) ∙ cond-true _ _ _ (within (pages_of page n count) (page + k) (omega arith) (omega (arith, less)))
+
+-- how many have nodes then
+pub len_pages : (m : Pages) (page : ℕ) (n : NodeId) (count : ℕ) → ((k : ℕ) → k < count → map.get m (page + k) ≡ None) → map.len (pages_from m page n count) ≡ map.len m + count
+len_pages m page n count vacant = ap map.len (pages_told m page n count) ∙ len_come rising node_told m (pages_of page n count) count vacant
+
+-- pages that have other nodes are as many
+pub len_with : (m : Pages) (x : NodeName) (n : NodeId) (count : ℕ) → HaveNodes m x count → map.len (with_pages m x n count) ≡ map.len m
+len_with m (Working k) n count held = refl
+len_with m (Live cache page) n count held =
+    ap map.len (pages_told m (page_number cache.0 page.0) n count) ∙ len_put rising node_told m (pages_of (page_number cache.0 page.0) n count) count held

@@ -179,8 +179,8 @@ names_there pages cells first (suc k) q other =
 pub pages_held : (cells : Cells) (pages : Pages) (first done some : ℕ) (x : NodeName) → ArePaged cells pages → HaveCells cells first (done + some)
     → ((k : ℕ) → k < some → (cell_at cells (first + done + k)).name ≡ name_behind x k) → HaveNodes (without_names pages cells first done) x some
 pages_held cells pages first done some (Working number) paged held names = tt
-pages_held cells pages first done some (Live cache page) paged held names k less =
-    let far : first + (done + k) ≡ first + done + k = omega arith in
+pages_held cells pages first done some (Live cache page) paged held names = λ k less.
+    (let far : first + (done + k) ≡ first + done + k = omega arith in
     let P : ℕ → Type 0 = λ q. HasCell cells q in
     let there : HasCell cells (first + done + k) = subst P far (held (done + k) (omega (arith, less))) in
     let at : page_number cache.0 (page.0 + k) ≡ page_number cache.0 page.0 + k = omega arith in
@@ -188,7 +188,7 @@ pages_held cells pages first done some (Live cache page) paged held names k less
     let found = (paged (page_number cache.0 page.0 + k) (first + done + k)).1 key in
     ap is_some (names_there pages cells first done (page_number cache.0 page.0 + k) (λ i under e.
       (let other = (paged (page_number cache.0 page.0 + k) (first + i)).1 (key_there (map.get cells (first + i)) (held i (omega (arith, under))) ∙ e) in
-      omega (arith, under, same_node (first + i) (first + done + k) (sym other ∙ found)))) ∙ found)
+      omega (arith, under, same_node (first + i) (first + done + k) (sym other ∙ found)))) ∙ found))
 
 -- A node that comes for a page that has none
 pub paged_come : (cells new : Cells) (pages : Pages) (n page : ℕ) → ArePaged cells pages → map.get pages page ≡ None
@@ -214,3 +214,11 @@ paged_come cells new pages n page paged free none is others k q = elim (cases_eq
       insert_other pages page (record { 0 = n }) k far ∙ (paged k q).1 (sym (others q other) ∙ h)),
   )
 ]
+
+-- the page of one node has it
+pub page_held : (cells : Cells) (pages : Pages) (n : ℕ) (x : NodeName) → ArePaged cells pages → HasCell cells n → (cell_at cells n).name ≡ x → HaveNodes pages x 1
+page_held cells pages n (Working number) paged held is = tt
+page_held cells pages n (Live cache page) paged held is = λ k less.
+    (let at : page_number cache.0 page.0 ≡ page_number cache.0 page.0 + k = omega (arith, less) in
+    let found = (paged (page_number cache.0 page.0) n).1 (key_there (map.get cells n) held ∙ ap page_of_name is) in
+    ap (λ (q : ℕ). is_some (map.get pages q)) (sym at) ∙ ap is_some found)

@@ -25,7 +25,7 @@ invariant_of-self g c =
     same_right t c.change_each.new.self c.self.inside.pages c.self.inside.counters c.self.inside.capacity c.self.invariant
     (subst P (sym c.change_each.ensures.cells) (names_each t.cells n f c.requires.named c.args.count
     (λ k less. ap (λ (m : PageNodes). is_some (map.get m.cells (n + k))) c.self.view_is ∙ c.requires.held k less)))
-    (ap map.len c.change_each.ensures.cells ∙ len_each t.cells n f c.requires.named c.args.count
+    (ap map.len c.change_each.ensures.cells ∙ len_each t.cells n f c.args.count
     (λ k less. ap (λ (m : PageNodes). is_some (map.get m.cells (n + k))) c.self.view_is ∙ c.requires.held k less))
     c.change_each.ensures.count c.change_each.ensures.room
 
@@ -34,7 +34,7 @@ returns g c =
     let t = c.self.inside.table in
     let n = c.args.node.0 in
     let f : ℕ → _ = λ k. g.C.Change.cell (g.C.ChangeEach.after c.args.change k) in
-    let len = ap map.len c.change_each.ensures.cells ∙ len_each t.cells n f c.requires.named c.args.count
+    let len = ap map.len c.change_each.ensures.cells ∙ len_each t.cells n f c.args.count
       (λ k less. ap (λ (m : PageNodes). is_some (map.get m.cells (n + k))) c.self.view_is ∙ c.requires.held k less) in
     (λ i. record {
       cells = c.change_each.ensures.cells i;

@@ -14,17 +14,17 @@ use Rattle.local_cache.proofs.NodesCome.{next_vacant, numbered_come, paged_worki
 use Rattle.local_cache.proofs.Stretched.{each_told, len_come}
 use Rattle.local_cache.proofs.runs.node_runs.NodeRuns.make_working.Goals as goal
 
-abbrev nodes : goal.After-insert_run → Stretch Run
+abbrev nodes : goal.After-self-3-1 → Stretch Run
 nodes c = record { first = c.next_working-first.result; count = c.args.count; value = record c.args.run { name = Working (c.self.inside.counters.made + 1) } }
 
-abbrev counted : goal.After-insert_run → Counters
+abbrev counted : goal.After-self-3-1 → Counters
 counted c = record c.self.inside.counters {
   nodes = c.self.inside.counters.nodes + c.args.count;
   made = c.self.inside.counters.made + c.args.count;
   working = c.self.inside.counters.working + c.args.count;
 }
 
-more : (c : goal.After-insert_run) → map.len c.insert_run.new.self.cells ≡ map.len c.self.inside.table.cells + c.args.count
+more : (c : goal.After-self-3-1) → map.len c.insert_run.new.self.cells ≡ map.len c.self.inside.table.cells + c.args.count
 more c = ap map.len c.insert_run.ensures.cells ∙ len_come run run_cell c.self.inside.table.cells (nodes c) c.args.count (λ k less.
     next_vacant c.self.inside.table.cells c.self.inside.counters (nodes c) c.self.invariant.numbered c.next_working-first.ensures _
     (within (nodes c) (c.next_working-first.result + k) (omega arith) (omega (arith, less))))
