@@ -38,6 +38,7 @@ parent : (c : goal.After-change_at) → c.parent-parent.result ≡ (cell c.args.
 parent c =
     c.parent-parent.ensures
     ∙ ap (λ (o : Option Cell). (unwrap_or o blank).links.parent) (sym c.at-single.ensures)
+    ∙ ap (λ (t : Table). (cell_at t.cells c.in-Some.place.number).links.parent) c.self-inside.view_is
     ∙ ap (λ (k : ℕ). (cell_at c.self.inside.table.cells k).links.parent) c.in-Some.ensures.place.0
     ∙ ap (λ (m : PageNodes). (cell m c.args.node).links.parent) c.self.view_is
 
@@ -56,6 +57,7 @@ exchange_child-requires-clause-parent c =
     let parent =
       c.parent-parent.ensures
       ∙ ap (λ (o : Option Cell). (unwrap_or o blank).links.parent) (sym c.at-single.ensures)
+      ∙ ap (λ (t : Table). (cell_at t.cells c.in-Some.place.number).links.parent) c.self-inside.view_is
       ∙ ap (λ (k : ℕ). (cell_at c.self.inside.table.cells k).links.parent) at
       ∙ ap (λ (m : PageNodes). (cell m c.args.node).links.parent) c.self.view_is in
     let Q : PageNodes → Type 0 = λ m. IfSome c.parent-parent.result (HasNode m) in
@@ -71,6 +73,7 @@ returns-clause-renewed c =
     let parent =
       c.parent-parent.ensures
       ∙ ap (λ (o : Option Cell). (unwrap_or o blank).links.parent) (sym c.at-single.ensures)
+      ∙ ap (λ (t : Table). (cell_at t.cells c.in-Some.place.number).links.parent) c.self-inside.view_is
       ∙ ap (λ (k : ℕ). (cell_at c.self.inside.table.cells k).links.parent) at
       ∙ ap (λ (m : PageNodes). (cell m c.args.node).links.parent) c.self.view_is in
     c.exchange_child.ensures
