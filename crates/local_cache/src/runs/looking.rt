@@ -223,8 +223,9 @@ impl NodeTable {
     {
         let mut node = first;
         loop {
-            match self.nodes.lone(node) {
-                Some(single) => {
+            match self.nodes.place(node) {
+                Some(place) => {
+                    let single = self.nodes.at(place);
                     if !single.own().is_absent() {
                         return NodeId(node);
                     }

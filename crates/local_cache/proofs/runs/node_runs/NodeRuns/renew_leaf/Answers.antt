@@ -5,6 +5,7 @@ use Rattle.vm_ids.specs.declared.numbers.NodeId.{NodeId}
 use Rattle.local_cache.specs.Arena.{Cell, blank}
 use Rattle.local_cache.specs.NodeCells.{Cells, HasCell, cell_at, changed, renewed}
 use Rattle.local_cache.specs.NodeTable.{Table}
+use Rattle.local_cache.specs.declared.runs.node_runs.NodeRuns.TheInside.{Inside}
 use Rattle.local_cache.specs.PageNodes.{HasNode, PageNodes, cell, cut_from}
 use Rattle.local_cache.proofs.NodesKept.{SameNames, keeps_free, len_changed, names_changed, parent_still, parent_told, same_right}
 use Rattle.local_cache.proofs.runs.node_runs.NodeRuns.renew_leaf.Goals as goal
@@ -38,7 +39,7 @@ parent : (c : goal.After-change_at) → c.parent-parent.result ≡ (cell c.args.
 parent c =
     c.parent-parent.ensures
     ∙ ap (λ (o : Option Cell). (unwrap_or o blank).links.parent) (sym c.at-single.ensures)
-    ∙ ap (λ (t : Table). (cell_at t.cells c.in-Some.place.number).links.parent) c.self-inside.view_is
+    ∙ ap (λ (r : Inside). (cell_at r.table.cells c.in-Some.place.number).links.parent) c.self-inside.view_is
     ∙ ap (λ (k : ℕ). (cell_at c.self.inside.table.cells k).links.parent) c.in-Some.ensures.place.0
     ∙ ap (λ (m : PageNodes). (cell m c.args.node).links.parent) c.self.view_is
 
@@ -57,7 +58,7 @@ exchange_child-requires-clause-parent c =
     let parent =
       c.parent-parent.ensures
       ∙ ap (λ (o : Option Cell). (unwrap_or o blank).links.parent) (sym c.at-single.ensures)
-      ∙ ap (λ (t : Table). (cell_at t.cells c.in-Some.place.number).links.parent) c.self-inside.view_is
+      ∙ ap (λ (r : Inside). (cell_at r.table.cells c.in-Some.place.number).links.parent) c.self-inside.view_is
       ∙ ap (λ (k : ℕ). (cell_at c.self.inside.table.cells k).links.parent) at
       ∙ ap (λ (m : PageNodes). (cell m c.args.node).links.parent) c.self.view_is in
     let Q : PageNodes → Type 0 = λ m. IfSome c.parent-parent.result (HasNode m) in
@@ -73,7 +74,7 @@ returns-clause-renewed c =
     let parent =
       c.parent-parent.ensures
       ∙ ap (λ (o : Option Cell). (unwrap_or o blank).links.parent) (sym c.at-single.ensures)
-      ∙ ap (λ (t : Table). (cell_at t.cells c.in-Some.place.number).links.parent) c.self-inside.view_is
+      ∙ ap (λ (r : Inside). (cell_at r.table.cells c.in-Some.place.number).links.parent) c.self-inside.view_is
       ∙ ap (λ (k : ℕ). (cell_at c.self.inside.table.cells k).links.parent) at
       ∙ ap (λ (m : PageNodes). (cell m c.args.node).links.parent) c.self.view_is in
     c.exchange_child.ensures
