@@ -54,9 +54,9 @@ pub alike_one : (m : Cells) (n : ℕ) (r : Run) → map.get m n ≡ Some (run_ce
 alike_one m n r is = record {
   run = r;
   said = λ k h.
-    (let zero_on : k ≡ 0 = omega (arith, h) in
-    let here : n + k ≡ n = omega (arith, h) in
-    ap (map.get m) here ∙ is ∙ ap (λ (x : Run). Some (run_cell x)) (sym (run_goes_on.starts r)) ∙ ap (λ (j : ℕ). Some (run_cell (run_after r j))) (sym zero_on));
+      (let zero_on : k ≡ 0 = omega (arith, h) in
+      let here : n + k ≡ n = omega (arith, h) in
+      ap (map.get m) here ∙ is ∙ ap (λ (x : Run). Some (run_cell x)) (sym (run_goes_on.starts r)) ∙ ap (λ (j : ℕ). Some (run_cell (run_after r j))) (sym zero_on));
   parent = λ k some h. absurd (omega (arith, some, h));
   older = λ k some h. absurd (omega (arith, some, h));
   newer = λ k some h. absurd (omega (arith, some, h));
@@ -102,9 +102,9 @@ node_here (Some n) = (let e : n.0 + 0 ≡ n.0 = omega arith in λ i. Some (recor
 
 -- one that stands alone
 pub member_one : (m : Cells) (n : ℕ) (c : Cell) (first : Member) → map.get m n ≡ Some c → first.count ≡ 1 → first.name ≡ c.name → first.child ≡ slice_get c.tree 0 → first.has_two ≡ is_some (slice_get c.tree 1) → AreAllMembers m n first
-member_one m n c first is one name child two =
-    (omega (arith, one),
-    λ k less.
+member_one m n c first is one name child two = (
+  omega (arith, one),
+  λ k less.
       let here : n + k ≡ n = omega (arith, less, one) in
       let zero_on : k ≡ 0 = omega (arith, less, one) in
       let at : map.get m (n + k) ≡ Some c = ap (map.get m) here ∙ is in
@@ -114,7 +114,8 @@ member_one m n c first is one name child two =
         name = ap (λ (d : Cell). d.name) cell ∙ sym name ∙ sym (name_here first.name) ∙ ap (name_behind first.name) (sym zero_on);
         child = ap (λ (d : Cell). slice_get d.tree 0) cell ∙ sym child ∙ sym (node_here first.child) ∙ ap (next_if first.child) (sym zero_on);
         two = ap (λ (d : Cell). is_some (slice_get d.tree 1)) cell ∙ sym two;
-      })
+      },
+)
 
 further_each : (o : Option NodeId) (k : ℕ) → option_map (λ n. further n k) o ≡ further_if o k
 further_each None k = refl
@@ -127,9 +128,9 @@ some_mapped v (Some x) = refl
 -- those of a run
 pub member_run : (m : Cells) (n : ℕ) (r : Stretch Run) (first : Member) → r.first ≡ n → Tells run run_cell m r → 0 < first.count → first.count ≤ r.count → IfSome first.child (λ p. p.0 + first.count ≤ 2 ^ 64)
     → first.name ≡ (run_cell r.value).name → first.child ≡ slice_get (run_cell r.value).tree 0 → first.has_two ≡ is_some (slice_get (run_cell r.value).tree 1) → AreAllMembers m n first
-member_run m n r first begins tells some few short name child two =
-    (some,
-    λ k less.
+member_run m n r first begins tells some few short name child two = (
+  some,
+  λ k less.
       let at = told_at m n k r begins tells (omega (arith, less, few)) ∙ ap Some (run_cell_after r.value k) in
       let cell = ap (λ (o : Option Cell). unwrap_or o blank) at in
       let tree = (run_cell r.value).tree in
@@ -141,7 +142,8 @@ member_run m n r first begins tells some few short name child two =
             ∙ further_next_if first.child k (number_below first.child k first.count less short);
         two = ap (λ (d : Cell). is_some (slice_get d.tree 1)) cell ∙ ap is_some (slice_get-map (λ (p : NodeId). further p k) tree 1)
             ∙ some_mapped (λ (p : NodeId). further p k) (slice_get tree 1) ∙ sym two;
-      })
+      },
+)
 
 -- there are fewer names
 pub names_less : (x : RunName) (a b : ℕ) → a ≤ b → HasNames x b → HasNames x a

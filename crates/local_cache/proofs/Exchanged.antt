@@ -175,14 +175,14 @@ module _ (m : PageNodes) (n o : NodeId) (count : ℕ) (c1 c2 : CacheId) (p1 p2 :
   cells_next k less =
       ap (λ (x : Cells). changed x (o.0 + k) (named (name_behind first_name k)))
       (sym (changed_past (renamed_each m.cells n.0 other_name k) (n.0 + k) (named (name_behind other_name k)) o.0 (λ j. named (name_behind first_name j)) k
-        (λ j under. apart k j less (omega (arith, under, less)))))
+      (λ j under. apart k j less (omega (arith, under, less)))))
 
   pages_next : (k : ℕ) → k < count
       → map.insert (map.insert (pages_after k) (page_number c1.0 p1 + k) (next_node o k)) (page_number c2.0 p2 + k) (next_node n k) ≡ pages_after (suc k)
   pages_next k less =
       ap (λ (p : Pages). map.insert p (page_number c2.0 p2 + k) (next_node n k))
       (sym (insert_past (with_pages m.pages first_name o k) (page_number c1.0 p1 + k) (next_node o k) (page_number c2.0 p2) (next_node n) k
-        (λ j under. pages_differ k j less (omega (arith, under, less)))))
+      (λ j under. pages_differ k j less (omega (arith, under, less)))))
 
   pub exchanged_is : (k : ℕ) → k ≤ count → exchanged_many m n o k ≡ record m { cells = cells_after k; pages = pages_after k }
   exchanged_is zero few = refl
@@ -217,7 +217,7 @@ module _ (m : PageNodes) (n o : NodeId) (count : ℕ) (c1 c2 : CacheId) (p1 p2 :
       let a : page_number c1.0 (p1 + k) ≡ page_number c1.0 p1 + k = omega arith in
       let b : page_number c2.0 (p2 + k) ≡ page_number c2.0 p2 + k = omega arith in
       let step = paged_both (cells_after k) (pages_after k) (n.0 + k) (o.0 + k) (page_number c1.0 p1 + k) (page_number c2.0 p2 + k) (name_behind first_name k) (name_behind other_name k)
-        (paged_exchanged k (omega (arith, few))) (apart k k less less) (mine ∙ ap Some a) (theirs ∙ ap Some b) (ap Some a) (ap Some b) in
+      (paged_exchanged k (omega (arith, few))) (apart k k less less) (mine ∙ ap Some a) (theirs ∙ ap Some b) (ap Some a) (ap Some b) in
       let P : Cells → Type 0 = λ x. ArePaged x (pages_after (suc k)) in
       let Q : Pages → Type 0 = λ p. ArePaged (changed (changed (cells_after k) (n.0 + k) (named (name_behind other_name k))) (o.0 + k) (named (name_behind first_name k))) p in
       subst P (cells_next k less) (subst Q (pages_next k less) step)

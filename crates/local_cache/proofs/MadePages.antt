@@ -92,8 +92,8 @@ module _ (cache : CacheId) (s : OwnState) (r : Run) (is : run_cell r ≡ new_cel
           let at : base + (q - base) ≡ q = omega (arith, low (nodes count) q inside) in
           let here = get_entered q ∙ cond-true _ _ _ inside ∙ (λ i. Some (record { 0 = at i })) in (
             λ h.
-              let same : q ≡ n = same_node q n (sym here ∙ h) in
-              ap (key_at page_key come) (sym same) ∙ page_of_node q inside,
+                let same : q ≡ n = same_node q n (sym here ∙ h) in
+                ap (key_at page_key come) (sym same) ∙ page_of_node q inside,
             λ h. elim (cases_Bool (is_in (nodes count) n)) [
               | inl there ↦ here ∙ (let same : q ≡ n = sym (same_Some _ _ (sym (page_of_node n there) ∙ h)) in λ i. Some (record { 0 = same i }))
               | inr out ↦ absurd (none-some _ (sym (free q inside) ∙ (paged q n).1 (sym (other_node n out) ∙ h)))
@@ -102,11 +102,11 @@ module _ (cache : CacheId) (s : OwnState) (r : Run) (is : run_cell r ≡ new_cel
       | inr outside ↦
           let here = get_entered q ∙ cond-false _ _ _ outside in (
             λ h.
-              let was = (paged q n).0 (sym here ∙ h) in
-              elim (cases_Bool (is_in (nodes count) n)) [
-                | inl there ↦ absurd (none-some q (sym (ap (option_and_then page_key) (vacant n there)) ∙ was))
-                | inr out ↦ other_node n out ∙ was
-              ],
+                let was = (paged q n).0 (sym here ∙ h) in
+                elim (cases_Bool (is_in (nodes count) n)) [
+                  | inl there ↦ absurd (none-some q (sym (ap (option_and_then page_key) (vacant n there)) ∙ was))
+                  | inr out ↦ other_node n out ∙ was
+                ],
             λ h. elim (cases_Bool (is_in (nodes count) n)) [
               | inl there ↦
                   let same : n ≡ q = same_Some _ _ (sym (page_of_node n there) ∙ h) in

@@ -2,4 +2,5 @@
 
 -- A stretch of numbers cleared.
 pub mod Cleared
+
 -- Nodes of pages that go, so that other nodes can come for these pages.

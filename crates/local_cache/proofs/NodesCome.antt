@@ -45,26 +45,26 @@ next_free m c r numbered is k less =
 pub next_vacant : (m : Cells) (c : Counters) (r : Stretch Run) → AreNumbered m c → r.first ≡ 2 ^ 63 + c.working → (n : ℕ) → is_in r n ≡ true → map.get m n ≡ None
 next_vacant m c r numbered first n inside =
     not_some (map.get m n) (λ held.
-      (let from = low r n inside in
-      elim (numbered.given n held) [
-        | inl early ↦ absurd (omega (arith, from, first, early))
-        | inr later ↦ elim later [
-          | inl fresh ↦ absurd (omega (arith, from, first, fresh.1, numbered.fresh, numbered.made))
-          | inr working ↦ absurd (omega (arith, from, first, working.1))
-        ]
-      ]))
+    (let from = low r n inside in
+    elim (numbered.given n held) [
+      | inl early ↦ absurd (omega (arith, from, first, early))
+      | inr later ↦ elim later [
+        | inl fresh ↦ absurd (omega (arith, from, first, fresh.1, numbered.fresh, numbered.made))
+        | inr working ↦ absurd (omega (arith, from, first, working.1))
+      ]
+    ]))
 
 -- nor that of the next node that a page gets
 pub fresh_vacant : (m : Cells) (c : Counters) (n : ℕ) → AreNumbered m c → c.fresh < 3 * 2 ^ 61 → n ≡ 2 ^ 61 + c.fresh → map.get m n ≡ None
 fresh_vacant m c n numbered few is =
     not_some (map.get m n) (λ held.
-      elim (numbered.given n held) [
-        | inl early ↦ absurd (omega (arith, is, early))
-        | inr later ↦ elim later [
-          | inl fresh ↦ absurd (omega (arith, is, fresh.1))
-          | inr working ↦ absurd (omega (arith, is, few, working.0))
-        ]
-      ])
+    elim (numbered.given n held) [
+      | inl early ↦ absurd (omega (arith, is, early))
+      | inr later ↦ elim later [
+        | inl fresh ↦ absurd (omega (arith, is, fresh.1))
+        | inr working ↦ absurd (omega (arith, is, few, working.0))
+      ]
+    ])
 
 left_key : (m : Cells) (n q j : ℕ) → key_at working_number (map.remove m n) q ≡ Some j → key_at working_number m q ≡ Some j
 left_key m n q j e = elim (cases_eq q n) [
@@ -167,7 +167,7 @@ pub working_free : (m : Cells) (c : Counters) (first count : ℕ) → AreNumbere
 working_free m c first count numbered held few k less q e =
     let d : Counters = record c { made = c.made + k } in
     elim (next_or_old m c d first k numbered refl refl refl (omega (arith, few, less)) (λ i under. held i (omega (arith, under, less))) q (c.made + 1 + k)
-      (left_key (changed_each m first (λ i. named (WorkingNode (c.made + 1 + i))) k) (first + k) q (c.made + 1 + k) e)) [
+    (left_key (changed_each m first (λ i. named (WorkingNode (c.made + 1 + i))) k) (first + k) q (c.made + 1 + k) e)) [
       | inl next ↦ omega (arith, next.1, next.3)
       | inr old ↦ omega (arith, numbered.named q (c.made + 1 + k) old)
     ]
@@ -201,7 +201,7 @@ numbered_working m c d n numbered fresh working made few held =
     let same : changed m (n + 0) (named (WorkingNode (c.made + 1 + 0))) ≡ changed m n (named (WorkingNode (c.made + 1))) = λ i. changed m (at i) (named (WorkingNode (number i))) in
     subst P same
     (numbered_renamed m c d n 1 numbered fresh working made few (λ k less.
-      (let here : n ≡ n + k = omega (arith, less) in ap (λ (q : ℕ). is_some (map.get m q)) (sym here) ∙ held)))
+    (let here : n ≡ n + k = omega (arith, less) in ap (λ (q : ℕ). is_some (map.get m q)) (sym here) ∙ held)))
 
 -- the page of a name is left and got again
 page_again : (pages : Pages) (x : NodeName) (page : ℕ) → page_of_name x ≡ Some page → (n : NodeId) → map.insert (pages_with pages x None) page n ≡ with_pages pages x n 1
@@ -234,9 +234,9 @@ module _ (m : Cells) (pages : Pages) (n fresh page : ℕ) (s : OwnState) (paged 
         let P : Pages → Type 0 = λ p. ArePaged (map.insert working fresh (new_cell x s)) p in
         subst P (page_again pages x page is (record { 0 = fresh }))
         (paged_come working (map.insert working fresh (new_cell x s)) (pages_with pages x None) fresh page (paged_working m pages n number paged held) (page_gone pages x page is)
-          (λ k e. none-some k (sym (ap (option_and_then page_key) still_vacant) ∙ e))
-          (ap (option_and_then page_key) (insert_same working fresh (new_cell x s) fresh refl) ∙ is)
-          (λ q other. ap (option_and_then page_key) (insert_other working fresh (new_cell x s) q other)))
+        (λ k e. none-some k (sym (ap (option_and_then page_key) still_vacant) ∙ e))
+        (ap (option_and_then page_key) (insert_same working fresh (new_cell x s) fresh refl) ∙ is)
+        (λ q other. ap (option_and_then page_key) (insert_other working fresh (new_cell x s) q other)))
 
   pub pages_replaced : with_pages (pages_with pages x None) x (record { 0 = fresh }) 1 ≡ with_pages pages x (record { 0 = fresh }) 1
   pages_replaced = again x where

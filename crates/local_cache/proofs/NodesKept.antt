@@ -88,9 +88,9 @@ pub few_pages : (cells : Cells) (pages : Pages) → ArePaged cells pages → map
 few_pages cells pages paged = len_into (λ (k : ℕ) (v : NodeId). v.0) pages cells
     (λ k v h. has_key page_key cells v.0 k ((paged k v.0).0 h))
     (λ j k v w h i same.
-      (let mine = (paged j v.0).0 h in
-      let theirs = (paged k w.0).0 i in
-      same_Some j k (sym mine ∙ ap (key_at page_key cells) same ∙ theirs)))
+    (let mine = (paged j v.0).0 h in
+    let theirs = (paged k w.0).0 i in
+    same_Some j k (sym mine ∙ ap (key_at page_key cells) same ∙ theirs)))
 
 -- One cell that changes
 
@@ -250,7 +250,7 @@ module _ (m : Cells) (c d : Counters) (first count : ℕ) (numbered : AreNumbere
           let at : n ≡ first + (n - first) = omega (arith, from) in
           let less : n - first < count = omega (arith, from, to) in
           let number : c.made + 1 + (n - first) ≡ j = same_Some _ _
-            (sym (ap (key_at working_number renamed) at ∙ ap (option_and_then working_number) (each_at m first (λ k. named (WorkingNode (c.made + 1 + k))) count (n - first) less)) ∙ e) in
+          (sym (ap (key_at working_number renamed) at ∙ ap (option_and_then working_number) (each_at m first (λ k. named (WorkingNode (c.made + 1 + k))) count (n - first) less)) ∙ e) in
           inl (n - first, less, at, sym number)
       | inr past ↦ inr (sym (ap (option_and_then working_number) (each_behind m first (λ k. named (WorkingNode (c.made + 1 + k))) count n past)) ∙ e)
     ]

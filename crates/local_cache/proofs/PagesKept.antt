@@ -65,11 +65,11 @@ paged_left cells new pages n paged held others none k q =
             ap (option_and_then page_key) (others q far) ∙ was
       ],
       λ h.
-        let far : q ≢ n = λ e. none k (ap (key_at page_key new) (sym e) ∙ h) in
-        let was : key_at page_key cells q ≡ Some k = sym (ap (option_and_then page_key) (others q far)) ∙ h in
-        let found = (paged k q).1 was in
-        let other : page_of_name x ≡ Some k → ⊥ = λ e. far (same_node q n (sym found ∙ (paged k n).1 (mine ∙ e))) in
-        page_stays pages x k other ∙ found,
+          let far : q ≢ n = λ e. none k (ap (key_at page_key new) (sym e) ∙ h) in
+          let was : key_at page_key cells q ≡ Some k = sym (ap (option_and_then page_key) (others q far)) ∙ h in
+          let found = (paged k q).1 was in
+          let other : page_of_name x ≡ Some k → ⊥ = λ e. far (same_node q n (sym found ∙ (paged k n).1 (mine ∙ e))) in
+          page_stays pages x k other ∙ found,
     )
 
 pub paged_without : (cells : Cells) (pages : Pages) (n : ℕ) → ArePaged cells pages → HasCell cells n → ArePaged (map.remove cells n) (pages_with pages (cell_at cells n).name None)
@@ -162,10 +162,10 @@ pub names_on : (pages : Pages) (cells : Cells) (first done count : ℕ) (x : Nod
 names_on pages cells first done count x named_by =
     sym (each_page (without_names pages cells first done) x count)
     ∙ each_below (λ k p. pages_with p (name_behind x k) None) (λ k p. pages_with p (cell_at cells (first + (done + k))).name None) count
-      (λ k p less.
-        let far : first + done + k ≡ first + (done + k) = omega arith in
-        ap (λ (y : NodeName). pages_with p y None) (sym (named_by k less) ∙ ap (λ (n : ℕ). (cell_at cells n).name) far))
-      (without_names pages cells first done)
+    (λ k p less.
+    let far : first + done + k ≡ first + (done + k) = omega arith in
+    ap (λ (y : NodeName). pages_with p y None) (sym (named_by k less) ∙ ap (λ (n : ℕ). (cell_at cells n).name) far))
+    (without_names pages cells first done)
     ∙ sym (each_more (λ k p. pages_with p (cell_at cells (first + k)).name None) done count pages)
 
 -- a page of a node behind those that were left is there still
@@ -187,8 +187,8 @@ pages_held cells pages first done some (Live cache page) paged held names = λ k
     let key : key_at page_key cells (first + done + k) ≡ Some (page_number cache.0 page.0 + k) = key_there (map.get cells (first + done + k)) there ∙ ap page_of_name (names k less) ∙ ap Some at in
     let found = (paged (page_number cache.0 page.0 + k) (first + done + k)).1 key in
     ap is_some (names_there pages cells first done (page_number cache.0 page.0 + k) (λ i under e.
-      (let other = (paged (page_number cache.0 page.0 + k) (first + i)).1 (key_there (map.get cells (first + i)) (held i (omega (arith, under))) ∙ e) in
-      omega (arith, under, same_node (first + i) (first + done + k) (sym other ∙ found)))) ∙ found))
+    (let other = (paged (page_number cache.0 page.0 + k) (first + i)).1 (key_there (map.get cells (first + i)) (held i (omega (arith, under))) ∙ e) in
+    omega (arith, under, same_node (first + i) (first + done + k) (sym other ∙ found)))) ∙ found))
 
 -- A node that comes for a page that has none
 pub paged_come : (cells new : Cells) (pages : Pages) (n page : ℕ) → ArePaged cells pages → map.get pages page ≡ None
@@ -197,8 +197,8 @@ pub paged_come : (cells new : Cells) (pages : Pages) (n page : ℕ) → ArePaged
 paged_come cells new pages n page paged free none is others k q = elim (cases_eq k page) [
   | inl here ↦ (
     (λ h.
-      let same : n ≡ q = same_node n q (sym (insert_same pages page (record { 0 = n }) k here) ∙ h) in
-      ap (key_at page_key new) (sym same) ∙ is ∙ ap Some (sym here)),
+        let same : n ≡ q = same_node n q (sym (insert_same pages page (record { 0 = n }) k here) ∙ h) in
+        ap (key_at page_key new) (sym same) ∙ is ∙ ap Some (sym here)),
     (λ h. elim (cases_eq q n) [
       | inl same ↦ insert_same pages page (record { 0 = n }) k here ∙ (λ i. Some (record { 0 = sym same i }))
       | inr other ↦ absurd (none-some _ (sym free ∙ ap (map.get pages) (sym here) ∙ (paged k q).1 (sym (others q other) ∙ h)))
@@ -206,12 +206,12 @@ paged_come cells new pages n page paged free none is others k q = elim (cases_eq
   )
   | inr far ↦ (
     (λ h.
-      let was = (paged k q).0 (sym (insert_other pages page (record { 0 = n }) k far) ∙ h) in
-      let other : q ≢ n = λ e. none k (ap (key_at page_key cells) (sym e) ∙ was) in
-      others q other ∙ was),
+        let was = (paged k q).0 (sym (insert_other pages page (record { 0 = n }) k far) ∙ h) in
+        let other : q ≢ n = λ e. none k (ap (key_at page_key cells) (sym e) ∙ was) in
+        others q other ∙ was),
     (λ h.
-      let other : q ≢ n = λ e. far (sym (same_Some _ _ (sym is ∙ ap (key_at page_key new) (sym e) ∙ h))) in
-      insert_other pages page (record { 0 = n }) k far ∙ (paged k q).1 (sym (others q other) ∙ h)),
+        let other : q ≢ n = λ e. far (sym (same_Some _ _ (sym is ∙ ap (key_at page_key new) (sym e) ∙ h))) in
+        insert_other pages page (record { 0 = n }) k far ∙ (paged k q).1 (sym (others q other) ∙ h)),
   )
 ]
 

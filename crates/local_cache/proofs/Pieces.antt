@@ -44,10 +44,10 @@ module _ (m : Cells) (node : ℕ) (f : ℕ → Cell → Cell) (r : Stretch Run) 
   pub piece_cells : with_stretch run run_cell m (record r { value = v }) ≡ changed_each m node f r.count
   piece_cells = each_is m node f r.count (with_stretch run run_cell m (record r { value = v }))
       (λ k less.
-        let far : node + k - r.first ≡ k = omega (arith, begins) in
-        get_with run run_cell m (record r { value = v }) (node + k)
-        ∙ cond-true _ _ _ (within r (node + k) (omega (arith, begins)) (omega (arith, begins, less)))
-        ∙ ap (λ (j : ℕ). Some (run_cell (run_after v j))) far ∙ ap Some (sym (becomes k less)))
+      let far : node + k - r.first ≡ k = omega (arith, begins) in
+      get_with run run_cell m (record r { value = v }) (node + k)
+      ∙ cond-true _ _ _ (within r (node + k) (omega (arith, begins)) (omega (arith, begins, less)))
+      ∙ ap (λ (j : ℕ). Some (run_cell (run_after v j))) far ∙ ap Some (sym (becomes k less)))
       (λ n low. get_with run run_cell m (record r { value = v }) n ∙ cond-false _ _ _ (out_before r n (omega (arith, begins, low))))
       (λ n past. get_with run run_cell m (record r { value = v }) n ∙ cond-false _ _ _ (out_behind r n (omega (arith, begins, past))))
 
@@ -71,9 +71,9 @@ rest_free m now first count a f g is same most free k less =
     let cells = each_like now (first + a) k g (λ i. f (a + i)) same ∙ ap (λ (x : Cells). changed_each x (first + a) (λ i. f (a + i)) k) is ∙ each_on m first a k f in
     let far : first + a + k ≡ first + (a + k) = omega arith in
     let here : g k (cell_at now (first + a + k)) ≡ f (a + k) (cell_at m (first + (a + k))) =
-      same k (cell_at now (first + a + k)) ∙ ap (λ (x : Cells). f (a + k) (cell_at x (first + a + k))) is
-      ∙ ap (λ (n : ℕ). f (a + k) (cell_at (changed_each m first f a) n)) far
-      ∙ ap (λ (o : Option Cell). f (a + k) (unwrap_or o blank)) (each_behind m first f a (first + (a + k)) (omega arith)) in
+    same k (cell_at now (first + a + k)) ∙ ap (λ (x : Cells). f (a + k) (cell_at x (first + a + k))) is
+    ∙ ap (λ (n : ℕ). f (a + k) (cell_at (changed_each m first f a) n)) far
+    ∙ ap (λ (o : Option Cell). f (a + k) (unwrap_or o blank)) (each_behind m first f a (first + (a + k)) (omega arith)) in
     let P : Cells → Type 0 = λ x. HasFreeNumber (map.remove x (first + (a + k))) (f (a + k) (cell_at m (first + (a + k)))) in
     let Q : ℕ → Type 0 = λ n. HasFreeNumber (map.remove (changed_each now (first + a) g k) n) (f (a + k) (cell_at m (first + (a + k)))) in
     let R : Cell → Type 0 = λ d. HasFreeNumber (map.remove (changed_each now (first + a) g k) (first + a + k)) d in

@@ -59,13 +59,14 @@ nothing_said rs none = same_maps _ _ (λ n. get_cells rising rs n ∙ none n ∙
 -- the first of them
 pub first_said : (rs : List (Stretch Rising)) (r : Stretch Rising) → IsNextFrom rising rs 0 r → IsFirstOf (cells rising rs) r
 first_said rs r next =
-    let zero_on : r.first - r.first ≡ 0 = omega arith in
-    (get_cells rising rs r.first ∙ next.said r.first (within r r.first (omega arith) (omega (arith, next.fit.some)))
-    ∙ (λ i. Some (record { 0 = here r.value.0 (r.first - r.first) zero_on i })),
-    λ j v h. elim (cases_lt j r.first) [
-      | inl less ↦ absurd (none-some v (sym (get_cells rising rs j ∙ next.none j (omega arith) less) ∙ h))
-      | inr from ↦ from
-    ]) where
+    let zero_on : r.first - r.first ≡ 0 = omega arith in (
+      get_cells rising rs r.first ∙ next.said r.first (within r r.first (omega arith) (omega (arith, next.fit.some)))
+          ∙ (λ i. Some (record { 0 = here r.value.0 (r.first - r.first) zero_on i })),
+      λ j v h. elim (cases_lt j r.first) [
+        | inl less ↦ absurd (none-some v (sym (get_cells rising rs j ∙ next.none j (omega arith) less) ∙ h))
+        | inr from ↦ from
+      ],
+    ) where
       here : (a b : ℕ) → b ≡ 0 → a + b ≡ a
       here a b e = omega (arith, e)
 

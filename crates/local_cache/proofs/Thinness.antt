@@ -73,8 +73,8 @@ module _ (cells new : Cells) (slots places : FinMap nat_cmp ℕ) (thin : Thin) (
   one_alone q k = elim (cases_eq q slot) [
     | inl at ↦ (
       (λ h.
-        let has : now ≡ Some k = sym (changed_here thin.alone slot now q at) ∙ h in
-        (n, alone k has ∙ ap Some (sym at), after ∙ has)),
+          let has : now ≡ Some k = sym (changed_here thin.alone slot now q at) ∙ h in
+          (n, alone k has ∙ ap Some (sym at), after ∙ has)),
       (λ w. elim (cases_eq w.0 n) [
         | inl same ↦ changed_here thin.alone slot now q at ∙ sym after ∙ ap (key_at thin_number new) (sym same) ∙ w.2
         | inr other ↦ absurd (other (free w.0 (sym (stay w.0 other) ∙ w.1 ∙ ap Some at)))
@@ -82,13 +82,13 @@ module _ (cells new : Cells) (slots places : FinMap nat_cmp ℕ) (thin : Thin) (
     )
     | inr far ↦ (
       (λ h.
-        let w = (kept.alone q k).0 (sym (changed_other thin.alone slot now q far) ∙ h) in
-        let other : w.0 ≢ n = λ e. far (was q (ap (map.get slots) (sym e) ∙ w.1)) in
-        (w.0, stay w.0 other ∙ w.1, thin_same cells new w.0 (others w.0 other) ∙ w.2)),
+          let w = (kept.alone q k).0 (sym (changed_other thin.alone slot now q far) ∙ h) in
+          let other : w.0 ≢ n = λ e. far (was q (ap (map.get slots) (sym e) ∙ w.1)) in
+          (w.0, stay w.0 other ∙ w.1, thin_same cells new w.0 (others w.0 other) ∙ w.2)),
       (λ w.
-        let other : w.0 ≢ n = λ e. far (is q (ap (map.get places) (sym e) ∙ w.1)) in
-        changed_other thin.alone slot now q far
-        ∙ (kept.alone q k).1 (w.0, sym (stay w.0 other) ∙ w.1, sym (thin_same cells new w.0 (others w.0 other)) ∙ w.2)),
+          let other : w.0 ≢ n = λ e. far (is q (ap (map.get places) (sym e) ∙ w.1)) in
+          changed_other thin.alone slot now q far
+          ∙ (kept.alone q k).1 (w.0, sym (stay w.0 other) ∙ w.1, sym (thin_same cells new w.0 (others w.0 other)) ∙ w.2)),
     )
   ]
 
@@ -96,14 +96,14 @@ module _ (cells new : Cells) (slots places : FinMap nat_cmp ℕ) (thin : Thin) (
       ↔ ((map.get places m ≡ None) × IsThin new m k)
   one_among k m = (
     (λ h.
-      let w = (kept.among k m).0 h in
-      let other : m ≢ n = λ e. before k (ap (map.get slots) (sym e) ∙ w.0) (ap (key_at thin_number cells) (sym e) ∙ w.1) in
-      (stay m other ∙ w.0, thin_same cells new m (others m other) ∙ w.1)),
+        let w = (kept.among k m).0 h in
+        let other : m ≢ n = λ e. before k (ap (map.get slots) (sym e) ∙ w.0) (ap (key_at thin_number cells) (sym e) ∙ w.1) in
+        (stay m other ∙ w.0, thin_same cells new m (others m other) ∙ w.1)),
     (λ w.
-      let other : m ≢ n = λ e.
+        let other : m ≢ n = λ e.
         (let has : now ≡ Some k = sym after ∙ ap (key_at thin_number new) (sym e) ∙ w.1 in
         none-some slot (sym w.0 ∙ ap (map.get places) e ∙ alone k has)) in
-      (kept.among k m).1 (sym (stay m other) ∙ w.0, sym (thin_same cells new m (others m other)) ∙ w.1)),
+        (kept.among k m).1 (sym (stay m other) ∙ w.0, sym (thin_same cells new m (others m other)) ∙ w.1)),
   )
 
   pub one_kept : AreThinKept new places (record thin { alone = changed_to thin.alone slot now })
@@ -161,11 +161,11 @@ module _ (cells : Cells) (slots : FinMap nat_cmp ℕ) (thin : Thin) (r : Stretch
   left_alone : (slot k : ℕ) → (map.get thin.alone slot ≡ Some k) ↔ ((n : ℕ) × (map.get slots n ≡ Some slot) × IsThin left n k)
   left_alone slot k = (
     (λ h.
-      let w = (kept.alone slot k).0 h in
-      elim (cases_Bool (is_in r w.0)) [
-        | inl inside ↦ absurd (none-some slot (sym (vacant w.0 inside) ∙ w.1))
-        | inr out ↦ (w.0, w.1, left_out w.0 out ∙ w.2)
-      ]),
+        let w = (kept.alone slot k).0 h in
+        elim (cases_Bool (is_in r w.0)) [
+          | inl inside ↦ absurd (none-some slot (sym (vacant w.0 inside) ∙ w.1))
+          | inr out ↦ (w.0, w.1, left_out w.0 out ∙ w.2)
+        ]),
     (λ w. (kept.alone slot k).1 (w.0, w.1, (still w.0 k w.2).1)),
   )
 
@@ -174,11 +174,11 @@ module _ (cells : Cells) (slots : FinMap nat_cmp ℕ) (thin : Thin) (r : Stretch
       ↔ ((map.get slots n ≡ None) × IsThin left n k)
   left_among None none k n = (
     (λ h.
-      let w = (kept.among k n).0 h in
-      elim (cases_Bool (is_in r n)) [
-        | inl inside ↦ absurd (none-some k (sym (told_thin cells r tells n inside ∙ ap (option_map (λ j. j + (n - r.first))) none) ∙ w.1))
-        | inr out ↦ (w.0, left_out n out ∙ w.1)
-      ]),
+        let w = (kept.among k n).0 h in
+        elim (cases_Bool (is_in r n)) [
+          | inl inside ↦ absurd (none-some k (sym (told_thin cells r tells n inside ∙ ap (option_map (λ j. j + (n - r.first))) none) ∙ w.1))
+          | inr out ↦ (w.0, left_out n out ∙ w.1)
+        ]),
     (λ w. (kept.among k n).1 (w.0, (still n k w.1).1)),
   )
   left_among (Some j) is k n = (
@@ -194,19 +194,19 @@ module _ (cells : Cells) (slots : FinMap nat_cmp ℕ) (thin : Thin) (r : Stretch
           ]
     ]),
     (λ w.
-      let was = still n k w.1 in
-      let found = (kept.among k n).1 (w.0, was.1) in
-      elim (cases_Bool (is_in (numbers r j) k)) [
-        | inl inside ↦
-            let m = r.first + (k - j) in
-            let from = low (numbers r j) k inside in
-            let there : is_in r m ≡ true = within r m (omega arith) (omega (arith, from, high (numbers r j) k inside)) in
-            let far : j + (m - r.first) ≡ k = omega (arith, from) in
-            let same = (kept.among k m).1 (vacant m there, told_thin cells r tells m there ∙ ap (option_map (λ i. i + (m - r.first))) is ∙ ap Some far) in
-            let here : n ≡ m = no_rising n m (sym found ∙ same) in
-            absurd (false≢true (sym was.0 ∙ ap (is_in r) here ∙ there))
-        | inr out ↦ gone thin.among (numbers r j) k ∙ cond-false _ _ _ out ∙ found
-      ]),
+        let was = still n k w.1 in
+        let found = (kept.among k n).1 (w.0, was.1) in
+        elim (cases_Bool (is_in (numbers r j) k)) [
+          | inl inside ↦
+              let m = r.first + (k - j) in
+              let from = low (numbers r j) k inside in
+              let there : is_in r m ≡ true = within r m (omega arith) (omega (arith, from, high (numbers r j) k inside)) in
+              let far : j + (m - r.first) ≡ k = omega (arith, from) in
+              let same = (kept.among k m).1 (vacant m there, told_thin cells r tells m there ∙ ap (option_map (λ i. i + (m - r.first))) is ∙ ap Some far) in
+              let here : n ≡ m = no_rising n m (sym found ∙ same) in
+              absurd (false≢true (sym was.0 ∙ ap (is_in r) here ∙ there))
+          | inr out ↦ gone thin.among (numbers r j) k ∙ cond-false _ _ _ out ∙ found
+        ]),
   )
 
   pub run_left : AreThinKept left slots (record thin { among = without_run thin.among r })

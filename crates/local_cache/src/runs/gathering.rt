@@ -4,8 +4,7 @@ ghost use Rattle.local_cache.specs.NodeTable.{AreSaidBy, IsStandingAs, SeesSameC
 ghost use Rattle.local_cache.specs.PageNodes.{HasNode};
 ghost use Rattle.local_cache.specs.Runs.{HasNames, run};
 
-use crate::runs::NodeRuns;
-use crate::runs::{NodeTable, Run, RunName};
+use crate::runs::{NodeRuns, NodeTable, Run, RunName};
 use stretches::{Says, Stretch};
 use vm_ids::NodeId;
 

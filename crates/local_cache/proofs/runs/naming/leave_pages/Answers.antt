@@ -9,7 +9,7 @@ leave_named-live-requires-clause-held c =
     let P : Pages → Type 0 = λ p. HaveNodes p some.name some.count in
     subst P (sym c.loop-done.invariant.pages)
     (pages_held c.args.nodes.now.cells c.args.pages.now.nodes.cells c.args.first c.loop-done.done some.count some.name c.requires.paged
-      (λ k less. c.requires.held k (omega (arith, less, c.first_name-some.ensures.within, c.loop-done-test.true))) c.first_name-some.ensures.names)
+    (λ k less. c.requires.held k (omega (arith, less, c.first_name-some.ensures.within, c.loop-done-test.true))) c.first_name-some.ensures.names)
 
 pub loop-done-preserved : goal.loop-done-preserved
 loop-done-preserved c =

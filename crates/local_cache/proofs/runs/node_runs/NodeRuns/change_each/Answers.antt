@@ -35,7 +35,7 @@ returns g c =
     let n = c.args.node.0 in
     let f : ℕ → _ = λ k. g.C.Change.cell (g.C.ChangeEach.after c.args.change k) in
     let len = ap map.len c.change_each.ensures.cells ∙ len_each t.cells n f c.args.count
-      (λ k less. ap (λ (m : PageNodes). is_some (map.get m.cells (n + k))) c.self.view_is ∙ c.requires.held k less) in
+    (λ k less. ap (λ (m : PageNodes). is_some (map.get m.cells (n + k))) c.self.view_is ∙ c.requires.held k less) in
     (λ i. record {
       cells = c.change_each.ensures.cells i;
       pages = c.self.inside.pages.nodes.cells;

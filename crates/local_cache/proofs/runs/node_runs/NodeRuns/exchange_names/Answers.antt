@@ -34,7 +34,7 @@ pub rename-requires-2-clause-held : goal.rename-requires-2-clause-held
 rename-requires-2-clause-held c k less =
     ap (λ (x : Cells). is_some (map.get x (c.args.other.0 + k))) c.rename.ensures.cells
     ∙ still_has c.self.inside.table.cells c.args.node.0 (λ j. named (name_behind c.name-other_name.result j)) c.args.count (c.args.other.0 + k)
-      (ap (λ (m : PageNodes). is_some (map.get m.cells (c.args.other.0 + k))) c.self.view_is ∙ c.requires.others.held k less)
+    (ap (λ (m : PageNodes). is_some (map.get m.cells (c.args.other.0 + k))) c.self.view_is ∙ c.requires.others.held k less)
 
 pub rename-requires-2-clause-page : goal.rename-requires-2-clause-page
 rename-requires-2-clause-page c =
@@ -59,8 +59,8 @@ set_named-requires-2-clause-held c =
     let P : NodeName → Type 0 = λ x. HaveNodes c.set_named.new.self.nodes.cells x c.args.count in
     subst P (sym (c.name-other_name.ensures ∙ first_named m c.args.other c.args.count others some))
     (λ k less.
-      ap (λ (p : Pages). is_some (map.get p (page_number others.cache.0 others.page + k))) c.set_named.ensures.pages
-      ∙ still_named c.self.inside.pages.nodes.cells c.name-name.result c.args.other c.args.count _ (from_held m c.args.other c.args.count others c.self.invariant.paged k less))
+    ap (λ (p : Pages). is_some (map.get p (page_number others.cache.0 others.page + k))) c.set_named.ensures.pages
+    ∙ still_named c.self.inside.pages.nodes.cells c.name-name.result c.args.other c.args.count _ (from_held m c.args.other c.args.count others c.self.invariant.paged k less))
 
 -- what both say of the nodes and the pages before
 
@@ -113,7 +113,7 @@ page_len c =
     let y = from (old c) c.args.other c.args.count (others c) in
     ap map.len (pages_are c)
     ∙ len_with (with_pages p x c.args.other c.args.count) y c.args.node c.args.count
-      (λ k less. still_named p x c.args.other c.args.count _ (from_held (old c) c.args.other c.args.count (others c) c.self.invariant.paged k less))
+    (λ k less. still_named p x c.args.other c.args.count _ (from_held (old c) c.args.other c.args.count (others c) c.self.invariant.paged k less))
     ∙ len_with p x c.args.other c.args.count (from_held (old c) c.args.node c.args.count (nodes c) c.self.invariant.paged)
 
 pub invariant_of-self : goal.invariant_of-self
@@ -128,7 +128,7 @@ invariant_of-self c =
     let paged = paged_exchanged (old c) c.args.node c.args.other k a.cache b.cache a.page b.page c.requires.apart right.paged a.held b.held a.named b.named k (omega arith) in
     let first = numbered_renamed_pages t c.self.inside.counters c.args.node.0 k b.cache q0 right.numbered a.held in
     let numbered = numbered_renamed_pages (renamed_each t c.args.node.0 (Live b.cache q0) k) c.self.inside.counters c.args.other.0 k a.cache p0 first
-      (λ j less. still_has t c.args.node.0 (λ i. named (name_behind (Live b.cache q0) i)) k (c.args.other.0 + j) (b.held j less)) in
+    (λ j less. still_has t c.args.node.0 (λ i. named (name_behind (Live b.cache q0) i)) k (c.args.other.0 + j) (b.held j less)) in
     let P : Cells → Type 0 = λ x. ArePaged x c.set_named-2.new.self.nodes.cells in
     let Q : Pages → Type 0 = λ q. ArePaged (new_cells c) q in
     let R : Cells → Type 0 = λ x. AreNumbered x c.self.inside.counters in

@@ -61,7 +61,7 @@ invariant_of-self c =
 pub returns : goal.returns
 returns c =
     let room : c.self.inside.capacity - map.len c.remove_each.new.self.cells ≡ c.self.inside.capacity - map.len c.self.inside.table.cells + c.args.count =
-      omega (arith, fewer c, c.self.invariant.places.nodes) in
+    omega (arith, fewer c, c.self.invariant.places.nodes) in
     (λ i. record {
       cells = c.remove_each.ensures.cells i;
       pages = c.leave_pages.ensures.pages i;

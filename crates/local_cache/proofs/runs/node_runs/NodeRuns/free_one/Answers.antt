@@ -75,7 +75,7 @@ pub returns-in-Some : goal.returns-in-Some
 returns-in-Some c =
     let at : c.in-Some.place.number ≡ c.args.node.0 = c.in-Some.ensures.place.0 in
     let room : c.self.inside.capacity - map.len c.remove_at-single.new.self.cells ≡ c.self.inside.capacity - map.len c.self.inside.table.cells + 1 =
-      omega (arith, fewer c, c.self.invariant.places.nodes) in
+    omega (arith, fewer c, c.self.invariant.places.nodes) in
     (λ i. record {
       cells = cells_are c i;
       pages = pages_are c i;

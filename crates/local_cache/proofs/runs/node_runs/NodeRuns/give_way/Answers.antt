@@ -12,7 +12,7 @@ pub take_place-passed-requires : goal.take_place-passed-requires
 take_place-passed-requires c =
     ap (λ (m : PageNodes). is_some (map.get m.cells c.args.child.0)) c.exchange_child.ensures
     ∙ cut_there c.args.self.now c.args.node (Some c.args.child) c.args.child c.parent-parent.result
-      (parent_told c.args.self.now c.args.node c.parent-parent.result (c.parent-parent.ensures ∙ ap (λ (m : PageNodes). (cell m c.args.node).links.parent) c.self.view_is) c.requires.parent)
+    (parent_told c.args.self.now c.args.node c.parent-parent.result (c.parent-parent.ensures ∙ ap (λ (m : PageNodes). (cell m c.args.node).links.parent) c.self.view_is) c.requires.parent)
     ∙ c.requires.child
 
 pub free_one-requires : goal.free_one-requires
@@ -21,13 +21,13 @@ free_one-requires c =
     ∙ took_there c.exchange_child.new.self c.args.child c.args.node (inheriting c.own_state-own.result c.parent-parent.result)
     (ap (λ (m : PageNodes). is_some (map.get m.cells c.args.node.0)) c.exchange_child.ensures
     ∙ cut_there c.args.self.now c.args.node (Some c.args.child) c.args.node c.parent-parent.result
-      (parent_told c.args.self.now c.args.node c.parent-parent.result (c.parent-parent.ensures ∙ ap (λ (m : PageNodes). (cell m c.args.node).links.parent) c.self.view_is) c.requires.parent)
+    (parent_told c.args.self.now c.args.node c.parent-parent.result (c.parent-parent.ensures ∙ ap (λ (m : PageNodes). (cell m c.args.node).links.parent) c.self.view_is) c.requires.parent)
     ∙ c.requires.held)
 
 pub returns-clause-passed : goal.returns-clause-passed
 returns-clause-passed c =
     let own : c.own_state-own.result ≡ (cell c.args.self.now c.args.node).own = c.own_state-own.ensures ∙ ap (λ (m : PageNodes). (cell m c.args.node).own) c.self.view_is in
     let child : (cell c.exchange_child.new.self c.args.child).own ≡ (cell c.args.self.now c.args.child).own =
-      ap (λ (m : PageNodes). (cell m c.args.child).own) c.exchange_child.ensures
-      ∙ cut_own c.args.self.now c.args.node (Some c.args.child) c.args.child c.parent-parent.result in
+    ap (λ (m : PageNodes). (cell m c.args.child).own) c.exchange_child.ensures
+    ∙ cut_own c.args.self.now c.args.node (Some c.args.child) c.args.child c.parent-parent.result in
     c.take_place-passed.ensures.passed ∙ (λ i. not (is_absent (own i)) && is_absent (child i))

@@ -44,14 +44,28 @@ insert_run-requires-clause-vacant c n inside =
 pub enter-requires-clause-room : goal.enter-requires-clause-room
 enter-requires-clause-room c =
     let right = c.self.invariant in
-    omega (arith, right.counted.pages, few_pages c.self.inside.table.cells c.self.inside.pages.nodes.cells right.paged, right.places.pages, right.places.nodes,
-      c.requires.room, ap (λ (m : PageNodes). m.room) c.self.view_is)
+    omega (
+      arith,
+      right.counted.pages,
+      few_pages c.self.inside.table.cells c.self.inside.pages.nodes.cells right.paged,
+      right.places.pages,
+      right.places.nodes,
+      c.requires.room,
+      ap (λ (m : PageNodes). m.room) c.self.view_is,
+    )
 
 pub overflow_add-self-2 : goal.overflow_add-self-2
 overflow_add-self-2 c =
     let right = c.self.invariant in
-    omega (arith, right.counted.live, few_pages c.self.inside.table.cells c.self.inside.pages.nodes.cells right.paged, right.places.few, right.places.nodes,
-      c.requires.room, ap (λ (m : PageNodes). m.room) c.self.view_is)
+    omega (
+      arith,
+      right.counted.live,
+      few_pages c.self.inside.table.cells c.self.inside.pages.nodes.cells right.paged,
+      right.places.few,
+      right.places.nodes,
+      c.requires.room,
+      ap (λ (m : PageNodes). m.room) c.self.view_is,
+    )
 
 vacant : (c : goal.After-self-2-1) (n : ℕ) → is_in (nodes c) n ≡ true → map.get c.self.inside.table.cells n ≡ None
 vacant c n inside =

@@ -15,7 +15,7 @@ change_at-requires-clause-thin c =
     let t = c.self.inside.table in
     let at : c.in-Some.place.number ≡ c.args.node.0 = c.in-Some.ensures.place.0 in
     let held : HasCell t.cells c.in-Some.place.number =
-      ap (λ (k : ℕ). is_some (map.get t.cells k)) at ∙ ap (λ (m : PageNodes). is_some (map.get m.cells c.args.node.0)) c.self.view_is ∙ c.requires.held in
+    ap (λ (k : ℕ). is_some (map.get t.cells k)) at ∙ ap (λ (m : PageNodes). is_some (map.get m.cells c.args.node.0)) c.self.view_is ∙ c.requires.held in
     keeps_free t.cells t.cells c.self.inside.counters c.in-Some.place.number (renewed c.args.own) c.self.invariant.numbered (λ q. refl) (λ d. refl) held
 
 -- the node's cell is changed
@@ -56,11 +56,11 @@ exchange_child-requires-clause-parent c =
     let P : Cells → Type 0 = λ x. SameNames c.self.inside.table.cells x in
     let same = subst P (sym cells) (names_changed c.self.inside.table.cells c.args.node.0 (renewed c.args.own) (λ d. refl) there) in
     let parent =
-      c.parent-parent.ensures
-      ∙ ap (λ (o : Option Cell). (unwrap_or o blank).links.parent) (sym c.at-single.ensures)
-      ∙ ap (λ (r : Inside). (cell_at r.table.cells c.in-Some.place.number).links.parent) c.self-inside.view_is
-      ∙ ap (λ (k : ℕ). (cell_at c.self.inside.table.cells k).links.parent) at
-      ∙ ap (λ (m : PageNodes). (cell m c.args.node).links.parent) c.self.view_is in
+    c.parent-parent.ensures
+    ∙ ap (λ (o : Option Cell). (unwrap_or o blank).links.parent) (sym c.at-single.ensures)
+    ∙ ap (λ (r : Inside). (cell_at r.table.cells c.in-Some.place.number).links.parent) c.self-inside.view_is
+    ∙ ap (λ (k : ℕ). (cell_at c.self.inside.table.cells k).links.parent) at
+    ∙ ap (λ (m : PageNodes). (cell m c.args.node).links.parent) c.self.view_is in
     let Q : PageNodes → Type 0 = λ m. IfSome c.parent-parent.result (HasNode m) in
     parent_still c.self.inside.table.cells c.change_at.new.self.cells same c.parent-parent.result
     (subst Q (sym c.self.view_is) (parent_told c.args.self.now c.args.node c.parent-parent.result parent c.requires.parent))
@@ -72,17 +72,17 @@ returns-clause-renewed c =
     let there = ap (λ (m : PageNodes). is_some (map.get m.cells c.args.node.0)) c.self.view_is ∙ c.requires.held in
     let size = ap map.len cells ∙ len_changed c.self.inside.table.cells c.args.node.0 (renewed c.args.own) there in
     let parent =
-      c.parent-parent.ensures
-      ∙ ap (λ (o : Option Cell). (unwrap_or o blank).links.parent) (sym c.at-single.ensures)
-      ∙ ap (λ (r : Inside). (cell_at r.table.cells c.in-Some.place.number).links.parent) c.self-inside.view_is
-      ∙ ap (λ (k : ℕ). (cell_at c.self.inside.table.cells k).links.parent) at
-      ∙ ap (λ (m : PageNodes). (cell m c.args.node).links.parent) c.self.view_is in
+    c.parent-parent.ensures
+    ∙ ap (λ (o : Option Cell). (unwrap_or o blank).links.parent) (sym c.at-single.ensures)
+    ∙ ap (λ (r : Inside). (cell_at r.table.cells c.in-Some.place.number).links.parent) c.self-inside.view_is
+    ∙ ap (λ (k : ℕ). (cell_at c.self.inside.table.cells k).links.parent) at
+    ∙ ap (λ (m : PageNodes). (cell m c.args.node).links.parent) c.self.view_is in
     c.exchange_child.ensures
     ∙ ap (λ (m : PageNodes). cut_from m c.parent-parent.result c.args.node None)
-      ((λ i. record {
-        cells = cells i;
-        pages = c.self.inside.pages.nodes.cells;
-        made = c.self.inside.counters.made;
-        room = c.self.inside.capacity - size i;
-      }) ∙ ap (λ (m : PageNodes). record m { cells = changed m.cells c.args.node.0 (renewed c.args.own) }) c.self.view_is)
+    ((λ i. record {
+      cells = cells i;
+      pages = c.self.inside.pages.nodes.cells;
+      made = c.self.inside.counters.made;
+      room = c.self.inside.capacity - size i;
+    }) ∙ ap (λ (m : PageNodes). record m { cells = changed m.cells c.args.node.0 (renewed c.args.own) }) c.self.view_is)
     ∙ ap (λ (p : Option NodeId). cut_from (record c.args.self.now { cells = changed c.args.self.now.cells c.args.node.0 (renewed c.args.own) }) p c.args.node None) parent

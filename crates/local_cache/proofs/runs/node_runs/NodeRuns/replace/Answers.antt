@@ -78,7 +78,7 @@ more c =
     let f = named (Working (number c)) in
     ap map.len (cells_are c)
     ∙ len_insert_new (changed t.cells c.args.node.0 f) c.next_fresh.result (new_cell (name c) c.args.own)
-      (still_vacant t.cells c.self.inside.pages.nodes.cells c.args.node.0 c.next_fresh.result (page c).0 c.args.own c.self.invariant.paged (held c) (vacant c) (page c).1 (number c))
+    (still_vacant t.cells c.self.inside.pages.nodes.cells c.args.node.0 c.next_fresh.result (page c).0 c.args.own c.self.invariant.paged (held c) (vacant c) (page c).1 (number c))
     ∙ ap (λ (k : ℕ). k + 1) (len_changed t.cells c.args.node.0 f (held c))
 
 abbrev working_counted : goal.After-self-3-1 → Counters
@@ -95,7 +95,7 @@ same_pages : (c : goal.After-self-3-1) → map.len c.set_named.new.self.nodes.ce
 same_pages c =
     ap map.len c.set_named.ensures.pages
     ∙ len_with c.self.inside.pages.nodes.cells c.name-name.result (record { 0 = c.next_fresh.result }) 1
-      (page_held c.self.inside.table.cells c.self.inside.pages.nodes.cells c.args.node.0 c.name-name.result c.self.invariant.paged (held c) (sym c.name-name.ensures))
+    (page_held c.self.inside.table.cells c.self.inside.pages.nodes.cells c.args.node.0 c.name-name.result c.self.invariant.paged (held c) (sym c.name-name.ensures))
 
 pub invariant_of-self : goal.invariant_of-self
 invariant_of-self c =
@@ -108,9 +108,9 @@ invariant_of-self c =
     let few : k.made + 1 ≤ 3 * 2 ^ 61 = omega (arith, c.requires.made, made) in
     let fresh_few : k.fresh < 3 * 2 ^ 61 = omega (arith, right.numbered.fresh, c.requires.made, made) in
     let numbered = numbered_page (changed t.cells c.args.node.0 f) (working_counted c) (counted c) c.next_fresh.result (new_cell (name c) c.args.own)
-      (numbered_working t.cells k (working_counted c) c.args.node.0 right.numbered refl refl refl few (held c))
-      (name_not_working t.cells c.self.inside.pages.nodes.cells c.args.node.0 c.next_fresh.result (page c).0 c.args.own right.paged (held c) (vacant c) (page c).1)
-      (inr (inl (omega (arith, c.next_fresh.ensures), omega (arith, c.next_fresh.ensures)))) (omega arith) refl refl (omega (arith, right.numbered.fresh)) in
+    (numbered_working t.cells k (working_counted c) c.args.node.0 right.numbered refl refl refl few (held c))
+    (name_not_working t.cells c.self.inside.pages.nodes.cells c.args.node.0 c.next_fresh.result (page c).0 c.args.own right.paged (held c) (vacant c) (page c).1)
+    (inr (inl (omega (arith, c.next_fresh.ensures), omega (arith, c.next_fresh.ensures)))) (omega arith) refl refl (omega (arith, right.numbered.fresh)) in
     let paged = paged_replaced t.cells c.self.inside.pages.nodes.cells c.args.node.0 c.next_fresh.result (page c).0 c.args.own right.paged (held c) (vacant c) (page c).1 (number c) in
     let P : Cells → Type 0 = λ x. ArePaged x c.set_named.new.self.nodes.cells in
     let Q : Pages → Type 0 = λ q. ArePaged (map.insert (changed t.cells c.args.node.0 f) c.next_fresh.result (new_cell (name c) c.args.own)) q in

@@ -9,8 +9,14 @@ overflow_sub-result c = omega (arith, c.self.invariant.counted.nodes, c.self.inv
 
 pub returns-clause-working : goal.returns-clause-working
 returns-clause-working c =
-    omega (arith, c.self.invariant.counted.nodes, c.self.invariant.counted.live, few_pages c.self.inside.table.cells c.self.inside.pages.nodes.cells c.self.invariant.paged,
-      ap (λ (m : PageNodes). map.len m.cells) c.self.view_is, ap (λ (m : PageNodes). map.len m.pages) c.self.view_is)
+    omega (
+      arith,
+      c.self.invariant.counted.nodes,
+      c.self.invariant.counted.live,
+      few_pages c.self.inside.table.cells c.self.inside.pages.nodes.cells c.self.invariant.paged,
+      ap (λ (m : PageNodes). map.len m.cells) c.self.view_is,
+      ap (λ (m : PageNodes). map.len m.pages) c.self.view_is,
+    )
 
 pub returns-clause-few : goal.returns-clause-few
 returns-clause-few c = omega (arith, c.self.invariant.places.nodes, c.self.invariant.places.few, ap (λ (m : PageNodes). map.len m.cells) c.self.view_is)

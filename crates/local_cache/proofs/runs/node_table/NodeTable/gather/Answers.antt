@@ -16,9 +16,9 @@ invariant_of-self c =
     let said = subst P (sym c.self.view_is) c.requires.said in
     table_gathered c.self.inside.nodes c.gather.new.self c.self.inside.thin r c.self.invariant
     (λ n h.
-      let from = low r n h in
-      let to = high r n h in
-      let far : c.args.node + (n - c.args.node) ≡ n = omega (arith, from) in
-      let one = said (n - c.args.node) (omega (arith, from, to)) in
-      ap (λ (k : ℕ). key_at thin_number c.self.inside.nodes.cells k) (sym far) ∙ page_not_thin c.self.inside.nodes.cells (c.args.node + (n - c.args.node)) _ one.said one.page)
+    let from = low r n h in
+    let to = high r n h in
+    let far : c.args.node + (n - c.args.node) ≡ n = omega (arith, from) in
+    let one = said (n - c.args.node) (omega (arith, from, to)) in
+    ap (λ (k : ℕ). key_at thin_number c.self.inside.nodes.cells k) (sym far) ∙ page_not_thin c.self.inside.nodes.cells (c.args.node + (n - c.args.node)) _ one.said one.page)
     c.gather.ensures.cells (c.gather.ensures.gone c.requires.more) c.gather.ensures.count c.gather.ensures.room

@@ -15,7 +15,7 @@ returns-then-not-is_absent c =
     let m = c.args.self.now.cells in
     let n = c.loop-single.node in
     let told : cell_at m n ≡ c.in-Some.single.now =
-      ap (λ (t : Table). cell_at t.cells n) (sym c.self.view_is) ∙ ap (λ (o : Option Cell). unwrap_or o blank) c.in-Some.ensures.entry in
+    ap (λ (t : Table). cell_at t.cells n) (sym c.self.view_is) ∙ ap (λ (o : Option Cell). unwrap_or o blank) c.in-Some.ensures.entry in
     let here = c.loop-single.invariant c.requires.0 c.requires.1 in
     let P : ℕ → Type 0 = λ q. IsOwner m c.args.first q in
     subst P (same_owner m n c.requires.0 here (ap (λ (d : Cell). is_absent d.own) told ∙ ap is_absent (sym c.own.ensures) ∙ sym c.is_absent.ensures.absent ∙ c.if-not-is_absent.true)) c.requires.1
@@ -25,7 +25,7 @@ unwrap-node-requires c =
     let m = c.args.self.now.cells in
     let n = c.loop-single.node in
     let told : cell_at m n ≡ c.in-Some.single.now =
-      ap (λ (t : Table). cell_at t.cells n) (sym c.self.view_is) ∙ ap (λ (o : Option Cell). unwrap_or o blank) c.in-Some.ensures.entry in
+    ap (λ (t : Table). cell_at t.cells n) (sym c.self.view_is) ∙ ap (λ (o : Option Cell). unwrap_or o blank) c.in-Some.ensures.entry in
     let here = c.loop-single.invariant c.requires.0 c.requires.1 in
     ap is_some c.parent.ensures ∙ ap (λ (d : Cell). is_some d.links.parent) (sym told)
     ∙ has_parent m n c.requires.0 here (ap (λ (d : Cell). is_absent d.own) told ∙ ap is_absent (sym c.own.ensures) ∙ sym c.is_absent.ensures.absent ∙ c.if-not-is_absent.false)
@@ -35,11 +35,11 @@ loop-single-smaller c =
     let m = c.args.self.now.cells in
     let n = c.loop-single.node in
     let told : cell_at m n ≡ c.in-Some.single.now =
-      ap (λ (t : Table). cell_at t.cells n) (sym c.self.view_is) ∙ ap (λ (o : Option Cell). unwrap_or o blank) c.in-Some.ensures.entry in
+    ap (λ (t : Table). cell_at t.cells n) (sym c.self.view_is) ∙ ap (λ (o : Option Cell). unwrap_or o blank) c.in-Some.ensures.entry in
     let here = c.loop-single.invariant c.requires.0 c.requires.1 in
     way_falls m n c.unwrap-node.result.0 c.requires.0
     (one_up m n c.unwrap-node.result.0 (ap (λ (d : Cell). is_absent d.own) told ∙ ap is_absent (sym c.own.ensures) ∙ sym c.is_absent.ensures.absent ∙ c.if-not-is_absent.false)
-      (ap (λ (d : Cell). option_map (λ (q : NodeId). q.0) d.links.parent) told ∙ ap (option_map (λ (q : NodeId). q.0)) (sym c.parent.ensures ∙ c.unwrap-node.ensures)))
+    (ap (λ (d : Cell). option_map (λ (q : NodeId). q.0) d.links.parent) told ∙ ap (option_map (λ (q : NodeId). q.0)) (sym c.parent.ensures ∙ c.unwrap-node.ensures)))
     here
 
 pub loop-single-preserved : goal.loop-single-preserved
@@ -47,7 +47,7 @@ loop-single-preserved c owner o =
     let m = c.args.self.now.cells in
     let n = c.loop-single.node in
     let told : cell_at m n ≡ c.in-Some.single.now =
-      ap (λ (t : Table). cell_at t.cells n) (sym c.self.view_is) ∙ ap (λ (o : Option Cell). unwrap_or o blank) c.in-Some.ensures.entry in
+    ap (λ (t : Table). cell_at t.cells n) (sym c.self.view_is) ∙ ap (λ (o : Option Cell). unwrap_or o blank) c.in-Some.ensures.entry in
     let here = c.loop-single.invariant c.requires.0 c.requires.1 in
     parent_owner m n owner (c.loop-single.invariant owner o) c.unwrap-node.result.0 (ap (λ (d : Cell). is_absent d.own) told ∙ ap is_absent (sym c.own.ensures) ∙ sym c.is_absent.ensures.absent ∙ c.if-not-is_absent.false)
     (ap (λ (d : Cell). option_map (λ (q : NodeId). q.0) d.links.parent) told ∙ ap (option_map (λ (q : NodeId). q.0)) (sym c.parent.ensures ∙ c.unwrap-node.ensures))

@@ -18,9 +18,9 @@ loop-count-preserved c =
     let m = c.args.self.now.cells in
     let count = c.loop-count.count in
     let name = c.is_page_behind.ensures.0 c.if-not-is_page_behind.false
-        ∙ ap (λ (x : NodeName). name_behind x count) (sym (first_name_is m c.args.first c.in-Some.start c.in-Some.ensures ∙ c.in-Live.is)) in
+    ∙ ap (λ (x : NodeName). name_behind x count) (sym (first_name_is m c.args.first c.in-Some.start c.in-Some.ensures ∙ c.in-Live.is)) in
     let child = c.is_node_behind.ensures.0 c.if-not-is_node_behind.false
-        ∙ ap (λ (o : Option NodeId). next_if o count) (sym (first_child_is m c.args.first c.in-Some.start c.in-Some.ensures)) in
+    ∙ ap (λ (o : Option NodeId). next_if o count) (sym (first_child_is m c.args.first c.in-Some.start c.in-Some.ensures)) in
     record {
       some = λ h. omega (arith, c.loop-count.invariant.some h);
       most = omega (arith, c.min-count-in-loop-count.ensures, c.loop-count-test.true);

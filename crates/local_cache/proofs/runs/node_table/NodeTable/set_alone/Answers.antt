@@ -44,14 +44,14 @@ returns-clause-same c =
       count = omega (arith, count, c.remove_run.ensures.count);
       room = room ∙ c.remove_run.ensures.room;
       slots = λ q slot at.
-        let other : q ≢ n = λ same. none-some slot (sym (ap (map.get c.args.self.now.slots) same ∙ c.remove_run.ensures.apart n (within r n (omega arith) (omega arith))) ∙ at) in
-        ap (λ (t : Table). map.get t.slots q) e ∙ insert_other c.remove_run.new.self.slots n c.insert.result.slot q other
-        ∙ ap (λ (m : FinMap nat_cmp ℕ). map.get m q) c.remove_run.ensures.slots ∙ at;
+          let other : q ≢ n = λ same. none-some slot (sym (ap (map.get c.args.self.now.slots) same ∙ c.remove_run.ensures.apart n (within r n (omega arith) (omega arith))) ∙ at) in
+          ap (λ (t : Table). map.get t.slots q) e ∙ insert_other c.remove_run.new.self.slots n c.insert.result.slot q other
+          ∙ ap (λ (m : FinMap nat_cmp ℕ). map.get m q) c.remove_run.ensures.slots ∙ at;
     }
 
 pub returns-clause-place : goal.returns-clause-place
 returns-clause-place c = (
   c.insert.ensures.number,
   ap (λ (t : Table). map.get t.slots c.insert.result.number) c.insert.ensures.inserted
-  ∙ insert_same c.remove_run.new.self.slots c.args.node c.insert.result.slot c.insert.result.number c.insert.ensures.number,
+      ∙ insert_same c.remove_run.new.self.slots c.args.node c.insert.result.slot c.insert.result.number c.insert.ensures.number,
 )

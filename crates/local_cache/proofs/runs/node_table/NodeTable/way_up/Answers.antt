@@ -22,7 +22,7 @@ unwrap-node-requires c =
     let told = told_first c.args.self.now.cells c.args.first c.run_from-nodes.result c.run_from-nodes.ensures.from in
     ap (λ (d : Cell). is_some d.links.parent) (sym told)
     ∙ has_parent c.args.self.now.cells c.args.first c.requires.owner.0 c.requires.owner.1
-      (ap (λ (d : Cell). is_absent d.own) told ∙ sym c.is_absent.ensures ∙ c.if-not-is_absent.false)
+    (ap (λ (d : Cell). is_absent d.own) told ∙ sym c.is_absent.ensures ∙ c.if-not-is_absent.false)
 
 pub loop-nodes-init : goal.loop-nodes-init
 loop-nodes-init c =
@@ -39,7 +39,7 @@ returns-then-not-is_absent-2 c =
     let here = c.loop-nodes.invariant c.requires.owner.0 c.requires.owner.1 in
     let P : ℕ → Type 0 = λ q. IsOwner m c.args.first q in
     subst P (same_owner m c.loop-nodes.node c.requires.owner.0 here.0
-      (ap (λ (d : Cell). is_absent d.own) told ∙ sym c.is_absent-in-Some.ensures ∙ c.if-not-is_absent-2.true)) c.requires.owner.1
+    (ap (λ (d : Cell). is_absent d.own) told ∙ sym c.is_absent-in-Some.ensures ∙ c.if-not-is_absent-2.true)) c.requires.owner.1
 
 pub unwrap-node-requires-in-Some : goal.unwrap-node-requires-in-Some
 unwrap-node-requires-in-Some c =
@@ -58,9 +58,9 @@ loop-nodes-smaller c =
     let here = c.loop-nodes.invariant c.requires.owner.0 c.requires.owner.1 in
     way_falls m c.loop-nodes.node c.unwrap-node-in-Some.result.0 c.requires.owner.0
     (one_up m c.loop-nodes.node c.unwrap-node-in-Some.result.0
-      (ap (λ (d : Cell). is_absent d.own) told ∙ sym c.is_absent-in-Some.ensures ∙ c.if-not-is_absent-2.false)
-      (ap (λ (d : Cell). option_map (λ (q : NodeId). q.0) d.links.parent) told
-        ∙ ap (option_map (λ (q : NodeId). q.0)) (sym c.parent_after.ensures ∙ c.unwrap-node-in-Some.ensures)))
+    (ap (λ (d : Cell). is_absent d.own) told ∙ sym c.is_absent-in-Some.ensures ∙ c.if-not-is_absent-2.false)
+    (ap (λ (d : Cell). option_map (λ (q : NodeId). q.0) d.links.parent) told
+    ∙ ap (option_map (λ (q : NodeId). q.0)) (sym c.parent_after.ensures ∙ c.unwrap-node-in-Some.ensures)))
     here.0
 
 pub loop-nodes-preserved : goal.loop-nodes-preserved
@@ -70,6 +70,6 @@ loop-nodes-preserved c =
     let told = told_cell m c.loop-nodes.node c.in-Some.nodes.now (subst T c.self.view_is c.in-Some.ensures.told) c.in-Some.ensures.with.has in
     more_up m c.args.first c.loop-nodes.node c.unwrap-node-in-Some.result.0 c.loop-nodes.invariant
     (one_up m c.loop-nodes.node c.unwrap-node-in-Some.result.0
-      (ap (λ (d : Cell). is_absent d.own) told ∙ sym c.is_absent-in-Some.ensures ∙ c.if-not-is_absent-2.false)
-      (ap (λ (d : Cell). option_map (λ (q : NodeId). q.0) d.links.parent) told
-        ∙ ap (option_map (λ (q : NodeId). q.0)) (sym c.parent_after.ensures ∙ c.unwrap-node-in-Some.ensures)))
+    (ap (λ (d : Cell). is_absent d.own) told ∙ sym c.is_absent-in-Some.ensures ∙ c.if-not-is_absent-2.false)
+    (ap (λ (d : Cell). option_map (λ (q : NodeId). q.0) d.links.parent) told
+    ∙ ap (option_map (λ (q : NodeId). q.0)) (sym c.parent_after.ensures ∙ c.unwrap-node-in-Some.ensures)))

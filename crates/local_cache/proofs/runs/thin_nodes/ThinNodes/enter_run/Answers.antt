@@ -27,10 +27,10 @@ invariant_of-self c =
     let count = c.args.nodes.count in
     let r : Stretch Rising = record { first = number; count = count; value = record { 0 = c.args.nodes.first } } in
     let vacant : (j : ℕ) → j < count → map.get (cells rising rs) (number + j) ≡ None = λ j less.
-      ap (λ (t : Thin). map.get t.among (number + j)) c.self.view_is
-      ∙ vacant_numbers c.args.nodes.value count number c.args.self.now.among c.in-Some.ensures c.requires.vacant (number + j) (omega arith) (omega (arith, less)) in
+    ap (λ (t : Thin). map.get t.among (number + j)) c.self.view_is
+    ∙ vacant_numbers c.args.nodes.value count number c.args.self.now.among c.in-Some.ensures c.requires.vacant (number + j) (omega arith) (omega (arith, less)) in
     let more : map.len (cells rising new.list) ≡ map.len (cells rising rs) + count =
-      ap map.len (c.join_at-in-Some.ensures.cells ∙ c.join_at.ensures.cells ∙ c.insert.ensures.cells) ∙ len_come rising (λ v. v) (cells rising rs) r count vacant in
+    ap map.len (c.join_at-in-Some.ensures.cells ∙ c.join_at.ensures.cells ∙ c.insert.ensures.cells) ∙ len_come rising (λ v. v) (cells rising rs) r count vacant in
     let numbers : number_count new.list ≡ number_count rs + count = c.join_at-in-Some.ensures.count ∙ c.join_at.ensures.count ∙ c.insert.ensures.count in
     let places : new.places ≡ c.self.inside.runs.places = c.join_at-in-Some.ensures.places ∙ c.join_at.ensures.places ∙ c.insert.ensures.places in
     let room : map.len (cells rising rs) + count ≤ c.self.inside.alone.room = subst (λ (t : Thin). map.len t.among + count ≤ t.room) (sym c.self.view_is) c.requires.room in
