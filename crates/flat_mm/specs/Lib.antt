@@ -1,3 +1,5 @@
 pub mod Frames
 pub mod Layout
+pub mod Manager
+pub mod Mapping
 pub mod Store

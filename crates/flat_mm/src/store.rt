@@ -14,7 +14,7 @@ use frame_pool::FramePool;
 use std::alloc::Global;
 use std::marker::Model;
 use std::mem;
-use vm_ids::{CacheId, FrameId, NoMemory, PageNo, SegId};
+use vm_ids::{CacheId, ChainItem, ChainList, FrameId, NoMemory, NodeName, PageNo, SegId};
 use vm_model::numbered;
 use vm_port::{Failed, Mapper};
 
@@ -124,6 +124,14 @@ impl PageStore {
         self.frames.count() - self.frames.free_count() - self.loose.len() as u32
     }
 
+    /// How many pages are loose.
+    pub(crate) fn loose(&self) -> u32
+        ensures loose { result ≡ length self.now.loose }
+        ensures few { result ≤ 2 ^ 16 }
+    {
+        self.loose.len() as u32
+    }
+
     /// How many caches were made.
     pub(crate) fn made(&self) -> usize
         ensures { result ≡ length self.now.caches }
@@ -145,6 +153,19 @@ impl PageStore {
         ensures { result ≡ option_and_then (λ c. c.segment) (numbered self.now.caches cache.0) }
     {
         numbered(&self.caches, cache.0)?.segment()
+    }
+
+    /// The node of a page that owns itself, as a chain.
+    pub(crate) fn own_chain(&self, cache: CacheId, page: PageNo) -> Result<ChainList, NoMemory>
+        ensures { IfOk result (λ chain. chain
+            ≡ record { name = NodeName.Live cache page; children = 0 } ∷ []) }
+    {
+        let mut items = Vec::with_capacity(self.alloc, 1)?;
+        items.push_reserved(ChainItem {
+            name: NodeName::Live(cache, page),
+            children: 0,
+        });
+        Ok(ChainList::new(items))
     }
 
     /// Whether a live cache is of the segment.
