@@ -1,5 +1,8 @@
+pub mod Accessing
 pub mod Frames
 pub mod Layout
 pub mod Manager
-pub mod Mapping
+pub mod Maps
+pub mod Placed
 pub mod Store
+pub mod WriteAccess

@@ -1,5 +1,5 @@
 -- What the manager keeps, the machine that it stands for, and what holds of it between two calls.
-use Rattle.std.specs.Prelude.{◌≡◌, ◌≤◌, ◌+◌, ◌^◌, ℕ, true, false, List, [], length, map, All, Option, Some, None, option_map, slice_get, IfSome, Unit}
+use Rattle.std.specs.Prelude.{◌≡◌, ◌≤◌, ℕ, true, false, List, [], length, map, Option, Some, None, option_map, slice_get, IfSome}
 use Rattle.vm_ids.specs.Denying.{denies}
 use Rattle.vm_ids.specs.Held.{Held, Segments, segment_page, segments_in}
 use Rattle.vm_ids.specs.declared.numbers.SegId.{SegId}
@@ -10,7 +10,8 @@ use Rattle.vm_model.specs.Outcome.{seen_at}
 use Rattle.contexts.specs.Actors.{Actors}
 use Rattle.gmi_calls.specs.Backing.{IsReady}
 use Rattle.gmi_calls.specs.Calling.{Meanings, meanings}
-use Rattle.flat_mm.specs.Store.{AreWhole, Cache, Page, Store, size_of}
+use Rattle.flat_mm.specs.Placed.{AreRight}
+use Rattle.flat_mm.specs.Store.{AreWhole, Cache, Page, Store}
 
 -- the pages in their frames, and the actors with their regions
 pub record Manager : Type 0 where
@@ -24,26 +25,26 @@ plain c = record {
   pages = map (λ (p : Page). p.bytes) c.pages;
 }
 
--- the machine that a manager stands for: each page is the bytes of its frame
-abbrev pub machine_with : Store → Actors → Machine
-machine_with s t = record {
-  page_bytes = s.page_bytes;
-  frames = s.frames;
-  caches = map (option_map plain) s.caches;
+abbrev pub caches_in : Store → List (Option model.Cache)
+caches_in s = map (option_map plain) s.caches
+
+-- the machine with these caches and frames, and with these actors
+abbrev pub machine_with : List (Option model.Cache) → ℕ → Actors → Machine
+machine_with caches frames t = record {
+  page_bytes = t.page_bytes;
+  frames = frames;
+  caches = caches;
   actors = t.actors;
   regions_made = t.regions_made;
 }
 
+-- the machine that a manager stands for: each page is the bytes of its frame
 abbrev pub machine_in : Manager → Machine
-machine_in p = machine_with p.store p.actors
+machine_in p = machine_with (caches_in p.store) p.store.frames p.actors
 
--- the region is of pages that a live cache has
-abbrev pub HasItsPages : List (Option Cache) → model.Region → Type 0
-HasItsPages caches r = r.offset + r.pages ≤ size_of (numbered caches r.cache)
-
-abbrev pub ArePlaced : List (Option Cache) → Option model.Actor → Type 0
-ArePlaced caches None = Unit {0}
-ArePlaced caches (Some regions) = All (HasItsPages caches) regions
+-- how many pages a cache has, where it is alive
+abbrev pub sizes_in : Store → ℕ → Option ℕ
+sizes_in s cache = option_map (λ (c : Cache). length c.pages) (numbered s.caches cache)
 
 -- What holds of a manager's fields, whatever the mapper holds:
 --     whole     each page has all its bytes
@@ -58,7 +59,7 @@ pub record IsManagerSound (s : Store) (t : Actors) (actors : ℕ) : Type 0 where
   pub page : t.page_bytes ≡ s.page_bytes
   pub made : length s.caches ≤ MOST_MADE
   pub counted : actors ≡ length t.actors
-  pub placed : All (ArePlaced s.caches) t.actors
+  pub placed : AreRight (sizes_in s) t
 
 -- A page of a segment: where it was changed the mapper let it be written, and else it is what the
 -- segment has.

@@ -1,5 +1,5 @@
 -- The pages of all caches, without the frames that they are in.
-use Rattle.std.specs.Prelude.{◌≡◌, ◌==◌, ◌-◌, ◌+◌, ℕ, Bool, true, false, List, length, All, Option, None, Some, option_and_then, option_map, slice_get, slice_set, sum_by, replicate, Unit}
+use Rattle.std.specs.Prelude.{◌≡◌, ◌==◌, ◌-◌, ◌+◌, ℕ, Bool, true, false, List, length, All, Option, None, Some, option_and_then, option_map, slice_get, slice_set, sum_by, replicate}
 use Rattle.std.specs.Option.{option_map_or}
 use Rattle.vm_ids.specs.declared.numbers.SegId.{SegId}
 use Rattle.vm_model.specs.Answering.{overwrite}

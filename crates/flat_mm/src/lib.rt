@@ -17,6 +17,7 @@ mod framed;
 mod gmi;
 mod locks;
 mod manager;
+mod maps;
 mod pulling;
 mod pushing;
 mod region_calls;

@@ -1,26 +1,14 @@
 // Actors and their regions: the calls that reach neither pages nor the mapper.
-ghost use Rattle.std.specs.Prelude.{◌≡◌, ◌+◌, ◌*◌, ◌≤◌, ◌<◌, ◌^◌, Err, false, IfErr, IsSomeAnd, OnOk};
-ghost use Rattle.std.specs.List.{list_any};
-ghost use Rattle.vm_model.specs.Answering.{answer_by, map_of, overlaps, refuse};
-ghost use Rattle.vm_model.specs.Machine.{numbered};
+ghost use Rattle.std.specs.Prelude.{◌≤◌};
+ghost use Rattle.vm_model.specs.Answering.{answer_by};
 ghost use Rattle.gmi_calls.specs.Calling.{AnswersWithin, CallDone, done_by};
-ghost use Rattle.flat_mm.specs.Manager.{flat, machine_in};
-ghost use Rattle.flat_mm.specs.Mapping.{CanMap};
+ghost use Rattle.flat_mm.specs.Manager.{flat};
 
 use crate::FlatMm;
+use crate::maps::map_refusal;
 use vm_ids::{
-    ADDRESS_END, ActorId, Command, Mapping, NoMemory, Prot, Refusal, RegionId, RegionStatus, Reply,
-    Trouble,
+    ActorId, Command, Mapping, NoMemory, Prot, Refusal, RegionId, RegionStatus, Reply, Trouble,
 };
-use vm_model::MOST_MADE;
-
-// Whether so many pages at this address pass the end of the addresses.
-fn passes_addresses(page_bytes: u64, address: u64, pages: u32) -> bool
-    requires { page_bytes ≤ 2 ^ 16 }
-    ensures { result ≡ nat_lt (2 ^ 48) (address + page_bytes * pages) }
-{
-    address > ADDRESS_END || page_bytes * pages as u64 > ADDRESS_END - address
-}
 
 impl FlatMm {
     /// Makes an actor without regions. Refused as `TooMany` exactly where 256 actors are alive or
@@ -49,39 +37,6 @@ impl FlatMm {
         Ok(())
     }
 
-    // Whether the pages may be mapped. Refused as `NoActor`, `NoCache`, `Unaligned`, `BadAddress`,
-    // `OutOfCache`, `Overlap` or `TooMany`, in this order.
-    fn check_map(&self, actor: ActorId, mapping: &Mapping) -> Result<(), Refusal>
-        ensures refused { IfErr result (λ refusal. map_of (machine_in self.now) actor.0 mapping.now
-            ≡ refuse (machine_in self.now) refusal) }
-        ensures free { OnOk result (CanMap (machine_in self.now) actor.0 mapping.now) }
-    {
-        let Some(regions) = self.contexts.regions(actor) else {
-            return Err(Refusal::NoActor);
-        };
-        let Some(size) = self.store.size(mapping.extent.cache) else {
-            return Err(Refusal::NoCache);
-        };
-        let page_bytes = self.contexts.page_bytes() as u64;
-        let (address, pages) = (mapping.address, mapping.extent.pages);
-        if address % page_bytes != 0 {
-            return Err(Refusal::Unaligned);
-        }
-        if passes_addresses(page_bytes, address, pages) {
-            return Err(Refusal::BadAddress);
-        }
-        if mapping.extent.first.0 as u64 + pages as u64 > size as u64 {
-            return Err(Refusal::OutOfCache);
-        }
-        if !regions.fits(address, pages) {
-            return Err(Refusal::Overlap);
-        }
-        if self.contexts.regions_made() >= MOST_MADE {
-            return Err(Refusal::TooMany);
-        }
-        Ok(())
-    }
-
     /// Maps pages of a cache into an actor. Refused as `NoActor`, `NoCache`, `Unaligned`,
     /// `BadAddress`, `OutOfCache`, `Overlap` or `TooMany`, in this order.
     pub fn map(&mut self, actor: ActorId, mapping: Mapping) -> Result<RegionId, Trouble>
@@ -89,7 +44,8 @@ impl FlatMm {
         ensures { CallDone flat self.old
             (Command.Map actor mapping) (answer_by Reply.Region result) self.new }
     {
-        if let Err(refusal) = self.check_map(actor, &mapping) {
+        let size = self.store.size(mapping.extent.cache);
+        if let Some(refusal) = map_refusal(&self.contexts, actor, &mapping, size) {
             return Err(Trouble::Refused(refusal));
         }
         match self.contexts.map(actor, mapping) {

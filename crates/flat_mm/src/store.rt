@@ -1,5 +1,5 @@
 // The pages of all caches, each in a page frame of its own.
-ghost use Rattle.std.specs.Prelude.{◌≡◌, ◌≢◌, ℕ, ◌+◌, ◌-◌, ◌≤◌, ◌<◌, ◌^◌, ◌∷◌, ◌++◌, [], true, false, Some, None, length, take, drop, map, replicate, All, option_map, option_and_then, slice_get, slice_set, IfOk, IfSome, IsSome, OnErr, OnOk};
+ghost use Rattle.std.specs.Prelude.{◌≡◌, ◌≢◌, ℕ, List, ◌+◌, ◌-◌, ◌≤◌, ◌<◌, ◌^◌, ◌∷◌, ◌++◌, [], true, false, Some, None, length, take, drop, map, replicate, All, option_map, option_and_then, slice_get, slice_set, IfOk, IfSome, IsSome, OnErr, OnOk};
 ghost use Rattle.std.specs.List.{list_any};
 ghost use Rattle.std.specs.Option.{option_map_or};
 ghost use Rattle.vm_ids.specs.Counting.{Counted};
