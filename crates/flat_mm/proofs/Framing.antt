@@ -1,16 +1,18 @@
 -- How page frames stand behind the pages of caches.
-use Rattle.std.proofs.Common.{◌≡◌, ◌≢◌, ◌==◌, ℕ, zero, suc, ◌+◌, ◌-◌, ◌<◌, ◌≤◌, Bool, true, false, cond, List, [], ◌∷◌, ◌++◌, length, get_or, set, map, Option, Some, None, refl, sym, ap, subst, ◌∙◌, arith, inl, inr}
+use Rattle.std.proofs.Common.{◌≡◌, ◌≢◌, ◌==◌, ℕ, zero, suc, ◌+◌, ◌-◌, ◌^◌, ◌<◌, ◌≤◌, Bool, true, false, cond, List, [], ◌∷◌, ◌++◌, length, get_or, set, map, Option, Some, None, refl, sym, ap, subst, ◌∙◌, arith, inl, inr}
 use Rattle.std.specs.Prelude.{IsSome, option_and_then, option_map, slice_get, sum_by}
 use Rattle.std.specs.List.{All}
 use Rattle.std.proofs.lemmas.Bool.{cases_eq}
 use Rattle.std.proofs.lemmas.Bool.Decides.{nat_tests}
-use Rattle.std.proofs.lemmas.List.{get_or-set_same, length-set, map-set}
+use Rattle.std.proofs.lemmas.List.{get_or-set_same, length-map, length-set}
 use Rattle.std.proofs.lemmas.List.Elements.{All-cons, All-get_or, All-nil, All-set}
 use Rattle.std.proofs.lemmas.List.Sums.{sum_by-cons}
 use Rattle.std.proofs.lemmas.Option.{slice_get_within, slice_get-map, get_or_from_slice_get}
 use Rattle.vm_ids.specs.declared.numbers.FrameId.{FrameId}
 use Rattle.vm_model.specs.Machine.{numbered}
 use Rattle.vm_model.proofs.Parts.Lists.{at_number, numbered-map, numbered_place, sum_by_part, sum_by_same}
+use Rattle.std.proofs.lemmas.Grind.{common_steps}
+use Rattle.frame_pool.specs.Lending.{refill}
 use Rattle.frame_pool.specs.Pool.{Frames, bytes_of, is_held, with_bytes}
 use Rattle.flat_mm.specs.Frames.{Framed, framed_at, put_framed, with_framed}
 use Rattle.flat_mm.specs.Store.{AreWhole, Cache, HasWholePages, IsWhole, Page, Store, page_at, put_page, with_page}
@@ -18,10 +20,10 @@ use Rattle.flat_mm.specs.Layout.{AreFramesSound, IsFramed, cache_shown, caches_s
 use Rattle.flat_mm.specs.declared.framed.FramedPage.{FramedPage}
 
 -- a page in this frame counts once
-abbrev bit : ℕ → FramedPage → ℕ
+abbrev pub bit : ℕ → FramedPage → ℕ
 bit g p = cond (p.frame.0 == g) 1 0
 
-bit_same : (g : ℕ) (p : FramedPage) → p.frame.0 ≡ g → bit g p ≡ 1
+pub bit_same : (g : ℕ) (p : FramedPage) → p.frame.0 ≡ g → bit g p ≡ 1
 bit_same g p e = let t : (p.frame.0 == g) ≡ true = grind (arith, nat_tests) in ap (λ (b : Bool). cond b 1 0) t
 
 pub uses-cons : (g : ℕ) (p : FramedPage) (ps : List FramedPage) → uses g (p ∷ ps) ≡ bit g p + uses g ps
@@ -48,7 +50,7 @@ module _ (f : Frames) (g : ℕ) (w : List ℕ) where
       go (x ∷ xs) (suc k) (suc j) h = go xs k j (λ e. h (ap suc e))
 
   -- pages that aren't in the frame
-  shown_else : (ps : List FramedPage) → uses g ps ≡ 0 → map (page_shown after) ps ≡ map (page_shown f) ps
+  pub shown_else : (ps : List FramedPage) → uses g ps ≡ 0 → map (page_shown after) ps ≡ map (page_shown f) ps
   shown_else [] none = refl
   shown_else (p ∷ ps) none = elim (cases_eq p.frame.0 g) [
     | inl same ↦ absurd (omega (arith, uses-cons g p ps, bit_same g p same, none))
@@ -59,10 +61,10 @@ module _ (f : Frames) (g : ℕ) (w : List ℕ) where
   cache_else None none = refl
   cache_else (Some c) none = ap (λ (ps : List Page). Some (let d : Cache = record { segment = c.segment; pages = ps } in d)) (shown_else c.pages none)
 
-  abbrev cache_uses : Option Framed → ℕ
+  abbrev pub cache_uses : Option Framed → ℕ
   cache_uses o = uses g (pages_in o)
 
-  caches_else : (cs : List (Option Framed)) → sum_by cache_uses cs ≡ 0 → caches_shown after cs ≡ caches_shown f cs
+  pub caches_else : (cs : List (Option Framed)) → sum_by cache_uses cs ≡ 0 → caches_shown after cs ≡ caches_shown f cs
   caches_else [] none = refl
   caches_else (o ∷ cs) none =
       let sum = sum_by-cons cache_uses o cs in
@@ -79,7 +81,7 @@ module _ (f : Frames) (g : ℕ) (w : List ℕ) where
     here p e = ap (λ (b : List ℕ). let x : Page = record { bytes = b; changed = changed } in x) (ap (bytes_of after) e ∙ get_or-set_same f.bytes g w [] there)
 
     -- one of these pages is in it, and no other
-    pages_set : (ps : List FramedPage) (k : ℕ) (p : FramedPage) → slice_get ps k ≡ Some p → p.frame.0 ≡ g → uses g ps ≤ 1 → map (page_shown after) (set ps k (marked p)) ≡ set (map (page_shown f) ps) k written
+    pub pages_set : (ps : List FramedPage) (k : ℕ) (p : FramedPage) → slice_get ps k ≡ Some p → p.frame.0 ≡ g → uses g ps ≤ 1 → map (page_shown after) (set ps k (marked p)) ≡ set (map (page_shown f) ps) k written
     pages_set [] k p e is once = absurd (cc e)
     pages_set (x ∷ ps) zero p e is once =
         let same : x ≡ p = cc e in
@@ -171,7 +173,7 @@ module _ (f : Frames) (caches : List (Option Framed)) (loose : List FramedPage) 
     pub frame_within : p.frame.0 < length f.held
     frame_within = used_within p.frame.0 (omega (arith, in_caches))
 
-    once : times_used caches loose p.frame.0 ≡ 1
+    pub once : times_used caches loose p.frame.0 ≡ 1
     once = S.used p.frame.0 ∙ ap {B = ℕ} (λ (b : Bool). cond b 1 0) frame_held
 
     module _ (w : List ℕ) (changed : Bool) where
@@ -292,3 +294,87 @@ module _ (f : Frames) (caches : List (Option Framed)) (loose : List FramedPage) 
         set_same [] i h = refl
         set_same (x ∷ xs) zero h = refl
         set_same (x ∷ xs) (suc i) h = ap (λ ys. x ∷ ys) (set_same xs i (omega (arith, h)))
+
+-- A page that was looked up
+
+module _ (f : Frames) (caches : List (Option Framed)) where
+  pub found_seen : (n k : ℕ) (p : FramedPage) → framed_at caches n k ≡ Some p → (q : Page) → page_at (caches_shown f caches) n k ≡ Some q → q.bytes ≡ bytes_of f p.frame.0
+  found_seen n k p at q is =
+      let e : Some q ≡ Some (page_shown f p) = sym is ∙ page_seen f caches n k ∙ ap (option_map (page_shown f)) at in
+      let same : q ≡ page_shown f p = cc e in
+      ap (λ (x : Page). x.bytes) same
+
+  pub size_seen : (n : ℕ) → option_map (λ (c : Cache). length c.pages) (numbered (caches_shown f caches) n) ≡ option_map (λ (c : Framed). length c.pages) (numbered caches n)
+  size_seen n = ap (option_map (λ (c : Cache). length c.pages)) (numbered-map (cache_shown f) caches n) ∙ go (numbered caches n)
+    where
+      go : (o : Option Framed) → option_map (λ (c : Cache). length c.pages) (option_map (cache_shown f) o) ≡ option_map (λ (c : Framed). length c.pages) o
+      go None = refl
+      go (Some c) = ap (λ n. Some n) (length-map c.pages (page_shown f))
+
+  module _ (loose : List FramedPage) (S : IsFramed f caches loose) where
+    pub found_within : (n k : ℕ) (p : FramedPage) → framed_at caches n k ≡ Some p → p.frame.0 < length f.held
+    found_within n k p at = frame_within f caches loose S n k p (framed_there caches n k p at)
+
+    pub bytes_long : (n k : ℕ) (p : FramedPage) → framed_at caches n k ≡ Some p → length (bytes_of f p.frame.0) ≡ f.page
+    bytes_long n k p at = All-get_or (λ b. length b ≡ f.page) f.bytes p.frame.0 [] (omega (arith, found_within n k p at, S.frames.listed)) S.frames.whole
+
+    pub size_few : (n : ℕ) (c : Framed) → numbered caches n ≡ Some c → length c.pages ≤ 2 ^ 16
+    size_few n c at = omega (arith, sum_by_part (λ o. length (pages_in o)) caches (n - 1) (Some c) (at_number caches n c at), S.counted, S.frames.few)
+
+    -- Two pages are in two frames
+
+    two_uses : (ps : List FramedPage) (i j : ℕ) (p q : FramedPage) → i ≢ j → slice_get ps i ≡ Some p → slice_get ps j ≡ Some q → p.frame.0 ≡ q.frame.0 → 2 ≤ uses q.frame.0 ps
+    two_uses [] i j p q other a b same = absurd (cc a)
+    two_uses (x ∷ ps) zero zero p q other a b same = absurd (other refl)
+    two_uses (x ∷ ps) zero (suc j) p q other a b same =
+        let is : x ≡ p = cc a in
+        omega (arith, uses-cons q.frame.0 x ps, bit_same q.frame.0 x (ap (λ (y : FramedPage). y.frame.0) is ∙ same), uses_some ps j q b)
+    two_uses (x ∷ ps) (suc i) zero p q other a b same =
+        let is : x ≡ q = cc b in
+        omega (arith, uses-cons q.frame.0 x ps, bit_same q.frame.0 x (ap (λ (y : FramedPage). y.frame.0) is), subst (λ (n : ℕ). 1 ≤ uses n ps) same (uses_some ps i p a))
+    two_uses (x ∷ ps) (suc i) (suc j) p q other a b same = omega (arith, uses-cons q.frame.0 x ps, two_uses ps i j p q (λ e. other (ap suc e)) a b same)
+
+    two_caches : (cs : List (Option Framed)) (i j k l : ℕ) (c d : Framed) (p q : FramedPage) → i ≢ j → slice_get cs i ≡ Some (Some c) → slice_get cs j ≡ Some (Some d) → slice_get c.pages k ≡ Some p → slice_get d.pages l ≡ Some q
+        → p.frame.0 ≡ q.frame.0 → 2 ≤ sum_by (λ o. uses q.frame.0 (pages_in o)) cs
+    two_caches [] i j k l c d p q other a b x y same = absurd (cc a)
+    two_caches (o ∷ cs) zero zero k l c d p q other a b x y same = absurd (other refl)
+    two_caches (o ∷ cs) zero (suc j) k l c d p q other a b x y same =
+        let is : o ≡ Some c = cc a in
+        let here : 1 ≤ uses q.frame.0 (pages_in o) = subst (λ (n : ℕ). 1 ≤ uses n (pages_in o)) same (subst (λ (z : Option Framed). 1 ≤ uses p.frame.0 (pages_in z)) (sym is) (uses_some c.pages k p x)) in
+        omega (arith, sum_by-cons (λ o. uses q.frame.0 (pages_in o)) o cs, here, sum_by_part (λ o. uses q.frame.0 (pages_in o)) cs j (Some d) b, uses_some d.pages l q y)
+    two_caches (o ∷ cs) (suc i) zero k l c d p q other a b x y same =
+        let is : o ≡ Some d = cc b in
+        let here : 1 ≤ uses q.frame.0 (pages_in o) = subst (λ (z : Option Framed). 1 ≤ uses q.frame.0 (pages_in z)) (sym is) (uses_some d.pages l q y) in
+        omega (arith, sum_by-cons (λ o. uses q.frame.0 (pages_in o)) o cs, here, sum_by_part (λ o. uses q.frame.0 (pages_in o)) cs i (Some c) a, subst (λ (n : ℕ). 1 ≤ uses n c.pages) same (uses_some c.pages k p x))
+    two_caches (o ∷ cs) (suc i) (suc j) k l c d p q other a b x y same = omega (arith, sum_by-cons (λ o. uses q.frame.0 (pages_in o)) o cs, two_caches cs i j k l c d p q (λ e. other (ap suc e)) a b x y same)
+
+    pub apart_frames : (n k m l : ℕ) (p q : FramedPage) → framed_at caches n k ≡ Some p → framed_at caches m l ≡ Some q → (n ≡ m → k ≢ l) → p.frame.0 ≡ q.frame.0 → ⊥
+    apart_frames n k m l p q a b apart same =
+        let x = framed_there caches n k p a in
+        let y = framed_there caches m l q b in
+        let one = once f caches loose S m l q y in
+        elim (cases_eq n m) [
+          | inl e ↦ (
+              let d : Some x.cache ≡ Some y.cache = sym x.alive ∙ ap (numbered caches) e ∙ y.alive in
+              let c : x.cache ≡ y.cache = cc d in
+              omega (arith, one, sum_by_part (λ o. uses q.frame.0 (pages_in o)) caches (m - 1) (Some y.cache) (at_number caches m y.cache y.alive), two_uses y.cache.pages k l p q (apart e) (subst (λ (z : Framed). slice_get z.pages k ≡ Some p) c x.there) y.there same))
+          | inr other ↦ (
+              let i = numbered_place caches n x.cache x.alive in
+              let j = numbered_place caches m y.cache y.alive in
+              omega (arith, one, two_caches caches (n - 1) (m - 1) k l x.cache y.cache p q (λ e. other (omega (arith, e, i.0, j.0))) i.1 j.1 x.there y.there same))
+        ]
+
+-- what is lent as a slice comes back as long
+pub refilled : (old w : List ℕ) → length w ≡ length old → refill old w ≡ w
+refilled old w same = grind (arith, common_steps)
+
+pub whole_of : (f : Frames) (caches now : List (Option Framed)) (loose then : List FramedPage) → IsFramed f caches loose → caches ≡ now → loose ≡ then → AreWhole (store_shown f now then)
+whole_of f caches now loose then S same rest = whole_seen f now then (subst (λ (cs : List (Option Framed)). IsFramed f cs then) same (subst (λ (ps : List FramedPage). IsFramed f caches ps) rest S))
+
+-- a live cache is one of the frames' caches
+pub alive_some : (f : Frames) (caches : List (Option Framed)) (n : ℕ) → IsSome (numbered (caches_shown f caches) n) → (c : Framed) × (numbered caches n ≡ Some c)
+alive_some f caches n some = go (numbered caches n) refl (subst IsSome (numbered-map (cache_shown f) caches n) some)
+  where
+    go : (o : Option Framed) → numbered caches n ≡ o → IsSome (option_map (cache_shown f) o) → (c : Framed) × (numbered caches n ≡ Some c)
+    go None e h = absurd (cc h)
+    go (Some c) e h = (c, e)

@@ -1,5 +1,6 @@
 -- How page frames stand behind the pages of caches.
 pub mod Framing
+pub mod Loosening
 -- Actors and their regions.
 pub mod RegionRows
 pub mod Placing

@@ -294,7 +294,7 @@ impl PageStore {
           loose = [];
         } }
     {
-        for _ in 0..self.loose.len() {
+        while self.loose() > 0 {
             self.drop_one();
         }
     }
@@ -310,7 +310,7 @@ impl PageStore {
         ensures err { OnErr result (self.new ≡ self.old) }
         ensures whole { AreWhole self.new }
     {
-        for _ in 0..pages {
+        for _taken in 0..pages {
             match self.take_one() {
                 Ok(()) => {}
                 Err(NoMemory) => {

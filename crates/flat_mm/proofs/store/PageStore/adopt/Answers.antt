@@ -1,0 +1,12 @@
+use Rattle.std.proofs.Common.{◌∙◌, ap, refl, sym, List, ◌++◌, ◌∷◌, [], Some, Option}
+use Rattle.flat_mm.specs.Frames.{Framed}
+use Rattle.flat_mm.proofs.Framing.{whole_of, whole_seen}
+use Rattle.flat_mm.proofs.store.PageStore.adopt.Goals as goal
+
+pub returns-in_err-reserve-clause-whole : goal.returns-in_err-reserve-clause-whole
+returns-in_err-reserve-clause-whole c =
+    let i = c.self.inside in
+    whole_of i.frames i.caches.items c.reserve.new.self.items i.loose.items i.loose.items c.self.invariant (sym c.in_err-reserve.ensures.items) refl
+
+pub returns-clause-whole : goal.returns-clause-whole
+returns-clause-whole c = whole_seen c.self.inside.frames c.push_reserved.new.self.items c.replace-pages.new.dest.items ?
