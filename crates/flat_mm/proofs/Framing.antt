@@ -1,7 +1,8 @@
 -- How page frames stand behind the pages of caches.
 use Rattle.std.proofs.Common.{◌≡◌, ◌≢◌, ◌==◌, ℕ, zero, suc, ◌+◌, ◌-◌, ◌^◌, ◌<◌, ◌≤◌, Bool, true, false, cond, List, [], ◌∷◌, ◌++◌, length, get_or, set, map, Option, Some, None, refl, sym, ap, subst, ◌∙◌, arith, inl, inr}
-use Rattle.std.specs.Prelude.{IsSome, option_and_then, option_map, slice_get, sum_by}
-use Rattle.std.specs.List.{All}
+use Rattle.std.specs.Prelude.{◌||◌, IsSome, option_and_then, option_map, slice_get, sum_by}
+use Rattle.std.specs.List.{All, list_any}
+use Rattle.std.specs.Option.{option_map_or}
 use Rattle.std.proofs.lemmas.Bool.{cases_eq}
 use Rattle.std.proofs.lemmas.Bool.Decides.{nat_tests}
 use Rattle.std.proofs.lemmas.List.{get_or-set_same, length-map, length-set}
@@ -9,13 +10,14 @@ use Rattle.std.proofs.lemmas.List.Elements.{All-cons, All-get_or, All-nil, All-s
 use Rattle.std.proofs.lemmas.List.Sums.{sum_by-cons}
 use Rattle.std.proofs.lemmas.Option.{slice_get_within, slice_get-map, get_or_from_slice_get}
 use Rattle.vm_ids.specs.declared.numbers.FrameId.{FrameId}
+use Rattle.vm_ids.specs.declared.numbers.SegId.{SegId}
 use Rattle.vm_model.specs.Machine.{numbered}
 use Rattle.vm_model.proofs.Parts.Lists.{at_number, numbered-map, numbered_place, sum_by_part, sum_by_same}
 use Rattle.std.proofs.lemmas.Grind.{common_steps}
 use Rattle.frame_pool.specs.Lending.{refill}
 use Rattle.frame_pool.specs.Pool.{Frames, bytes_of, is_held, with_bytes}
-use Rattle.flat_mm.specs.Frames.{Framed, framed_at, put_framed, with_framed}
-use Rattle.flat_mm.specs.Store.{AreWhole, Cache, HasWholePages, IsWhole, Page, Store, page_at, put_page, with_page}
+use Rattle.flat_mm.specs.Frames.{Framed, framed_at, is_framed_of, put_framed, with_framed}
+use Rattle.flat_mm.specs.Store.{AreWhole, Cache, HasWholePages, IsWhole, Page, Store, is_of, page_at, put_page, size_of, with_page}
 use Rattle.flat_mm.specs.Layout.{AreFramesSound, IsFramed, cache_shown, caches_shown, free_frames, page_shown, page_total, pages_in, store_shown, times_used, uses}
 use Rattle.flat_mm.specs.declared.framed.FramedPage.{FramedPage}
 
@@ -378,3 +380,17 @@ alive_some f caches n some = go (numbered caches n) refl (subst IsSome (numbered
     go : (o : Option Framed) → numbered caches n ≡ o → IsSome (option_map (cache_shown f) o) → (c : Framed) × (numbered caches n ≡ Some c)
     go None e h = absurd (cc h)
     go (Some c) e h = (c, e)
+
+pub size_some : (o : Option Cache) → 1 ≤ size_of o → IsSome o
+size_some None h = absurd (omega (arith, h))
+size_some (Some c) h = refl
+
+pub no_loose : (f : Frames) (ps : List FramedPage) → map (page_shown f) ps ≡ [] → ps ≡ []
+no_loose f [] e = refl
+no_loose f (p ∷ ps) e = absurd (cc e)
+
+-- whether a segment names one of the caches
+pub any_seen : (f : Frames) (seg : SegId) (cs : List (Option Framed)) → list_any (is_of seg) (caches_shown f cs) ≡ list_any (is_framed_of seg) cs
+any_seen f seg [] = refl
+any_seen f seg (None ∷ cs) = any_seen f seg cs
+any_seen f seg (Some c ∷ cs) = ap (λ b. option_map_or (λ (s : SegId). s.0 == seg.0) c.segment false || b) (any_seen f seg cs)

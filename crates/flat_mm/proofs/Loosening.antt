@@ -9,6 +9,7 @@ use Rattle.std.proofs.lemmas.List.{drop-drop, drop-map, get_or-set_same, length-
 use Rattle.std.proofs.lemmas.List.Elements.{All-head, All-set, All-tail}
 use Rattle.std.proofs.lemmas.List.Sums.{sum_by-append, sum_by-cons, sum_by_push}
 use Rattle.std.proofs.lemmas.Option.{slice_get-get_or}
+use Rattle.vm_ids.specs.declared.numbers.SegId.{SegId}
 use Rattle.vm_model.specs.Answering.{overwrite}
 use Rattle.vm_model.specs.Machine.{numbered, zero_page}
 use Rattle.vm_model.proofs.Parts.Lists.{at_number, numbered-map, sum_by_swap}
@@ -327,3 +328,16 @@ pub taken_back : (s now next : Store) (n : ℕ) → n ≤ s.free → s.loose ≡
 taken_back s now next n few none is then =
     then ∙ ap (λ (t : Store). record t { free = t.free + length t.loose; loose = [] }) is
     ∙ (λ i. record s { free = (let e : s.free - n + length (replicate n (zeros s.page_bytes)) ≡ s.free = omega (arith, few, length-replicate n (zeros s.page_bytes)) in e) i; loose = sym none i })
+
+-- The loose pages become a cache
+
+abbrev made : Option SegId → List FramedPage → Framed
+made segment loose = record { segment = segment; pages = loose }
+
+pub adopted : (f : Frames) (caches : List (Option Framed)) (loose : List FramedPage) → IsFramed f caches loose → (segment : Option SegId) (now : List (Option Framed)) (then : List FramedPage)
+    → now ≡ caches ++ Some (record { segment = segment; pages = loose }) ∷ [] → then ≡ [] → IsFramed f now then
+adopted f caches loose S segment now then is none = subst (IsFramed f now) (sym none) (subst (λ (cs : List (Option Framed)). IsFramed f cs []) (sym is) (record {
+  frames = S.frames;
+  used = λ g. omega (arith, sum_by_push (cache_uses f g []) caches (Some (made segment loose))) ∙ S.used g;
+  counted = omega (arith, sum_by_push (λ o. length (pages_in o)) caches (Some (made segment loose)), S.counted);
+}))

@@ -1,5 +1,6 @@
 -- Pages and caches as they stand: each page by its frame.
-use Rattle.std.specs.Prelude.{ℕ, ◌-◌, List, Option, option_and_then, option_map, slice_get, slice_set}
+use Rattle.std.specs.Prelude.{ℕ, ◌-◌, ◌==◌, Bool, false, List, Option, None, Some, option_and_then, option_map, slice_get, slice_set}
+use Rattle.std.specs.Option.{option_map_or}
 use Rattle.vm_ids.specs.declared.numbers.SegId.{SegId}
 use Rattle.vm_model.specs.Machine.{numbered}
 use Rattle.flat_mm.specs.declared.framed.FramedPage.{FramedPage}
@@ -21,3 +22,8 @@ put_framed page p c = record c { pages = slice_set c.pages page p }
 abbrev pub with_framed : List (Option Framed) → ℕ → ℕ → FramedPage → List (Option Framed)
 with_framed caches cache page p =
     slice_set caches (cache - 1) (option_map (put_framed page p) (numbered caches cache))
+
+-- a live cache of this segment
+abbrev pub is_framed_of : SegId → Option Framed → Bool
+is_framed_of seg None = false
+is_framed_of seg (Some c) = option_map_or (λ (s : SegId). s.0 == seg.0) c.segment false

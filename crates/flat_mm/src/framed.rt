@@ -1,5 +1,6 @@
 // A cache whose pages are in page frames.
-ghost use Rattle.std.specs.Prelude.{◌≡◌, ◌+◌, ◌≤◌, ◌<◌, length, take, drop, slice_get, slice_set, Some};
+ghost use Rattle.std.specs.Prelude.{◌≡◌, ◌==◌, false, ◌+◌, ◌≤◌, ◌<◌, length, take, drop, slice_get, slice_set, Some};
+ghost use Rattle.std.specs.Option.{option_map_or};
 ghost use Rattle.vm_model.specs.Answering.{overwrite};
 
 use std::marker::Model;
@@ -38,6 +39,15 @@ impl FramedCache {
         ensures { result ≡ self.now.segment }
     {
         self.segment
+    }
+
+    pub(crate) fn is_of(&self, seg: SegId) -> bool
+        ensures { result ≡ option_map_or (λ s. s.0 == seg.0) self.now.segment false }
+    {
+        match self.segment {
+            Some(named) => named.0 == seg.0,
+            None => false,
+        }
     }
 
     pub(crate) fn size(&self) -> usize

@@ -6,7 +6,7 @@ ghost use Rattle.vm_ids.specs.Counting.{Counted};
 ghost use Rattle.vm_ids.specs.Held.{page_of};
 ghost use Rattle.vm_model.specs.Answering.{overwrite};
 ghost use Rattle.vm_model.specs.Machine.{numbered, zero_page};
-ghost use Rattle.flat_mm.specs.Frames.{framed_at, with_framed};
+ghost use Rattle.flat_mm.specs.Frames.{framed_at, is_framed_of, with_framed};
 ghost use Rattle.flat_mm.specs.Store.{AreWhole, Page, is_of, live_in, page_at, put_pages, size_of, with_cache, with_loose, with_page, zeros};
 
 use crate::framed::{FramedCache, FramedPage};
@@ -49,6 +49,20 @@ fn page_in(caches: &[Option<FramedCache>], cache: CacheId, page: PageNo) -> Fram
         Some(cache) => cache.page(page),
         None => unreachable!(),
     }
+}
+
+// Whether one of the live caches is of the segment.
+fn any_of(caches: &[Option<FramedCache>], seg: SegId) -> bool
+    ensures { result ≡ list_any (is_framed_of seg) caches.now }
+{
+    for cache in caches {
+        if let Some(cache) = cache {
+            if cache.segment() == Some(seg) {
+                return true;
+            }
+        }
+    }
+    false
 }
 
 // Says of a page of a live cache whether it was changed. It tells its frame.
@@ -172,14 +186,7 @@ impl PageStore {
     pub(crate) fn has(&self, seg: SegId) -> bool
         ensures { result ≡ list_any (is_of seg) self.now.caches }
     {
-        for cache in &self.caches {
-            if let Some(cache) = cache {
-                if cache.segment() == Some(seg) {
-                    return true;
-                }
-            }
-        }
-        false
+        any_of(&self.caches, seg)
     }
 
     /// The bytes of a page of a live cache.
@@ -342,7 +349,10 @@ impl PageStore {
         ensures page { M.page_bytes mapper.new ≡ M.page_bytes mapper.old }
     {
         let frame = self.loose[at].frame;
-        self.loose[at].changed = false;
+        self.loose[at] = FramedPage {
+            frame,
+            changed: false,
+        };
         mapper.pull_in(seg, page, self.frames.bytes_mut(frame))
     }
 
