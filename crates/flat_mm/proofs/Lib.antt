@@ -8,3 +8,5 @@ pub mod Placing
 pub mod NeverFull
 -- Calls of the manager, from those of the machine.
 pub mod Calls
+-- Calls that change actors alone.
+pub mod Acting

@@ -42,7 +42,6 @@ module _ (m : Machine) where
   each_place actor address n go goes = at (place m actor address n) refl
     where
       at : (o : Result Place Refusal) → place m actor address n ≡ o → IsOther (with_ok o m go)
-      unfolding with_ok
       at (Ok p) is = goes p
       at (Err r) is = λ e. place_other m.page_bytes (actor_of m actor) address n (is ∙ ap (λ (r : Refusal). let x : Result Place Refusal = Err r in x) (let same : r ≡ refusals.Full = cc e in same))
 

@@ -319,16 +319,16 @@ abbrev pub with_locked : ℕ → Bool → Actors → Actors
 with_locked n b t = record t { actors = replace_in n (with_lock b) t.actors }
 
 -- the region of which this is told
-pub record IsToldOf (n : ℕ) (t : Actors) (status : model.RegionStatus) : Type 0 where
+pub record IsToldOf (n : ℕ) (t : Actors) (status : RegionStatus) : Type 0 where
   pub region : model.Region
   pub found : region_with n t.actors ≡ Some region
   pub mapping : status.mapping ≡ mapping_of region
   pub locked : status.locked ≡ region.locked
 
-pub told_of : (n : ℕ) (t : Actors) (status : model.RegionStatus) → status_with n 1 t.actors ≡ Some status → IsToldOf n t status
+pub told_of : (n : ℕ) (t : Actors) (status : RegionStatus) → status_with n 1 t.actors ≡ Some status → IsToldOf n t status
 told_of n t status e =
     let told = is_told n 1 t.actors status e in
-    record { region = told.region; found = told.found; mapping = ap (λ (s : model.RegionStatus). s.mapping) told.told; locked = ap (λ (s : model.RegionStatus). s.locked) told.told }
+    record { region = told.region; found = told.found; mapping = ap (λ (s : RegionStatus). s.mapping) told.told; locked = ap (λ (s : RegionStatus). s.locked) told.told }
 
 pub untold_of : (n : ℕ) (t : Actors) → status_with n 1 t.actors ≡ None → region_with n t.actors ≡ None
 untold_of n t e = none_of (region_with n t.actors) (sym (told_some n 1 t.actors) ∙ ap is_some e)
@@ -338,9 +338,6 @@ untold_of n t e = none_of (region_with n t.actors) (sym (told_some n 1 t.actors)
     none_of (Some r) f = absurd (cc f)
 
 module _ (caches : List (Option model.Cache)) (frames : ℕ) (t : Actors) (n : ℕ) where
-  abbrev m : model.Machine
-  m = machine_with caches frames t
-
   pub lock_none : region_with n t.actors ≡ None → lock_of (machine_with caches frames t) n ≡ refuse (machine_with caches frames t) refusals.NoRegion
   unfolding lock_of with_some
   lock_none found = rw found refl

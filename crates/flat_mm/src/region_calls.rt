@@ -70,11 +70,10 @@ impl FlatMm {
         ensures { CallDone flat self.old
             (Command.Protect region prot) (done_by result) self.new }
     {
-        if self.contexts.protect(region, prot) {
-            Ok(())
-        } else {
-            Err(Trouble::Refused(Refusal::NoRegion))
+        if !self.contexts.protect(region, prot) {
+            return Err(Trouble::Refused(Refusal::NoRegion));
         }
+        Ok(())
     }
 
     /// Unlocks a region. Refused as `NoRegion`, or as `NotLocked` where it isn't locked, in this
