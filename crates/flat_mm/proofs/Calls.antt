@@ -77,7 +77,7 @@ flat_done p q command a fits kept E = record {
 pub flat_tells : (p : Manager) (command : Command) (a : Answer) → FitsCall p command a p → AnswersWithin eager (machine_in p) command a (machine_in p) → AnswersWithin flat p command a p
 flat_tells p command a fits E = λ h v. within p.store.free (eager_state h (machine_in p)) (eager_state h (machine_in p)) command a [] no_counts (fits h h) (E h v.ready)
 
-pub limited : (room : ℕ) (c d : MapperCounts) (before after : State) (command : Command) (a : Answer) → FitsRoom room before.machine command a after.machine → CallIs c d before command a after → LimitedCall room c d before command a after
+abbrev pub limited : (room : ℕ) (c d : MapperCounts) (before after : State) (command : Command) (a : Answer) → FitsRoom room before.machine command a after.machine → CallIs c d before command a after → LimitedCall room c d before command a after
 limited room c d before after command a fits E = record { pushes = E.pushes; rises = E.rises; rose = E.rose; is = within room before after command a E.pushes E.rises fits E.is }
 
 module _ {X : Type 0} (M : GhostsOfMapper X) (before after : X) (p q : Manager) (command : Command) (a : Answer) (fits : FitsCall p command a q) (kept : IfSome (M.held after) (λ h. AreKept (segments_in h) q.store.caches)) where
