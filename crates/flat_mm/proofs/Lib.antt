@@ -10,3 +10,11 @@ pub mod NeverFull
 pub mod Calls
 -- Calls that change actors alone.
 pub mod Acting
+-- Caches are made.
+pub mod Making
+-- Loads and stores.
+pub mod Accesses
+-- The mapper is asked whether pages may be written.
+pub mod WriteAccess
+-- Pages are put into a cache.
+pub mod Putting

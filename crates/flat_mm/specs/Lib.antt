@@ -4,5 +4,5 @@ pub mod Layout
 pub mod Manager
 pub mod Maps
 pub mod Placed
+pub mod Spans
 pub mod Store
-pub mod WriteAccess

@@ -1,6 +1,7 @@
 -- The pages of all caches, without the frames that they are in.
-use Rattle.std.specs.Prelude.{◌≡◌, ◌==◌, ◌-◌, ◌+◌, ℕ, Bool, true, false, List, length, All, Option, None, Some, option_and_then, option_map, slice_get, slice_set, sum_by, replicate}
+use Rattle.std.specs.Prelude.{◌≡◌, ◌==◌, ◌-◌, ◌+◌, ℕ, drop, map, take, Bool, true, false, List, length, All, Option, None, Some, option_and_then, option_map, slice_get, slice_set, sum_by, replicate}
 use Rattle.std.specs.Option.{option_map_or}
+use Rattle.vm_ids.specs.declared.command.Span.{Span}
 use Rattle.vm_ids.specs.declared.numbers.SegId.{SegId}
 use Rattle.vm_model.specs.Answering.{overwrite}
 use Rattle.vm_model.specs.Machine.{numbered, zero_page}
@@ -62,6 +63,34 @@ with_loose pages s = record s { loose = pages }
 
 abbrev pub zeros : ℕ → Page
 zeros page_bytes = record { bytes = zero_page page_bytes; changed = false }
+
+abbrev pub temporary : ℕ → ℕ → Cache
+temporary page_bytes pages = record { segment = None; pages = replicate pages (zeros page_bytes) }
+
+-- the pages of a cache, or none where it isn't alive
+abbrev pub pages_of : Option Cache → List Page
+pages_of c = option_map_or (λ (c : Cache). c.pages) c []
+
+abbrev pub touched : Page → Page
+touched p = record p { changed = true }
+
+-- the pages of the source of a copy or a move
+abbrev pub source_of : Store → Span → ℕ → List Page
+source_of s span pages = take pages (drop span.from_page.0 (pages_of (numbered s.caches span.from.0)))
+
+-- the first so many pages of the destination are what those of the source are
+abbrev pub copied : Store → Span → ℕ → Store
+copied s span pages = record s {
+  caches = with_cache span.to.0 (put_pages span.to_page.0 (map touched (source_of s span pages)))
+      s.caches;
+}
+
+-- the first so many pages of the source are zeros
+abbrev pub cleared : Store → Span → ℕ → Store
+cleared s span pages = record s {
+  caches = with_cache span.from.0
+      (put_pages span.from_page.0 (replicate pages (touched (zeros s.page_bytes)))) s.caches;
+}
 
 -- each page has all its bytes
 abbrev pub IsWhole : ℕ → Page → Type 0

@@ -1,17 +1,15 @@
 // Bytes are loaded and stored.
-ghost use Rattle.std.specs.Prelude.{◌≡◌, ◌≤◌, ◌<◌, ◌+◌, IfErr, IfOk, IsSome, drop, length, take, true};
+ghost use Rattle.std.specs.Prelude.{◌≡◌, ◌≤◌, ◌+◌, Err, IfErr, IfOk, drop, length, take};
 ghost use Rattle.vm_ids.specs.Accessing.{command_for};
 ghost use Rattle.vm_model.specs.Answering.{answer_by};
 ghost use Rattle.vm_model.specs.Asking.{IsWellFormed};
 ghost use Rattle.vm_model.specs.Place.{place};
-ghost use Rattle.gmi_calls.specs.Calling.{Fits, MapperCall, done_by};
+ghost use Rattle.gmi_calls.specs.Calling.{Fits, done_by};
 ghost use Rattle.gmi_calls.specs.Parking.{AccessCall, NoPull};
 ghost use Rattle.flat_mm.specs.Accessing.{IsPlacedAt};
 ghost use Rattle.flat_mm.specs.Manager.{IsValid, flat, machine_in};
-ghost use Rattle.flat_mm.specs.Store.{page_at};
 
 use crate::FlatMm;
-use crate::write_access::may_write;
 use regions::Place;
 use vm_ids::{Access, ActorId, Answer, Command, FaultAt, Piece, Refusal, Reply, Trouble};
 use vm_port::Mapper;
@@ -88,7 +86,7 @@ impl FlatMm {
         if !at.prot.write {
             return Err(Trouble::Refused(Refusal::Protection));
         }
-        match may_write(&self.store, at.cache, at.page, mapper) {
+        match self.may_change(at.cache, at.page, 1, mapper) {
             Ok(true) => {
                 self.store.write(at.cache, at.page, at.at as usize, bytes);
                 Ok(())

@@ -1,7 +1,8 @@
 // Caches are made and taken away.
-ghost use Rattle.std.specs.Prelude.{◌≡◌, ◌≤◌, ◌+◌};
+ghost use Rattle.std.specs.Prelude.{◌≡◌, ◌≤◌, ◌+◌, length, nat_le, nat_lt, Ok};
 ghost use Rattle.vm_model.specs.Answering.{answer_by};
-ghost use Rattle.gmi_calls.specs.Calling.{CallDone, Fits, MapperCall, done_by};
+ghost use Rattle.vm_model.specs.Machine.{live_pages};
+ghost use Rattle.gmi_calls.specs.Calling.{AnswersWithin, CallDone, Fits, MapperCall, done_by};
 ghost use Rattle.flat_mm.specs.Manager.{IsValid, flat, machine_in};
 
 use crate::FlatMm;
@@ -15,8 +16,17 @@ use vm_model::{LIVE_PAGES, MOST_MADE};
 use vm_port::Mapper;
 
 impl FlatMm {
+    // Whether as many caches were made as may be.
+    fn has_made_all(&self) -> bool
+        ensures { result ≡ nat_le MOST_MADE (length (machine_in self.now).caches) }
+    {
+        self.store.made() >= MOST_MADE as usize
+    }
+
     // Whether so many live pages more would be too many.
-    fn passes_live_pages(&self, pages: u32) -> bool {
+    fn passes_live_pages(&self, pages: u32) -> bool
+        ensures { result ≡ nat_lt LIVE_PAGES (live_pages (machine_in self.now) + pages) }
+    {
         self.store.live() as u64 + pages as u64 > LIVE_PAGES as u64
     }
 
@@ -28,26 +38,18 @@ impl FlatMm {
         ensures { CallDone flat self.old
             (Command.MakeTemp pages) (answer_by Reply.Cache result) self.new }
     {
-        if self.store.made() >= MOST_MADE as usize || self.passes_live_pages(pages) {
+        if self.has_made_all() {
+            return Err(Trouble::Refused(Refusal::TooMany));
+        }
+        if self.passes_live_pages(pages) {
             return Err(Trouble::Refused(Refusal::TooMany));
         }
         if pages > self.store.free() {
             return Err(Trouble::Refused(Refusal::Full));
         }
-        if let Err(NoMemory) = self.store.take_loose(pages) {
-            return Err(Trouble::Memory);
-        }
-        self.adopt(None)
-    }
-
-    // Makes a cache of the loose pages, or gives them up where there is no memory.
-    fn adopt(&mut self, segment: Option<SegId>) -> Result<CacheId, Trouble> {
-        match self.store.adopt(segment) {
+        match self.store.make(pages) {
             Ok(cache) => Ok(cache),
-            Err(NoMemory) => {
-                self.store.drop_loose();
-                Err(Trouble::Memory)
-            }
+            Err(NoMemory) => Err(Trouble::Memory),
         }
     }
 
@@ -67,7 +69,7 @@ impl FlatMm {
         if self.store.has(seg) {
             return Err(Trouble::Refused(Refusal::SegmentInUse));
         }
-        if self.store.made() >= MOST_MADE as usize {
+        if self.has_made_all() {
             return Err(Trouble::Refused(Refusal::TooMany));
         }
         let Ok(size) = mapper.size(seg) else {
@@ -86,7 +88,10 @@ impl FlatMm {
             return Err(Trouble::Memory);
         }
         match pull_loose(&mut self.store, seg, PageNo(0), mapper) {
-            Ok(()) => self.adopt(Some(seg)),
+            Ok(()) => match self.store.adopt(Some(seg)) {
+                Ok(cache) => Ok(cache),
+                Err(NoMemory) => Err(Trouble::Memory),
+            },
             Err(_) => {
                 self.store.drop_loose();
                 Err(Trouble::Mapper(FaultAt::Opening))
@@ -125,7 +130,10 @@ impl FlatMm {
     }
 
     /// The node of a page, which owns itself. Refused as `NoCache` or `OutOfCache`, in this order.
-    pub fn chain(&self, cache: CacheId, page: PageNo) -> Result<ChainList, Trouble> {
+    pub fn chain(&self, cache: CacheId, page: PageNo) -> Result<ChainList, Trouble>
+        ensures { AnswersWithin flat self.now
+            (Command.Chain cache page) (answer_by Reply.Chain result) self.now }
+    {
         let Some(size) = self.store.size(cache) else {
             return Err(Trouble::Refused(Refusal::NoCache));
         };
@@ -139,7 +147,9 @@ impl FlatMm {
     }
 
     /// The live pages; no working node, and no page copied by a forest.
-    pub fn stat(&self) -> Counts {
+    pub fn stat(&self) -> Counts
+        ensures { AnswersWithin flat self.now Command.Stat (Ok (Reply.Stat result)) self.now }
+    {
         Counts {
             live: self.store.live(),
             working: 0,

@@ -7,7 +7,7 @@ ghost use Rattle.vm_ids.specs.Held.{page_of};
 ghost use Rattle.vm_model.specs.Answering.{overwrite};
 ghost use Rattle.vm_model.specs.Machine.{numbered, zero_page};
 ghost use Rattle.flat_mm.specs.Frames.{framed_at, is_framed_of, with_framed};
-ghost use Rattle.flat_mm.specs.Store.{AreWhole, Page, is_of, live_in, page_at, put_pages, size_of, with_cache, with_loose, with_page, zeros};
+ghost use Rattle.flat_mm.specs.Store.{AreWhole, Page, is_of, live_in, page_at, put_pages, size_of, temporary, with_cache, with_loose, with_page, zeros};
 
 use crate::framed::{FramedCache, FramedPage};
 use frame_pool::FramePool;
@@ -356,7 +356,8 @@ impl PageStore {
         mapper.pull_in(seg, page, self.frames.bytes_mut(frame))
     }
 
-    /// Makes a cache of the loose pages, with the next number.
+    /// Makes a cache of the loose pages, with the next number. Where there is no memory for it they
+    /// are given up.
     pub(crate) fn adopt(&mut self, segment: Option<SegId>) -> Result<CacheId, NoMemory>
         requires { length self.old.caches < 2 ^ 16 }
         ensures number { IfOk result (λ cache. cache.0 ≡ length self.old.caches + 1) }
@@ -365,14 +366,42 @@ impl PageStore {
               ++ Some (record { segment = segment; pages = self.old.loose }) ∷ [];
           loose = [];
         }) }
-        ensures err { OnErr result (self.new ≡ self.old) }
+        ensures err { OnErr result (self.new ≡ record self.old {
+          free = self.old.free + length self.old.loose;
+          loose = [];
+        }) }
         ensures whole { AreWhole self.new }
     {
-        self.caches.reserve(1)?;
+        match self.caches.reserve(1) {
+            Ok(()) => {}
+            Err(_) => {
+                self.drop_loose();
+                return Err(NoMemory);
+            }
+        }
         let pages = mem::replace(&mut self.loose, Vec::new(self.alloc));
         self.caches
             .push_reserved(Some(FramedCache::new(segment, pages)));
         Ok(CacheId(self.caches.len() as u32))
+    }
+
+    /// Makes a temporary cache of so many zero pages, with the next number.
+    pub(crate) fn make(&mut self, pages: u32) -> Result<CacheId, NoMemory>
+        requires few { length self.old.caches < 2 ^ 16 }
+        requires none { self.old.loose ≡ [] }
+        requires room { pages ≤ self.old.free }
+        ensures number { IfOk result (λ cache. cache.0 ≡ length self.old.caches + 1) }
+        ensures ok { OnOk result (self.new ≡ record self.old {
+          free = self.old.free - pages;
+          caches = self.old.caches ++ Some (temporary self.old.page_bytes pages) ∷ [];
+        }) }
+        ensures err { OnErr result (self.new ≡ self.old) }
+        ensures whole { AreWhole self.new }
+    {
+        match self.take_loose(pages) {
+            Ok(()) => self.adopt(None),
+            Err(NoMemory) => Err(NoMemory),
+        }
     }
 
     /// Takes a live cache away; its pages are loose then.
