@@ -4,7 +4,7 @@ use Rattle.std.specs.Prelude.{◌||◌, IfErr, IfOk, IfSome, IsSome, Ok, Err, Re
 use Rattle.std.specs.List.{list_any, range_with_len}
 use Rattle.std.specs.Option.{option_map_or}
 use Rattle.std.proofs.lemmas.Bool.{cases_eq}
-use Rattle.std.proofs.lemmas.List.{length-set, map-set}
+use Rattle.std.proofs.lemmas.List.{length-map, length-set, map-set}
 use Rattle.std.proofs.lemmas.Option.{slice_get-get_or, slice_get-map, slice_get_within}
 use Rattle.vm_ids.specs.Counting.{no_counts}
 use Rattle.vm_ids.specs.Denying.{denies}
@@ -193,3 +193,29 @@ written_machine s t n k p q P at bytes here page is =
     ap (λ (cs : List (Option model.Cache)). machine_with cs s.frames t)
     (put_plain s n k p P q ∙ (λ i. set (caches_in s) (sym here i - 1) (Some (put_page (sym page i) ((is ∙ ap (overwrite at.byte bytes) (sym seen)) i) (plain P.cache)))))
     ∙ sym (ap (λ (o : Option model.Cache). option_map_or (λ c. put_cache m at.region.cache (put_page at.page (overwrite at.byte bytes (page_at m at)) c)) o m) (ap (λ j. numbered (caches_in s) j) here ∙ cache_plain s n k p P))
+
+-- A page below the size of its cache
+
+pub page_some : (s : Store) (n k : ℕ) → k < pages_in (numbered (caches_in s) n) → IsSome (store.page_at s.caches n k)
+page_some s n k less = go (numbered s.caches n) (subst (λ (o : Option model.Cache). k < pages_in o) (numbered-map plain s.caches n) less)
+  where
+    go : (o : Option Cache) → k < pages_in (option_map plain o) → IsSome (option_and_then (λ (c : Cache). slice_get c.pages k) o)
+    go None less = absurd (omega (arith, less))
+    go (Some c) less = subst IsSome (sym (slice_get-get_or c.pages k (record { bytes = []; changed = false }) (omega (arith, less, length-map c.pages (λ (p : Page). p.bytes))))) refl
+
+-- a page that was changed may be written
+pub changed_free : (told : Option Held) (s : Store) (n k : ℕ) (p : Page) (P : IsPageAt s.caches n k p) (m : Machine) (seg : SegId) → m.caches ≡ caches_in s → segment_of m n ≡ Some seg.0 → option_map (λ (q : Page). q.changed) (store.page_at s.caches n k) ≡ Some true
+    → IfSome told (λ h. AreKept (segments_in h) s.caches) → IfSome told (λ h. true ≡ not (is_denied_page m (segments_in h) n k))
+changed_free None s n k p P m seg caches named changed kept = tt
+changed_free (Some h) s n k p P m seg caches named changed kept =
+    let c : Some p.changed ≡ Some true = ap (option_map (λ (q : Page). q.changed)) (sym (page_is s n k p P)) ∙ changed in
+    let is : p.changed ≡ true = cc c in
+    let x : option_map (λ (s : SegId). s.0) P.cache.segment ≡ Some seg.0 = sym (segment_plain s m n caches ∙ ap (λ (o : Option Cache). option_map (λ (s : SegId). s.0) (option_and_then (λ (c : Cache). c.segment) o)) P.alive) ∙ named in
+    let free : denies h.denied seg.0 k ≡ false = granted P.cache.segment refl x is in
+    ap not (sym (ap (λ (o : Option ℕ). option_map_or (λ seg. denies h.denied seg k) o false) named ∙ free))
+  where
+    granted : (o : Option SegId) → P.cache.segment ≡ o → option_map (λ (s : SegId). s.0) o ≡ Some seg.0 → p.changed ≡ true → denies h.denied seg.0 k ≡ false
+    granted None e x is = absurd (cc x)
+    granted (Some t) e x is =
+        let same : t.0 ≡ seg.0 = cc x in
+        subst (λ j. denies h.denied j k ≡ false) same ((kept n k P.cache t p P.alive e P.at).granted is)

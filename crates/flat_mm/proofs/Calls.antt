@@ -48,7 +48,7 @@ abbrev pub FitsRoom : ℕ → Machine → Command → Answer → Machine → Typ
 FitsRoom room m command (Err trouble) next = Unit {0}
 FitsRoom room m command (Ok reply) next = pages_needed m command next ≤ room
 
-within : (room : ℕ) (before after : State) (command : Command) (a : Answer) (pushes : List (ℕ × ℕ)) (rises : MapperCounts) → FitsRoom room before.machine command a after.machine → AnswerIs before command a pushes rises after
+pub within : (room : ℕ) (before after : State) (command : Command) (a : Answer) (pushes : List (ℕ × ℕ)) (rises : MapperCounts) → FitsRoom room before.machine command a after.machine → AnswerIs before command a pushes rises after
     → AnswerWithin (Some room) before command a pushes rises after
 within room before after command (Ok r) pushes rises fits is = (is, fits)
 within room before after command (Err (troubles.Refused refusals.Full)) pushes rises fits is = absurd (never_full after.segments before.machine after.machine before.forest command rises is.outcome)

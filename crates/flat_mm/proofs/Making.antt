@@ -1,23 +1,26 @@
 -- Caches are made.
 use Rattle.std.proofs.Common.{◌≡◌, ◌≢◌, ℕ, zero, suc, ◌+◌, ◌-◌, ◌<◌, ◌≤◌, Bool, true, false, List, [], ◌∷◌, ◌++◌, length, map, replicate, Option, Some, None, refl, sym, ap, subst, ◌∙◌, arith, inl, inr}
-use Rattle.std.specs.Prelude.{◌||◌, IfSome, Ok, Err, nat_le, nat_lt, option_map, slice_get, sum_by}
+use Rattle.std.specs.Prelude.{◌||◌, IfSome, OnErr, OnOk, Result, Ok, Err, nat_le, nat_lt, option_map, slice_get, sum_by}
 use Rattle.std.specs.List.{All}
 use Rattle.std.proofs.lemmas.Bool.{cases_eq}
+use Rattle.std.proofs.lemmas.Bool.Decides.{nat_tests}
 use Rattle.std.proofs.lemmas.List.{length-append, length-map, length-replicate, map_push}
-use Rattle.std.proofs.lemmas.List.Elements.{All-weaker}
+use Rattle.std.proofs.lemmas.List.Elements.{All-append, All-cons, All-nil, All-replicate, All-weaker}
 use Rattle.std.proofs.lemmas.List.Sums.{sum_by-cons, sum_by_push}
 use Rattle.vm_ids.specs.Counting.{no_counts}
 use Rattle.vm_ids.specs.Held.{Held, Segments, segments_in, segments_of}
 use Rattle.vm_ids.specs.declared.command.Command.{Command}
 use Rattle.vm_ids.specs.declared.command.Command.TheVariants as commands
+use Rattle.vm_ids.specs.declared.numbers.CacheId.{CacheId}
 use Rattle.vm_ids.specs.declared.numbers.SegId.{SegId}
+use Rattle.vm_ids.specs.declared.reply.NoMemory.{NoMemory}
 use Rattle.vm_ids.specs.declared.refusal.Refusal.TheVariants as refusals
 use Rattle.vm_ids.specs.declared.reply.Reply.{Reply}
 use Rattle.vm_ids.specs.declared.reply.Reply.TheVariants as replies
 use Rattle.vm_ids.specs.declared.reply.Trouble.TheVariants as troubles
 use Rattle.vm_model.specs.declared.limits.TheConstants.{LIVE_PAGES, MOST_MADE}
 use Rattle.vm_model.specs.Answering as answering
-use Rattle.vm_model.specs.Answering.{make_temp_of, refuse, reply, unless}
+use Rattle.vm_model.specs.Answering.{Answered, make_temp_of, refuse, reply, unless}
 use Rattle.vm_model.specs.Asking.{ReachesMapper, pages_made}
 use Rattle.vm_model.specs.Machine as model
 use Rattle.vm_model.specs.Machine.{Machine, live_pages, numbered, pages_in, zero_page}
@@ -29,13 +32,13 @@ use Rattle.contexts.specs.Actors.{Actors}
 use Rattle.gmi_calls.specs.Backing.{IsReady, eager_state}
 use Rattle.gmi_calls.specs.Calling.{CallDone}
 use Rattle.gmi_calls.specs.Room.{IsFull, pages_needed}
-use Rattle.gmi_calls.proofs.Called.{answer_each}
+use Rattle.gmi_calls.proofs.Called.{answer_each, eager_done}
 use Rattle.gmi_calls.proofs.Still.{made_still}
 use Rattle.flat_mm.specs.Manager.{AreKept, IsKept, IsManagerSound, IsValid, Manager, caches_in, flat, machine_in, machine_with, plain, sizes_in}
 use Rattle.flat_mm.specs.Placed.{ArePlaced, AreRight, HasItsPages}
 use Rattle.flat_mm.specs.Store.{AreWhole, Cache, Page, Store, live_in, size_of, temporary, zeros}
-use Rattle.flat_mm.proofs.Acting.{NeedsMade}
-use Rattle.flat_mm.proofs.Calls.{seen_live}
+use Rattle.flat_mm.proofs.Acting.{NeedsMade, whole_machine}
+use Rattle.flat_mm.proofs.Calls.{flat_done, seen_live}
 
 -- How many pages there are
 
@@ -124,6 +127,59 @@ module _ (m : Machine) (pages : ℕ) where
   pub temp_live : live_pages temp_next ≡ live_pages m + pages
   temp_live = sum_by_push pages_in m.caches (Some (answering.temporary m.page_bytes pages)) ∙ ap (λ n. live_pages m + n) (length-replicate pages (zero_page m.page_bytes))
 
+-- A temporary cache
+
+not_most : (n : ℕ) → nat_le MOST_MADE n ≡ false → n < MOST_MADE
+not_most n e = grind (arith, nat_tests)
+
+pub few_made : (s : Store) → nat_le MOST_MADE (length (caches_in s)) ≡ false → length s.caches < MOST_MADE
+few_made s e = omega (arith, not_most (length (caches_in s)) e, made_many s.caches)
+
+abbrev pub with_temporary : Store → ℕ → Store
+with_temporary s pages = record s { free = s.free - pages; caches = s.caches ++ Some (temporary s.page_bytes pages) ∷ [] }
+
+pub made_sound : (s u : Store) (t : Actors) (n : ℕ) → IsManagerSound s t n → (pages : ℕ) (result : Result CacheId NoMemory) → OnOk result (u ≡ with_temporary s pages) → OnErr result (u ≡ s) → OnOk result (AreWhole u) → length s.caches < MOST_MADE → IsManagerSound u t n
+made_sound s u t n k pages (Ok cache) ok err whole few =
+    sound_more s u t n (temporary s.page_bytes pages) k whole (ap (λ (x : Store). x.loose) ok ∙ k.settled) (ap (λ (x : Store). x.page_bytes) ok) (ap (λ (x : Store). x.caches) ok) few
+made_sound s u t n k pages (Err e) ok err whole few = subst (λ (x : Store). IsManagerSound x t n) (sym err) k
+
+module _ (s u : Store) (t : Actors) (n : ℕ) (k : IsManagerSound s t n) (p : Manager) (view : (let q : Manager = record { store = s; actors = t } in q) ≡ p) (pages : ℕ) where
+  abbrev old : Manager
+  old = record { store = s; actors = t }
+
+  abbrev new : Manager
+  new = record { store = u; actors = t }
+
+  at_old : (P : Machine → Type 0) → P (machine_in p) → P (machine_in old)
+  at_old P h = subst (λ (x : Manager). P (machine_in x)) (sym view) h
+
+  pub made_call : (cache : CacheId) → cache.0 ≡ length s.caches + 1 → u ≡ with_temporary s pages → AreWhole u → nat_le MOST_MADE (length (machine_in p).caches) ≡ false → nat_lt LIVE_PAGES (live_pages (machine_in p) + pages) ≡ false → pages ≤ s.free
+      → CallDone flat p (commands.MakeTemp pages) (Ok (replies.Cache cache)) new
+  made_call cache number is whole many large room =
+      let m = machine_in old in
+      let answer = Ok (replies.Cache cache) in
+      let page : t.page_bytes ≡ u.page_bytes = k.page ∙ sym (ap (λ (x : Store). x.page_bytes) is) in
+      let next : machine_in new ≡ temp_next m pages =
+          (λ i. machine_with (ap caches_in is i) (ap (λ (x : Store). x.frames) is i) t)
+          ∙ ap (λ (cs : List (Option model.Cache)). machine_with cs s.frames t) (caches_more s.caches (temporary s.page_bytes pages) ∙ ap (λ (c : model.Cache). caches_in s ++ Some c ∷ []) (plain_temporary s.page_bytes pages ∙ ap (λ b. answering.temporary b pages) (sym k.page))) in
+      let row : make_temp_of m pages ≡ reply (replies.Cache cache) (machine_in new) =
+          temp_row m pages (at_old (λ x. nat_le MOST_MADE (length x.caches) ≡ false) many) (at_old (λ x. nat_lt LIVE_PAGES (live_pages x + pages) ≡ false) large)
+          ∙ (λ i. reply (replies.Cache (record { 0 = (let e : length (caches_in s) + 1 ≡ cache.0 = omega (arith, number, made_many s.caches) in e) i })) (sym next i)) in
+      let live : live_pages (machine_in new) ≡ live_pages m + pages = ap live_pages next ∙ temp_live m pages in
+      subst (λ (x : Manager). CallDone flat x (commands.MakeTemp pages) answer new) view
+      (flat_done old new (commands.MakeTemp pages) answer (λ told now. omega (arith, seen_live told m, seen_live now (machine_in new), live, room))
+      (λ h kept. subst (AreKept (segments_in h)) (sym (ap (λ (x : Store). x.caches) is)) (kept_more (segments_in h) s.caches (temporary s.page_bytes pages) kept (λ page seg q named at. absurd (cc named))))
+      (eager_done m (machine_in new) (commands.MakeTemp pages) answer refl (whole_machine u t page whole) (λ h. row) (λ h. tt)))
+
+  pub temp_lacks : u ≡ s → nat_le MOST_MADE (length (machine_in p).caches) ≡ false → nat_lt LIVE_PAGES (live_pages (machine_in p) + pages) ≡ false → CallDone flat p (commands.MakeTemp pages) (Err troubles.Memory) new
+  temp_lacks is many large =
+      let m = machine_in old in
+      let row = temp_row m pages (at_old (λ x. nat_le MOST_MADE (length x.caches) ≡ false) many) (at_old (λ x. nat_lt LIVE_PAGES (live_pages x + pages) ≡ false) large) in
+      subst (λ (x : Store). CallDone flat p (commands.MakeTemp pages) (Err troubles.Memory) (record { store = x; actors = t })) (sym is)
+      (subst (λ (x : Manager). CallDone flat x (commands.MakeTemp pages) (Err troubles.Memory) old) view
+      (flat_done old old (commands.MakeTemp pages) (Err troubles.Memory) (λ told now. tt) (λ h kept. kept)
+      (eager_done m m (commands.MakeTemp pages) (Err troubles.Memory) refl (whole_machine s t k.page k.whole) (λ h. (refl, tt, subst (λ (a : Answered). outcomes.IsNotRefused a.answer) (sym row) tt)) (λ h. tt))))
+
 -- Want of room
 
 -- A call that is refused for want of room alone.
@@ -143,3 +199,14 @@ full_done p command r next reaches needs said whole outcome more = record {
   made = λ h v. made_still (seen_at h (machine_in p)) command (Err (troubles.Refused refusals.Full)) (seen_at h (machine_in p)) 0;
   room = refl;
 }
+
+-- as of a temporary cache
+pub temp_full : (s : Store) (t : Actors) (n : ℕ) → IsManagerSound s t n → (p : Manager) → (let q : Manager = record { store = s; actors = t } in q) ≡ p → (pages : ℕ) → nat_le MOST_MADE (length (machine_in p).caches) ≡ false → nat_lt LIVE_PAGES (live_pages (machine_in p) + pages) ≡ false → s.free < pages
+    → CallDone flat p (commands.MakeTemp pages) (Err (troubles.Refused refusals.Full)) p
+temp_full s t n k p view pages many large more =
+    let m = machine_in p in
+    full_done p (commands.MakeTemp pages) (replies.Cache (record { 0 = length m.caches + 1 })) (temp_next m pages) refl (λ m next. refl) (λ m h a. tt)
+    (All-append (outcomes.IsWhole m.page_bytes) m.caches (Some (answering.temporary m.page_bytes pages) ∷ []) (subst (λ (x : Manager). outcomes.HasWholePages (machine_in x)) view (whole_machine s t k.page k.whole))
+    (All-cons (outcomes.IsWhole m.page_bytes) (Some (answering.temporary m.page_bytes pages)) [] (All-replicate (λ (b : List ℕ). length b ≡ m.page_bytes) pages (zero_page m.page_bytes) (length-replicate m.page_bytes 0)) (All-nil (outcomes.IsWhole m.page_bytes))))
+    (λ h. temp_row m pages many large)
+    (omega (arith, temp_live m pages, more, ap (λ (x : Manager). x.store.free) view))

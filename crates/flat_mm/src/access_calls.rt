@@ -55,13 +55,12 @@ impl FlatMm {
         ensures length { IfOk result (λ piece. length piece ≡ bytes) }
     {
         let _ = mapper;
-        match self.locate(actor, address, bytes) {
-            Ok(at) => {
-                let page = self.store.bytes(at.cache, at.page);
-                Ok(part(page, at.at as usize, bytes))
-            }
-            Err(refusal) => Err(Trouble::Refused(refusal)),
-        }
+        let at = match self.locate(actor, address, bytes) {
+            Ok(at) => at,
+            Err(refusal) => return Err(Trouble::Refused(refusal)),
+        };
+        let page = self.store.bytes(at.cache, at.page);
+        Ok(part(page, at.at as usize, bytes))
     }
 
     /// Stores bytes at an address of an actor. Refused as `NoActor`, `Crosses`, `BadAddress`,
@@ -87,13 +86,12 @@ impl FlatMm {
             return Err(Trouble::Refused(Refusal::Protection));
         }
         match self.may_change(at.cache, at.page, 1, mapper) {
-            Ok(true) => {
-                self.store.write(at.cache, at.page, at.at as usize, bytes);
-                Ok(())
-            }
-            Ok(false) => Err(Trouble::Refused(Refusal::WriteDenied)),
-            Err(_) => Err(Trouble::Mapper(FaultAt::Access(at.page))),
+            Ok(true) => {}
+            Ok(false) => return Err(Trouble::Refused(Refusal::WriteDenied)),
+            Err(_) => return Err(Trouble::Mapper(FaultAt::Access(at.page))),
         }
+        self.store.write(at.cache, at.page, at.at as usize, bytes);
+        Ok(())
     }
 
     /// Carries out a load or a store.

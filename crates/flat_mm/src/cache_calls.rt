@@ -30,6 +30,13 @@ impl FlatMm {
         self.store.live() as u64 + pages as u64 > LIVE_PAGES as u64
     }
 
+    // Whether fewer frames are free.
+    pub(crate) fn lacks_room(&self, pages: u32) -> bool
+        ensures { result ≡ nat_lt self.now.store.free pages }
+    {
+        self.store.free() < pages
+    }
+
     /// Makes a temporary cache of so many zero pages. Refused as `TooMany` where 65,535 caches were
     /// made or the live pages would be too many, or as `Full` where there are fewer free frames, in
     /// this order.
@@ -44,7 +51,7 @@ impl FlatMm {
         if self.passes_live_pages(pages) {
             return Err(Trouble::Refused(Refusal::TooMany));
         }
-        if pages > self.store.free() {
+        if self.lacks_room(pages) {
             return Err(Trouble::Refused(Refusal::Full));
         }
         match self.store.make(pages) {
@@ -81,7 +88,7 @@ impl FlatMm {
         if self.passes_live_pages(size) {
             return Err(Trouble::Refused(Refusal::TooMany));
         }
-        if size > self.store.free() {
+        if self.lacks_room(size) {
             return Err(Trouble::Refused(Refusal::Full));
         }
         if let Err(NoMemory) = self.store.take_loose(size) {

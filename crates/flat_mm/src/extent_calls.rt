@@ -86,7 +86,7 @@ impl FlatMm {
             Ok(seg) => seg,
             Err(refusal) => return Err(Trouble::Refused(refusal)),
         };
-        if extent.pages > self.store.free() {
+        if self.lacks_room(extent.pages) {
             return Err(Trouble::Refused(Refusal::Full));
         }
         if let Err(NoMemory) = self.store.take_loose(extent.pages) {

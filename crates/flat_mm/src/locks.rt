@@ -13,8 +13,8 @@ use vm_ids::{ActorId, CacheId, PageNo};
 use vm_model::UNLOCKED_FRAMES;
 
 // Whether the region is locked and covers this page of the cache.
-fn locks(view: &RegionView, cache: CacheId, page: u64) -> bool
-    ensures { (r : Region) → view_of r ≡ view.now → result ≡ locks cache.0 page r }
+fn locks(view: RegionView, cache: CacheId, page: u64) -> bool
+    ensures { (r : Region) → view_of r ≡ view → result ≡ locks cache.0 page r }
 {
     let extent = view.mapping.extent;
     view.locked
@@ -30,7 +30,7 @@ fn any_locks(regions: &RegionMap, cache: CacheId, page: u64) -> bool
     for place in 0..regions.count() {
         match regions.nth(place) {
             Some(view) => {
-                if locks(&view, cache, page) {
+                if locks(view, cache, page) {
                     return true;
                 }
             }

@@ -315,7 +315,6 @@ impl PageStore {
           loose = replicate pages (zeros self.old.page_bytes);
         }) }
         ensures err { OnErr result (self.new ≡ self.old) }
-        ensures whole { AreWhole self.new }
     {
         for _taken in 0..pages {
             match self.take_one() {
@@ -370,7 +369,7 @@ impl PageStore {
           free = self.old.free + length self.old.loose;
           loose = [];
         }) }
-        ensures whole { AreWhole self.new }
+        ensures whole { OnOk result (AreWhole self.new) }
     {
         match self.caches.reserve(1) {
             Ok(()) => {}
@@ -396,7 +395,7 @@ impl PageStore {
           caches = self.old.caches ++ Some (temporary self.old.page_bytes pages) ∷ [];
         }) }
         ensures err { OnErr result (self.new ≡ self.old) }
-        ensures whole { AreWhole self.new }
+        ensures whole { OnOk result (AreWhole self.new) }
     {
         match self.take_loose(pages) {
             Ok(()) => self.adopt(None),

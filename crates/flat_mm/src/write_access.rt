@@ -29,15 +29,13 @@ impl FlatMm {
         ensures fault { OnErr result (IsNamed (machine_in self.now) cache.0) }
         ensures asked { Asked M.Mapper mapper.old mapper.new result }
     {
-        match self.store.segment(cache) {
-            Some(seg) => {
-                if self.store.is_changed(cache, page) {
-                    return Ok(true);
-                }
-                mapper.get_write_access(seg, page)
-            }
-            None => Ok(true),
+        let Some(seg) = self.store.segment(cache) else {
+            return Ok(true);
+        };
+        if self.store.is_changed(cache, page) {
+            return Ok(true);
         }
+        mapper.get_write_access(seg, page)
     }
 
     // Asks the same of so many pages, one after the other, up to one that may not be written. The

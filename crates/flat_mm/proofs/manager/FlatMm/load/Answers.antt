@@ -12,8 +12,6 @@ use Rattle.flat_mm.specs.Store as store
 use Rattle.flat_mm.proofs.Accesses.{load_refused, load_row, page_is, page_seen, page_there}
 use Rattle.flat_mm.proofs.Acting.{fits_less}
 use Rattle.flat_mm.proofs.Calls.{flat_access}
-use Rattle.flat_mm.proofs.manager.FlatMm.load.Given.{Over}
-use Rattle.flat_mm.proofs.manager.FlatMm.load.Goals.{In-Ok}
 use Rattle.flat_mm.proofs.manager.FlatMm.load.Goals as goal
 
 pub bytes-requires : goal.bytes-requires
@@ -22,8 +20,17 @@ bytes-requires g c = subst (λ (p : Manager). IsSome (store.page_at p.store.cach
 pub part-requires-clause-within : goal.part-requires-clause-within
 part-requires-clause-within g c = omega (arith, c.in-Ok.ensures.found.within, ap (λ (p : Manager). p.store.page_bytes) c.self.view_is, c.bytes-page.ensures.length)
 
-pub returns-in-Ok-clause-call : goal.returns-in-Ok-clause-call
-returns-in-Ok-clause-call g c =
+pub returns-in-Err-clause-call : goal.returns-in-Err-clause-call
+returns-in-Err-clause-call g c =
+    let p = c.args.self.now in
+    let m = machine_in p in
+    let command = commands.Load c.args.actor c.args.address c.args.bytes in
+    let answer = Err (troubles.Refused c.in-Err.refusal) in
+    flat_access g.M.Mapper c.args.mapper.now c.args.mapper.now p p command answer (fits_less p p command answer (λ m next. refl) (omega arith)) c.requires.valid.kept
+    (eager_quiet g.M.Mapper c.args.mapper.now m m command answer tt c.requires.valid.ready c.requires.valid.ready.whole (λ h. load_refused m c.args.actor.0 c.args.address c.args.bytes c.in-Err.refusal c.in-Err.ensures.refused) tt)
+
+pub returns-clause-call : goal.returns-clause-call
+returns-clause-call g c =
     let p = c.args.self.now in
     let m = machine_in p in
     let at = c.in-Ok.at in
@@ -38,12 +45,3 @@ returns-in-Ok-clause-call g c =
     flat_access g.M.Mapper c.args.mapper.now c.args.mapper.now p p command (Ok (replies.Bytes c.part.result)) (fits_less p p command (Ok (replies.Bytes c.part.result)) (λ m next. refl) (omega arith)) c.requires.valid.kept
     (eager_quiet g.M.Mapper c.args.mapper.now m m command (Ok (replies.Bytes c.part.result)) tt c.requires.valid.ready c.requires.valid.ready.whole
     (λ h. load_row m c.args.actor.0 c.args.address c.args.bytes (place_at F.region at) F.is ∙ ap (λ b. reply (replies.Bytes b) m) piece) tt)
-
-pub returns-in-Err-clause-call : goal.returns-in-Err-clause-call
-returns-in-Err-clause-call g c =
-    let p = c.args.self.now in
-    let m = machine_in p in
-    let command = commands.Load c.args.actor c.args.address c.args.bytes in
-    let answer = Err (troubles.Refused c.in-Err.refusal) in
-    flat_access g.M.Mapper c.args.mapper.now c.args.mapper.now p p command answer (fits_less p p command answer (λ m next. refl) (omega arith)) c.requires.valid.kept
-    (eager_quiet g.M.Mapper c.args.mapper.now m m command answer tt c.requires.valid.ready c.requires.valid.ready.whole (λ h. load_refused m c.args.actor.0 c.args.address c.args.bytes c.in-Err.refusal c.in-Err.ensures.refused) tt)

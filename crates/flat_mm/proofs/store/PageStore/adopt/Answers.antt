@@ -5,9 +5,6 @@ use Rattle.flat_mm.proofs.Framing.{whole_seen}
 use Rattle.flat_mm.proofs.Loosening.{adopted}
 use Rattle.flat_mm.proofs.store.PageStore.adopt.Goals as goal
 
-pub returns-in-Err-clause-whole : goal.returns-in-Err-clause-whole
-returns-in-Err-clause-whole c = ?
-
 pub returns-clause-whole : goal.returns-clause-whole
 returns-clause-whole c =
     let i = c.self.inside in

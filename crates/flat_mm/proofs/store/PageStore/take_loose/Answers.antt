@@ -16,9 +16,3 @@ pub returns-in-Err-clause-err : goal.returns-in-Err-clause-err
 returns-in-Err-clause-err c =
     taken_back c.args.self.now c.loop-taken.self c.drop_loose.new.self c.loop-taken._taken (omega (arith, c.requires.room)) c.requires.none c.loop-taken.invariant
     (c.drop_loose.ensures ∙ ap (λ (s : Store). record s { free = s.free + length s.loose; loose = [] }) c.in-Err.ensures.err)
-
-pub returns-in-Err-clause-whole : goal.returns-in-Err-clause-whole
-returns-in-Err-clause-whole c = ?
-
-pub returns-clause-whole : goal.returns-clause-whole
-returns-clause-whole c = ?
