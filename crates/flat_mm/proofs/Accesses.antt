@@ -219,3 +219,8 @@ changed_free (Some h) s n k p P m seg caches named changed kept =
     granted (Some t) e x is =
         let same : t.0 ≡ seg.0 = cc x in
         subst (λ j. denies h.denied j k ≡ false) same ((kept n k P.cache t p P.alive e P.at).granted is)
+
+pub page_within : (s : Store) (n k : ℕ) → IsSome (store.page_at s.caches n k) → k + 1 ≤ pages_in (numbered (caches_in s) n)
+page_within s n k some =
+    let P = page_there s.caches n k some in
+    subst (λ (o : Option model.Cache). k + 1 ≤ pages_in o) (sym (cache_plain s n k P.0 P.1)) (omega (arith, slice_get_within P.1.cache.pages k P.0 P.1.at, length-map P.1.cache.pages (λ (p : Page). p.bytes)))

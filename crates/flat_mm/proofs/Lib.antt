@@ -18,3 +18,4 @@ pub mod Accesses
 pub mod WriteAccess
 -- Pages are put into a cache.
 pub mod Putting
+pub mod Storing

@@ -108,14 +108,14 @@ impl FlatMm {
             (command_for actor access.now) result mapper.new self.new }
     {
         match access {
-            Access::Load { address, length } => match self.load(actor, *address, *length, mapper) {
-                Ok(piece) => Ok(Reply::Bytes(piece)),
-                Err(trouble) => Err(trouble),
-            },
-            Access::Store { address, piece } => match self.store(actor, *address, piece, mapper) {
-                Ok(()) => Ok(Reply::Done),
-                Err(trouble) => Err(trouble),
-            },
+            Access::Load { address, length } => {
+                let piece = self.load(actor, *address, *length, mapper)?;
+                Ok(Reply::Bytes(piece))
+            }
+            Access::Store { address, piece } => {
+                self.store(actor, *address, piece, mapper)?;
+                Ok(Reply::Done)
+            }
         }
     }
 }

@@ -48,7 +48,7 @@ impl FlatMm {
         mapper: &mut M,
     ) -> Result<bool, PageNo>
         requires within { first.0 + pages ≤ pages_in (cache_of (machine_in self.now) cache.0) }
-        requires few { first.0 + pages < 2 ^ 32 }
+        requires few { first.0 + pages ≤ 2 ^ 32 }
         requires valid { IsValid self.now (M.held mapper.old) }
         ensures answer { IfOk result (λ may. IfSome (M.held mapper.old) (λ h. may
             ≡ not (list_any (is_denied_page (machine_in self.now) (segments_in h) cache.0)

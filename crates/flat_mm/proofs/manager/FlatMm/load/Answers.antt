@@ -14,8 +14,8 @@ use Rattle.flat_mm.proofs.Acting.{fits_less}
 use Rattle.flat_mm.proofs.Calls.{flat_access}
 use Rattle.flat_mm.proofs.manager.FlatMm.load.Goals as goal
 
-pub bytes-requires : goal.bytes-requires
-bytes-requires g c = subst (λ (p : Manager). IsSome (store.page_at p.store.caches c.in-Ok.at.cache.0 c.in-Ok.at.page.0)) (sym c.self.view_is) c.in-Ok.ensures.found.there
+pub bytes-page-requires : goal.bytes-page-requires
+bytes-page-requires g c = subst (λ (p : Manager). IsSome (store.page_at p.store.caches c.in-Ok.at.cache.0 c.in-Ok.at.page.0)) (sym c.self.view_is) c.in-Ok.ensures.found.there
 
 pub part-requires-clause-within : goal.part-requires-clause-within
 part-requires-clause-within g c = omega (arith, c.in-Ok.ensures.found.within, ap (λ (p : Manager). p.store.page_bytes) c.self.view_is, c.bytes-page.ensures.length)

@@ -3,6 +3,8 @@ use Rattle.std.specs.Prelude.{IsSome, option_and_then, option_map}
 use Rattle.vm_ids.specs.declared.numbers.SegId.{SegId}
 use Rattle.vm_model.specs.Machine.{numbered, pages_in, segment_of}
 use Rattle.vm_model.proofs.Parts.Naming.{segment_names}
+use Rattle.vm_port.specs.declared.traits.failed.Failed.{Failed}
+use Rattle.gmi_calls.specs.Reaching.{Asked}
 use Rattle.gmi_calls.proofs.Accessing.{asked_pages}
 use Rattle.gmi_calls.proofs.Rising.{asked_none, asked_then, on_err, one_failed}
 use Rattle.flat_mm.specs.Manager.{Manager, caches_in, machine_in}
@@ -70,4 +72,5 @@ returns-clause-fault g c =
 pub returns-clause-asked : goal.returns-clause-asked
 returns-clause-asked g c =
     let E = c.get_write_access.ensures in
-    asked_then g.M.Mapper c.args.mapper.now c.args.mapper.now c.get_write_access.new.self c.get_write_access.result c.get_write_access.result (asked_none {E = Rattle.vm_port.specs.declared.traits.failed.Failed.Failed} g.M.Mapper c.args.mapper.now tt) E.held E.counts E.page (one_failed 0 0 c.get_write_access.result)
+    let none : Asked {E = Failed} g.M.Mapper c.args.mapper.now c.args.mapper.now (Ok (tt {0})) = asked_none g.M.Mapper c.args.mapper.now tt in
+    asked_then g.M.Mapper c.args.mapper.now c.args.mapper.now c.get_write_access.new.self c.get_write_access.result c.get_write_access.result none E.held E.counts E.page (one_failed 0 0 c.get_write_access.result)
