@@ -104,3 +104,18 @@ length_replaced n by (Some rs ∷ xs) = go (is_some (region_among n rs)) (length
 pub mapped_some : {A B : Type 0} (f : A → B) (r : Option A) (o : Option B) (b : Bool) → option_map f r ≡ o → is_some r ≡ b → is_some o ≡ b
 mapped_some f None o b e is = ap is_some (sym e) ∙ is
 mapped_some f (Some x) o b e is = ap is_some (sym e) ∙ is
+
+-- how many pages the machine's cache has
+pub pages_sized : (s : Store) (n count : ℕ) → sizes_in s n ≡ Some count → model.pages_in (numbered (caches_in s) n) ≡ count
+pages_sized s n count e = go (numbered (caches_in s) n) (sizes_plain s n ∙ e)
+  where
+    go : (o : Option model.Cache) → size_in o ≡ Some count → model.pages_in o ≡ count
+    go None e = absurd (cc e)
+    go (Some c) e = cc e
+
+pub pages_unsized : (s : Store) (n : ℕ) → sizes_in s n ≡ None → model.pages_in (numbered (caches_in s) n) ≡ 0
+pages_unsized s n e = go (numbered (caches_in s) n) (sizes_plain s n ∙ e)
+  where
+    go : (o : Option model.Cache) → size_in o ≡ None → model.pages_in o ≡ 0
+    go None e = refl
+    go (Some c) e = absurd (cc e)

@@ -19,3 +19,7 @@ pub mod WriteAccess
 -- Pages are put into a cache.
 pub mod Putting
 pub mod Storing
+-- Which pages are locked.
+pub mod Locked
+-- Chains and counts.
+pub mod Telling

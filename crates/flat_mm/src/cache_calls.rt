@@ -144,7 +144,8 @@ impl FlatMm {
         let Some(size) = self.store.size(cache) else {
             return Err(Trouble::Refused(Refusal::NoCache));
         };
-        if page.0 >= size {
+        let is_past = page.0 >= size;
+        if is_past {
             return Err(Trouble::Refused(Refusal::OutOfCache));
         }
         match self.store.own_chain(cache, page) {

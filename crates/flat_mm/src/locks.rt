@@ -3,7 +3,7 @@ ghost use Rattle.std.specs.Prelude.{◌≡◌, ◌+◌, ◌≤◌, length};
 ghost use Rattle.std.specs.List.{list_any};
 ghost use Rattle.regions.specs.AddressSpace.{view_of};
 ghost use Rattle.vm_model.specs.Answering.{is_any_locked, passes_lock_limit};
-ghost use Rattle.vm_model.specs.Machine.{Region, locked_in, locked_pages, locks, locks_any};
+ghost use Rattle.vm_model.specs.Machine.{Region, locked_in, locked_pages, locks, locks_any, numbered};
 ghost use Rattle.flat_mm.specs.Manager.{machine_in};
 
 use crate::FlatMm;
@@ -40,16 +40,24 @@ fn any_locks(regions: &RegionMap, cache: CacheId, page: u64) -> bool
     false
 }
 
+// Whether an actor is alive, and a locked region of it covers this page.
+fn locks_by(contexts: &Contexts, actor: ActorId, cache: CacheId, page: u64) -> bool
+    ensures { result ≡ locks_any cache.0 page (numbered contexts.now.actors actor.0) }
+{
+    match contexts.regions(actor) {
+        Some(regions) => any_locks(regions, cache, page),
+        None => false,
+    }
+}
+
 // Whether a locked region of a living actor, of so many made, covers this page.
 fn is_locked_page(contexts: &Contexts, made: u32, cache: CacheId, page: u64) -> bool
     requires { made ≡ length contexts.now.actors }
     ensures { result ≡ list_any (locks_any cache.0 page) contexts.now.actors }
 {
     for actor in 0..made {
-        if let Some(regions) = contexts.regions(ActorId(actor + 1)) {
-            if any_locks(regions, cache, page) {
-                return true;
-            }
+        if locks_by(contexts, ActorId(actor + 1), cache, page) {
+            return true;
         }
     }
     false
@@ -73,8 +81,11 @@ impl FlatMm {
     fn locked_in(&self, cache: CacheId) -> u32
         ensures { result ≡ locked_in (machine_in self.now) cache.0 }
     {
+        let Some(pages) = self.store.size(cache) else {
+            return 0;
+        };
         let mut locked = 0;
-        for page in 0..self.store.size(cache).unwrap_or(0) {
+        for page in 0..pages {
             if is_locked_page(&self.contexts, self.actors, cache, page as u64) {
                 locked += 1;
             }
