@@ -23,3 +23,5 @@ pub mod Storing
 pub mod Locked
 -- Chains and counts.
 pub mod Telling
+-- Calls that are handed the mapper and leave it.
+pub mod Handed

@@ -131,7 +131,8 @@ impl FlatMm {
         ensures { MapperCall M.Mapper flat mapper.old self.old
             (Command.PageOut count) (done_by result) mapper.new self.new }
     {
-        let _ = (count, mapper);
+        let _ = count;
+        let _ = mapper;
         Ok(())
     }
 }

@@ -1,4 +1,4 @@
-use Rattle.std.proofs.Common.{◌≡◌, ◌<◌, ◌≤◌, Ok, Err, Some, None, ap, arith, length, refl, subst, sym, ◌∙◌}
+use Rattle.std.proofs.Common.{◌≡◌, ◌<◌, ◌≤◌, Ok, Err, Some, None, ap, List, arith, length, refl, subst, sym, ◌∙◌}
 use Rattle.vm_ids.specs.declared.chain.ChainItem.{ChainItem}
 use Rattle.vm_ids.specs.declared.command.Command.TheVariants as commands
 use Rattle.vm_ids.specs.declared.refusal.Refusal.TheVariants as refusals
@@ -26,10 +26,26 @@ there : (c : In-Some) → (x : Cache) × (numbered (caches_in c.self.inside.stor
 there c = sized (numbered (caches_in c.self.inside.store) c.args.cache.0) c.in-Some.size (sizes_plain c.self.inside.store c.args.cache.0 ∙ sym c.size.ensures.size ∙ c.in-Some.is)
 
 pub returns-then-is_past : goal.returns-then-is_past
-returns-then-is_past c = ?
+returns-then-is_past c =
+    let i = c.self.inside in
+    let old : Manager = record { store = i.store; actors = i.contexts } in
+    let at = there (goal.at.returns-then-is_past c).In-Some in
+    told i.store i.contexts i.actors c.self.invariant c.args.self.now c.self.view_is (commands.Chain c.args.cache c.args.page) (record { reaches = refl; needs = λ m next. refl; said = λ m h a. tt }) (Err (troubles.Refused refusals.OutOfCache))
+    (λ h. chain_past (machine_in old) c.args.cache c.args.page.0 at.0 at.1 (omega (arith, at.2, c.if-is_past.true)))
 
 pub returns-in-Ok : goal.returns-in-Ok
-returns-in-Ok c = ?
+returns-in-Ok c =
+    let i = c.self.inside in
+    let old : Manager = record { store = i.store; actors = i.contexts } in
+    let at = there (goal.at.returns-in-Ok c).In-Some in
+    told i.store i.contexts i.actors c.self.invariant c.args.self.now c.self.view_is (commands.Chain c.args.cache c.args.page) (record { reaches = refl; needs = λ m next. refl; said = λ m h a. tt }) (Ok (replies.Chain c.in-Ok.chain))
+    (λ h. chain_row (machine_in old) c.args.cache c.args.page.0 at.0 at.1 (omega (arith, at.2, c.if-is_past.false)) ∙ ap (λ (k : List ChainItem). reply (replies.Chain k) (machine_in old)) (sym (c.in-Ok.ensures tt)))
 
 pub returns-in-Err : goal.returns-in-Err
-returns-in-Err c = ?
+returns-in-Err c =
+    let i = c.self.inside in
+    let old : Manager = record { store = i.store; actors = i.contexts } in
+    let at = there (goal.at.returns-in-Err c).In-Some in
+    let row = chain_row (machine_in old) c.args.cache c.args.page.0 at.0 at.1 (omega (arith, at.2, c.if-is_past.false)) in
+    told i.store i.contexts i.actors c.self.invariant c.args.self.now c.self.view_is (commands.Chain c.args.cache c.args.page) (record { reaches = refl; needs = λ m next. refl; said = λ m h a. tt }) (Err troubles.Memory)
+    (λ h. (refl, tt, subst (λ (a : Answered). IsNotRefused a.answer) (sym row) tt))

@@ -13,6 +13,6 @@ pub returns : goal.returns
 returns c =
     let i = c.self.inside in
     let old : Manager = record { store = i.store; actors = i.contexts } in
-    let counts : Counts = record { live = c.live-live.result; working = 0; copies = 0 } in
+    let counts : Counts = record { live = c.live.result; working = 0; copies = 0 } in
     told i.store i.contexts i.actors c.self.invariant c.args.self.now c.self.view_is commands.Stat (record { reaches = refl; needs = λ m next. refl; said = λ m h a. tt }) (Ok (replies.Stat counts))
-    (λ h. ap (λ (k : Counts). reply (replies.Stat k) (machine_in old)) (plain_counts (machine_in old) ∙ ap (λ n. let k : Counts = record { live = n; working = 0; copies = 0 } in k) (plain_live i.store.caches ∙ sym c.live-live.ensures.live)))
+    (λ h. ap (λ (k : Counts). reply (replies.Stat k) (machine_in old)) (plain_counts (machine_in old) ∙ ap (λ n. let k : Counts = record { live = n; working = 0; copies = 0 } in k) (plain_live i.store.caches ∙ sym c.live.ensures.live)))
