@@ -1,6 +1,7 @@
 -- Calls that are handed the mapper and leave it.
 use Rattle.std.proofs.Common.{◌≡◌, ℕ, ◌==◌, Bool, true, false, cond, List, [], ◌∷◌, Option, Some, None, refl, sym, ap, subst, ◌∙◌, arith}
-use Rattle.std.specs.Prelude.{is_some, option_or}
+use Rattle.std.specs.Option.{option_or}
+use Rattle.std.specs.Prelude.{is_some}
 use Rattle.vm_ids.specs.Counting.{no_counts}
 use Rattle.vm_ids.specs.Held.{Segments, segments_of}
 use Rattle.vm_ids.specs.declared.command.Command.{Command}
@@ -22,7 +23,7 @@ use Rattle.flat_mm.proofs.RegionRows.{with_locked}
 
 module _ {X : Type 0} (M : GhostsOfMapper X) (x : X) (s : Store) (t : Actors) (n : ℕ) (k : IsManagerSound s t n) (p : Manager) (view : (let q : Manager = record { store = s; actors = t } in q) ≡ p) (command : Command) (of : IsOfActors command) (valid : IsValid p (M.held x)) (a : Answer) where
   -- a call that changes actors
-  pub handed : (u : Actors) → u.page_bytes ≡ t.page_bytes → ((h : Option Segments) → Outcome (machine_with (caches_in s) s.frames t) None command h a (machine_with (caches_in s) s.frames u) no_counts)
+  pub handed : (u : Actors) → u.page_bytes ≡ t.page_bytes → ((h : Segments) → Outcome (machine_with (caches_in s) s.frames t) None command h a (machine_with (caches_in s) s.frames u) no_counts)
       → MapperCall M flat x p command a x (record { store = s; actors = u })
   handed u page outcome =
       let old : Manager = record { store = s; actors = t } in
@@ -33,7 +34,7 @@ module _ {X : Type 0} (M : GhostsOfMapper X) (x : X) (s : Store) (t : Actors) (n
       (eager_left M x (machine_in old) (machine_in new) command a of.reaches v.ready (whole_machine s u (page ∙ k.page) k.whole) outcome (of.said (machine_in old) (segments_of (M.held x)) a)))
 
   -- one that changes nothing
-  pub handed_back : ((h : Option Segments) → Outcome (machine_with (caches_in s) s.frames t) None command h a (machine_with (caches_in s) s.frames t) no_counts) → MapperCall M flat x p command a x p
+  pub handed_back : ((h : Segments) → Outcome (machine_with (caches_in s) s.frames t) None command h a (machine_with (caches_in s) s.frames t) no_counts) → MapperCall M flat x p command a x p
   handed_back outcome = subst (λ (q : Manager). MapperCall M flat x p command a x q) view (handed t refl outcome)
 
 -- A lock that is taken back

@@ -39,7 +39,7 @@ returns-in-Ok c =
     let old : Manager = record { store = i.store; actors = i.contexts } in
     let at = there (goal.at.returns-in-Ok c).In-Some in
     told i.store i.contexts i.actors c.self.invariant c.args.self.now c.self.view_is (commands.Chain c.args.cache c.args.page) (record { reaches = refl; needs = λ m next. refl; said = λ m h a. tt }) (Ok (replies.Chain c.in-Ok.chain))
-    (λ h. chain_row (machine_in old) c.args.cache c.args.page.0 at.0 at.1 (omega (arith, at.2, c.if-is_past.false)) ∙ ap (λ (k : List ChainItem). reply (replies.Chain k) (machine_in old)) (sym (c.in-Ok.ensures tt)))
+    (λ h. chain_row (machine_in old) c.args.cache c.args.page.0 at.0 at.1 (omega (arith, at.2, c.if-is_past.false)) ∙ ap (λ (k : List ChainItem). reply (replies.Chain k) (machine_in old)) (sym c.in-Ok.ensures))
 
 pub returns-in-Err : goal.returns-in-Err
 returns-in-Err c =
