@@ -25,3 +25,5 @@ pub mod Locked
 pub mod Telling
 -- Calls that are handed the mapper and leave it.
 pub mod Handed
+-- Pages are copied and moved.
+pub mod Spanning
