@@ -195,9 +195,9 @@ module _ (f : Frames) (caches : List (Option Framed)) (loose : List FramedPage) 
     gave_seen =
         let shown : map (page_shown f) loose ≡ map (page_shown f) rest ++ page_shown f p ∷ [] = ap (map (page_shown f)) is ∙ map_push (page_shown f) rest p in
         let front : take (length (map (page_shown f) loose) - 1) (map (page_shown f) loose) ≡ map (page_shown f) rest =
-            ap (λ n. take n (map (page_shown f) loose)) (let e : length (map (page_shown f) loose) - 1 ≡ length (map (page_shown f) rest) = omega (arith, many, length-map loose (page_shown f), length-map rest (page_shown f)) in e)
-            ∙ ap (take (length (map (page_shown f) rest))) shown
-            ∙ front_of (map (page_shown f) rest) (page_shown f p ∷ []) in
+        ap (λ n. take n (map (page_shown f) loose)) (let e : length (map (page_shown f) loose) - 1 ≡ length (map (page_shown f) rest) = omega (arith, many, length-map loose (page_shown f), length-map rest (page_shown f)) in e)
+        ∙ ap (take (length (map (page_shown f) rest))) shown
+        ∙ front_of (map (page_shown f) rest) (page_shown f p ∷ []) in
         (λ i. record (store_shown f caches loose) { frames = length-set f.held p.frame.0 false i; free = more i; loose = sym front i })
       where
         front_of : (xs ys : List Page) → take (length xs) (xs ++ ys) ≡ xs
@@ -213,14 +213,26 @@ parts first n xs = sym (take-append-drop first xs) ∙ ap (λ ys. take first xs 
 exchanged_sum : {A : Type 0} (h : A → ℕ) (first : ℕ) (part xs : List A) → sum_by h (overwrite first part xs) + sum_by h (take (length part) (drop first xs)) ≡ sum_by h xs + sum_by h part
 exchanged_sum h first part xs =
     let n = length part in
-    omega (arith, sum_by-append h (take first xs ++ part) (drop (first + n) xs), sum_by-append h (take first xs) part,
-    ap (sum_by h) (parts first n xs), sum_by-append h (take first xs) (take n (drop first xs) ++ drop (first + n) xs), sum_by-append h (take n (drop first xs)) (drop (first + n) xs))
+    omega (
+      arith,
+      sum_by-append h (take first xs ++ part) (drop (first + n) xs),
+      sum_by-append h (take first xs) part,
+      ap (sum_by h) (parts first n xs),
+      sum_by-append h (take first xs) (take n (drop first xs) ++ drop (first + n) xs),
+      sum_by-append h (take n (drop first xs)) (drop (first + n) xs),
+    )
 
 exchanged_length : {A : Type 0} (first : ℕ) (part xs : List A) → length (overwrite first part xs) + length (take (length part) (drop first xs)) ≡ length xs + length part
 exchanged_length first part xs =
     let n = length part in
-    omega (arith, length-append (take first xs ++ part) (drop (first + n) xs), length-append (take first xs) part,
-    ap length (parts first n xs), length-append (take first xs) (take n (drop first xs) ++ drop (first + n) xs), length-append (take n (drop first xs)) (drop (first + n) xs))
+    omega (
+      arith,
+      length-append (take first xs ++ part) (drop (first + n) xs),
+      length-append (take first xs) part,
+      ap length (parts first n xs),
+      length-append (take first xs) (take n (drop first xs) ++ drop (first + n) xs),
+      length-append (take n (drop first xs)) (drop (first + n) xs),
+    )
 
 pub map-overwrite : {A B : Type 0} (k : A → B) (first : ℕ) (part xs : List A) → map k (overwrite first part xs) ≡ overwrite first (map k part) (map k xs)
 map-overwrite k first part xs =
@@ -261,9 +273,9 @@ module _ (f : Frames) (caches : List (Option Framed)) (loose : List FramedPage) 
     exchanged_seen =
         let put = ap (λ (ps : List Page). Some (let d : Cache = record { segment = c.segment; pages = ps } in d)) (map-overwrite (page_shown f) first loose c.pages) in
         let caches_are = map-set (option_map (cache_shown f)) caches (n - 1) (Some changed) ∙ ap (set (caches_shown f caches) (n - 1)) put
-            ∙ ap (λ (o : Option Cache). set (caches_shown f caches) (n - 1) (option_map (put_pages first (map (page_shown f) loose)) o)) (sym alive) in
+        ∙ ap (λ (o : Option Cache). set (caches_shown f caches) (n - 1) (option_map (put_pages first (map (page_shown f) loose)) o)) (sym alive) in
         let loose_is = sym (take-map (page_shown f) (length loose) (drop first c.pages)) ∙ (λ i. take (sym (length-map loose (page_shown f)) i) (sym (drop-map (page_shown f) first c.pages) i))
-            ∙ ap (λ (o : Option Cache). take (length (map (page_shown f) loose)) (drop first (option_map_or (λ (c : Cache). c.pages) o []))) (sym alive) in
+        ∙ ap (λ (o : Option Cache). take (length (map (page_shown f) loose)) (drop first (option_map_or (λ (c : Cache). c.pages) o []))) (sym alive) in
         (λ i. record (store_shown f caches loose) { caches = caches_are i; loose = loose_is i })
 
   -- a cache goes, and its pages are loose

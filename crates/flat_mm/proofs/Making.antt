@@ -160,11 +160,11 @@ module _ (s u : Store) (t : Actors) (n : ℕ) (k : IsManagerSound s t n) (p : Ma
       let answer = Ok (replies.Cache cache) in
       let page : t.page_bytes ≡ u.page_bytes = k.page ∙ sym (ap (λ (x : Store). x.page_bytes) is) in
       let next : machine_in new ≡ temp_next m pages =
-          (λ i. machine_with (ap caches_in is i) (ap (λ (x : Store). x.frames) is i) t)
-          ∙ ap (λ (cs : List (Option model.Cache)). machine_with cs s.frames t) (caches_more s.caches (temporary s.page_bytes pages) ∙ ap (λ (c : model.Cache). caches_in s ++ Some c ∷ []) (plain_temporary s.page_bytes pages ∙ ap (λ b. answering.temporary b pages) (sym k.page))) in
+      (λ i. machine_with (ap caches_in is i) (ap (λ (x : Store). x.frames) is i) t)
+      ∙ ap (λ (cs : List (Option model.Cache)). machine_with cs s.frames t) (caches_more s.caches (temporary s.page_bytes pages) ∙ ap (λ (c : model.Cache). caches_in s ++ Some c ∷ []) (plain_temporary s.page_bytes pages ∙ ap (λ b. answering.temporary b pages) (sym k.page))) in
       let row : make_temp_of m pages ≡ reply (replies.Cache cache) (machine_in new) =
-          temp_row m pages (at_old (λ x. nat_le MOST_MADE (length x.caches) ≡ false) many) (at_old (λ x. nat_lt LIVE_PAGES (live_pages x + pages) ≡ false) large)
-          ∙ (λ i. reply (replies.Cache (record { 0 = (let e : length (caches_in s) + 1 ≡ cache.0 = omega (arith, number, made_many s.caches) in e) i })) (sym next i)) in
+      temp_row m pages (at_old (λ x. nat_le MOST_MADE (length x.caches) ≡ false) many) (at_old (λ x. nat_lt LIVE_PAGES (live_pages x + pages) ≡ false) large)
+      ∙ (λ i. reply (replies.Cache (record { 0 = (let e : length (caches_in s) + 1 ≡ cache.0 = omega (arith, number, made_many s.caches) in e) i })) (sym next i)) in
       let live : live_pages (machine_in new) ≡ live_pages m + pages = ap live_pages next ∙ temp_live m pages in
       subst (λ (x : Manager). CallDone flat x (commands.MakeTemp pages) answer new) view
       (flat_done old new (commands.MakeTemp pages) answer (λ told now. omega (arith, seen_live told m, seen_live now (machine_in new), live, room))

@@ -96,9 +96,9 @@ module _ (s : Store) (n : ℕ) (c : Cache) (alive : numbered s.caches n ≡ Some
             ∙ (elim (cases_lt k first) [
               | inl low ↦ overwrite_before first part c.pages k (omega (arith, within)) low
               | inr high ↦ (elim (cases_lt k (first + length part)) [
-                  | inl inside ↦ absurd (apart same inside high)
-                  | inr past ↦ overwrite_behind first part c.pages k (omega (arith, within)) past
-                ])
+                | inl inside ↦ absurd (apart same inside high)
+                | inr past ↦ overwrite_behind first part c.pages k (omega (arith, within)) past
+              ])
             ])
             ∙ sym (ap (option_and_then (λ (d : Cache). slice_get d.pages k)) alive) ∙ ap (λ j. page_at s.caches j k) (sym same))
         | inr other ↦ ap (option_and_then (λ (d : Cache). slice_get d.pages k)) (puts_other m other)
@@ -136,11 +136,11 @@ module _ (s : Store) (n : ℕ) (c : Cache) (alive : numbered s.caches n ≡ Some
             elim (cases_lt page first) [
               | inl low ↦ kept n page c seg x alive seg_is (sym (overwrite_before first part c.pages page (omega (arith, within)) low) ∙ got)
               | inr high ↦ (elim (cases_lt page (first + length part)) [
-                  | inl inside ↦ (
-                      let at_part : slice_get part (page - first) ≡ Some x = sym (overwrite_in first part c.pages (page - first) page (omega (arith, within)) (omega (arith, high, inside)) (omega (arith, high))) ∙ got in
-                      subst (λ k. IsKept h seg.0 k x) (let e : first + (page - first) ≡ page = omega (arith, high) in e) (new seg (page - first) x seg_is at_part))
-                  | inr past ↦ kept n page c seg x alive seg_is (sym (overwrite_behind first part c.pages page (omega (arith, within)) past) ∙ got)
-                ])
+                | inl inside ↦ (
+                    let at_part : slice_get part (page - first) ≡ Some x = sym (overwrite_in first part c.pages (page - first) page (omega (arith, within)) (omega (arith, high, inside)) (omega (arith, high))) ∙ got in
+                    subst (λ k. IsKept h seg.0 k x) (let e : first + (page - first) ≡ page = omega (arith, high) in e) (new seg (page - first) x seg_is at_part))
+                | inr past ↦ kept n page c seg x alive seg_is (sym (overwrite_behind first part c.pages page (omega (arith, within)) past) ∙ got)
+              ])
             ])
         | inr other ↦ kept m page d seg x (sym (puts_other m other) ∙ there) named at
       ]

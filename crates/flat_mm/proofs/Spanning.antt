@@ -41,13 +41,13 @@ module _ (s : Store) (span : Span) (S : IsSpanned s span) where
 
   part_length : (i : ℕ) → i ≤ span.pages → length (part i) ≡ i
   part_length i few = omega (
-      arith,
-      few,
-      S.inside,
-      length-map (source_of s span i) touched,
-      ap (λ (ps : List Page). length ps) (from_here i),
-      length-take-le i (drop span.from_page.0 S.source.pages) (omega (arith, few, S.inside, length-drop span.from_page.0 S.source.pages)),
-    )
+    arith,
+    few,
+    S.inside,
+    length-map (source_of s span i) touched,
+    ap (λ (ps : List Page). length ps) (from_here i),
+    length-take-le i (drop span.from_page.0 S.source.pages) (omega (arith, few, S.inside, length-drop span.from_page.0 S.source.pages)),
+  )
 
   -- the page that is copied next
   pub source_page : (i : ℕ) → i < span.pages → (p : Page) × (slice_get S.source.pages (span.from_page.0 + i) ≡ Some p)
@@ -92,7 +92,7 @@ module _ (s : Store) (span : Span) (S : IsSpanned s span) where
   source_there off i less p at =
       let long = part_length i (omega (arith, less)) in
       puts_page s span.to.0 S.destination S.to span.to_page.0 (part i) (omega (arith, less, long, S.within)) span.from.0 (span.from_page.0 + i)
-        (λ same inside high. apart off i (span.from_page.0 + i - span.to_page.0) less (omega (arith, less, long, inside, high)) same (omega (arith, high)))
+      (λ same inside high. apart off i (span.from_page.0 + i - span.to_page.0) less (omega (arith, less, long, inside, high)) same (omega (arith, high)))
       ∙ ap (option_and_then (λ (d : Cache). slice_get d.pages (span.from_page.0 + i))) S.from ∙ at
 
   -- Zeros

@@ -101,7 +101,7 @@ module _ {X : Type 0} (M : GhostsOfMapper X) (actor : ActorId) (address : ℕ) (
         let told = M.held before in
         let free = one_denied (is_denied_page m (segments_for told) at.cache.0) at.page.0 false (range_allowed m at.cache.0 at.page.0 1 told may t answer) in
         let next : machine_in new ≡ write_at m here piece =
-            (λ i. machine_with (caches_in (is i)) (is i).frames p.actors) ∙ written_machine p.store p.actors at.cache.0 at.page.0 q x P here piece refl refl refl in
+        (λ i. machine_with (caches_in (is i)) (is i).frames p.actors) ∙ written_machine p.store p.actors at.cache.0 at.page.0 q x P here piece refl refl refl in
         let f : AllowedOutcome m command (Ok replies.Done) (machine_in new) = λ h d. row h ∙ ap (λ (b : Bool). unless b refusals.WriteDenied m (reply replies.Done (write_at m here piece))) d ∙ unless_false refusals.WriteDenied m (reply replies.Done (write_at m here piece)) ∙ ap (reply replies.Done) (sym next) in
         let live : live_pages (machine_in new) ≤ live_pages m = omega (arith, plain_live u.caches, plain_live p.store.caches, ap (λ (s : Store). live_in s.caches) is, put_live p.store at.cache.0 at.page.0 q x P) in
         let page : p.actors.page_bytes ≡ u.page_bytes = k.page ∙ sym (ap (λ (s : Store). s.page_bytes) is) in

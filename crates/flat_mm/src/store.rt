@@ -66,12 +66,7 @@ fn any_of(caches: &[Option<FramedCache>], seg: SegId) -> bool
 }
 
 // Says of a page of a live cache whether it was changed. It tells its frame.
-fn mark(
-    caches: &mut [Option<FramedCache>],
-    cache: CacheId,
-    page: PageNo,
-    changed: bool,
-) -> FrameId
+fn mark(caches: &mut [Option<FramedCache>], cache: CacheId, page: PageNo, changed: bool) -> FrameId
     requires { IsSome (framed_at caches.old cache.0 page.0) }
     ensures frame { option_map (λ p. p.frame) (framed_at caches.old cache.0 page.0) ≡ Some result }
     ensures caches { caches.new ≡ with_framed caches.old cache.0 page.0

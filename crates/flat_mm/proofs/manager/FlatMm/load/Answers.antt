@@ -38,7 +38,7 @@ returns-clause-call g c =
     let command = commands.Load c.args.actor c.args.address c.args.bytes in
     let P = page_there p.store.caches at.cache.0 at.page.0 F.there in
     let bytes : Some P.0.bytes ≡ Some c.bytes-page.result.now =
-        ap (option_map (λ (x : Page). x.bytes)) (sym (page_is p.store at.cache.0 at.page.0 P.0 P.1) ∙ ap (λ (q : Manager). store.page_at q.store.caches at.cache.0 at.page.0) (sym c.self.view_is)) ∙ c.bytes-page.ensures.bytes in
+    ap (option_map (λ (x : Page). x.bytes)) (sym (page_is p.store at.cache.0 at.page.0 P.0 P.1) ∙ ap (λ (q : Manager). store.page_at q.store.caches at.cache.0 at.page.0) (sym c.self.view_is)) ∙ c.bytes-page.ensures.bytes in
     let same : P.0.bytes ≡ c.bytes-page.result.now = cc bytes in
     let seen = page_seen p.store at.cache.0 at.page.0 P.0 P.1 m (place_at F.region at) refl refl refl in
     let piece : take c.args.bytes (drop at.at (page_at m (place_at F.region at))) ≡ c.part.result = ap (λ (b : List ℕ). take c.args.bytes (drop at.at b)) (seen ∙ same) ∙ sym c.part.ensures.part in

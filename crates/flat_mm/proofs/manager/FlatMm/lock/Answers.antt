@@ -81,7 +81,7 @@ returns-then-passes_lock_limit g c =
     let locked = is_locked g (goal.at.returns-then-passes_lock_limit g c).After-set_locked in
     handed g.M.Mapper c.args.mapper.now i.store i.contexts i.actors c.self.invariant c.args.self.now c.self.view_is (commands.Lock c.args.region) (of_lock c.args.region) c.requires (Err (troubles.Refused refusals.LockLimit)) c.set_locked-then-passes_lock_limit.new.self (ap (λ (t : Actors). t.page_bytes) (restored g c))
     (λ h. lock_limit (caches_in i.store) i.store.frames i.contexts c.args.region.0 r.region r.found (sym r.locked ∙ c.if-status.false)
-        (ap (λ (t : Actors). passes_lock_limit (machine_with (caches_in i.store) i.store.frames t)) (sym locked) ∙ sym c.if-passes_lock_limit.ensures)
+    (ap (λ (t : Actors). passes_lock_limit (machine_with (caches_in i.store) i.store.frames t)) (sym locked) ∙ sym c.if-passes_lock_limit.ensures)
     ∙ ap (λ (t : Actors). refuse (machine_with (caches_in i.store) i.store.frames t) refusals.LockLimit) (sym (restored g c)))
 
 pub returns : goal.returns
@@ -91,5 +91,5 @@ returns g c =
     let locked = is_locked g (goal.at.returns g c).After-set_locked in
     handed g.M.Mapper c.args.mapper.now i.store i.contexts i.actors c.self.invariant c.args.self.now c.self.view_is (commands.Lock c.args.region) (of_lock c.args.region) c.requires (Ok replies.Done) c.set_locked.new.self (ap (λ (t : Actors). t.page_bytes) locked)
     (λ h. lock_row (caches_in i.store) i.store.frames i.contexts c.args.region.0 r.region r.found (sym r.locked ∙ c.if-status.false)
-        (ap (λ (t : Actors). passes_lock_limit (machine_with (caches_in i.store) i.store.frames t)) (sym locked) ∙ sym c.if-passes_lock_limit.ensures)
+    (ap (λ (t : Actors). passes_lock_limit (machine_with (caches_in i.store) i.store.frames t)) (sym locked) ∙ sym c.if-passes_lock_limit.ensures)
     ∙ ap (λ (t : Actors). reply replies.Done (machine_with (caches_in i.store) i.store.frames t)) (sym locked))

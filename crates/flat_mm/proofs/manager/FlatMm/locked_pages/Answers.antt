@@ -17,7 +17,7 @@ prove-unreachable-requires c =
     let same = ap (λ (p : Manager). length p.store.caches) c.self.view_is in
     let live = ap (λ (p : Manager). live_in p.store.caches) c.self.view_is in
     let below : c.loop-made.locked + c.locked_in-more.result ≤ c.live-live.result =
-        omega (arith, locked_within m (k + 1) (omega (arith, many, same, c.made-made-end.ensures, c.loop-made-test.true)), one_cache_more m k, c.loop-made.invariant, c.locked_in-more.ensures, c.live-live.ensures.live, live, plain_live c.args.self.now.store.caches) in
+    omega (arith, locked_within m (k + 1) (omega (arith, many, same, c.made-made-end.ensures, c.loop-made-test.true)), one_cache_more m k, c.loop-made.invariant, c.locked_in-more.ensures, c.live-live.ensures.live, live, plain_live c.args.self.now.store.caches) in
     grind (arith, nat_tests)
 
 pub loop-made-preserved : goal.loop-made-preserved

@@ -62,7 +62,7 @@ returns c =
     let n = c.args.actor.0 in
     let caches = caches_in i.store in
     let k : IsMappable t (numbered t.actors n) (size_in (numbered caches x.extent.cache.0)) x =
-        is_mappable t x (numbered t.actors n) (size_in (numbered caches x.extent.cache.0)) (ap (λ (q : Option ℕ). map_refusal t (numbered t.actors n) q x) (size (goal.at.returns c).After-size-size) ∙ sym c.map_refusal.ensures ∙ c.in_default.is) in
+    is_mappable t x (numbered t.actors n) (size_in (numbered caches x.extent.cache.0)) (ap (λ (q : Option ℕ). map_refusal t (numbered t.actors n) q x) (size (goal.at.returns c).After-size-size) ∙ sym c.map_refusal.ensures ∙ c.in_default.is) in
     let row = map_row t x caches i.store.frames n k in
     let at : Result RegionId Trouble → Type 0 = λ r. CallDone flat c.args.self.now (commands.Map c.args.actor x) (answer_by replies.Region r) (record { store = i.store; actors = c.map.new.self }) in
     elim c.match-map.branch [

@@ -42,7 +42,7 @@ lists c P h =
     let i = c.self.inside in
     let is : c.exchange.new.self ≡ then c = c.exchange.ensures.cache ∙ ap (λ (ps : List FramedPage). record c.in-Some.changed { pages = overwrite c.args.first.0 ps c.in-Some.changed.pages }) c.deref_mut.ensures.value in
     let pages : (with_items i.loose c.exchange.new.pages).items ≡ left c =
-        with_items_is i.loose c.exchange.new.pages (omega (arith, c.exchange.auto.pages, c.deref_mut.ensures.len)) ∙ c.exchange.ensures.pages ∙ ap (λ (ps : List FramedPage). take (length ps) (drop c.args.first.0 c.in-Some.changed.pages)) c.deref_mut.ensures.value in
+    with_items_is i.loose c.exchange.new.pages (omega (arith, c.exchange.auto.pages, c.deref_mut.ensures.len)) ∙ c.exchange.ensures.pages ∙ ap (λ (ps : List FramedPage). take (length ps) (drop c.args.first.0 c.in-Some.changed.pages)) c.deref_mut.ensures.value in
     subst (λ (x : Framed). P (set i.caches.items (c.args.cache.0 - 1) (Some x)) (with_items i.loose c.exchange.new.pages).items) (sym is) (subst (P (set i.caches.items (c.args.cache.0 - 1) (Some (then c)))) (sym pages) h)
 
 pub invariant_of-self : goal.invariant_of-self

@@ -22,7 +22,7 @@ pub returns-clause-settled : goal.returns-clause-settled
 returns-clause-settled c = λ p is.
     let i = c.self.inside in
     let bytes = marked_seen i.frames i.caches.items i.loose.items c.self.invariant c.args.cache.0 c.args.page.0 c.deref_mut.result.now c.mark.result c.deref_mut.ensures.value c.mark.ensures.frame p
-        (ap (λ (s : Store). page_at s.caches c.args.cache.0 c.args.page.0) c.self.view_is ∙ is) in
+    (ap (λ (s : Store). page_at s.caches c.args.cache.0 c.args.page.0) c.self.view_is ∙ is) in
     (done c).seen ∙ (λ j. with_page c.args.cache.0 c.args.page.0 (record { bytes = sym bytes j; changed = false }) (c.self.view_is j))
 
 pub returns-clause-whole : goal.returns-clause-whole

@@ -17,7 +17,7 @@ returns-clause-ok c =
     let i = c.self.inside in
     let p : FramedPage = record { frame = c.in-Some.frame; changed = Rattle.std.proofs.Common.false } in
     let took : c.zero.new.self ≡ with_bytes (record i.frames { held = Rattle.std.proofs.Common.set i.frames.held c.in-Some.frame.0 Rattle.std.proofs.Common.true }) c.in-Some.frame.0 (zero_page i.frames.page) =
-        c.zero.ensures ∙ ap (λ (f : Frames). with_bytes f c.in-Some.frame.0 (zero_page f.page)) c.in-Some.ensures.2 in
+    c.zero.ensures ∙ ap (λ (f : Frames). with_bytes f c.in-Some.frame.0 (zero_page f.page)) c.in-Some.ensures.2 in
     let loose : c.push_reserved.new.self.items ≡ i.loose.items ++ p ∷ [] = c.push_reserved.ensures.items ∙ ap (λ (ps : List FramedPage). ps ++ p ∷ []) c.in_ok-reserve.ensures.items in
     (λ j. store_shown (took j) i.caches.items (loose j))
     ∙ took_seen i.frames i.caches.items i.loose.items c.self.invariant p refl c.in-Some.ensures.0 c.in-Some.ensures.1
