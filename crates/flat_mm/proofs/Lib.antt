@@ -1,2 +1,31 @@
+-- How page frames stand behind the pages of caches.
+pub mod Framing
+pub mod Loosening
+-- Actors and their regions.
+pub mod RegionRows
+pub mod Placing
+-- The machine itself refuses nothing for want of room.
+pub mod NeverFull
+-- Calls of the manager, from those of the machine.
+pub mod Calls
+-- Calls that change actors alone.
+pub mod Acting
+-- Caches are made.
+pub mod Making
+-- Loads and stores.
+pub mod Accesses
+-- The mapper is asked whether pages may be written.
+pub mod WriteAccess
+-- Pages are put into a cache.
+pub mod Putting
+pub mod Storing
+-- Which pages are locked.
+pub mod Locked
+-- Chains and counts.
+pub mod Telling
+-- Calls that are handed the mapper and leave it.
+pub mod Handed
+-- Pages are copied and moved.
+pub mod Spanning
 -- The law of two managers.
 pub mod TwoManagers

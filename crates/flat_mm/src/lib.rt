@@ -1,10 +1,35 @@
-//! Two managers over one script: one without paging, in which each live page has a frame of its
-//! own, answers as one that pages, until its frames run out.
+//! A memory manager without paging: each page of a live cache has a page frame of its own from its
+//! making, and a copy copies at once.
 //!
-//! [`laws`] says so of any two managers that keep to the interface of `gmi_calls`: the room of the
-//! one isn't limited, and the other has room for as many pages as there are frames without a live
-//! page. What either pushes to segments, and when, may differ. The crate stands on the plain types,
-//! the plain machine and the interface alone, and names no manager.
+//! [`FlatMm`] keeps the pages of all caches in page frames, and the actors with their regions. It
+//! swaps nothing, defers nothing and tells no page forest; where it has fewer free frames than
+//! pages are asked for it answers `Full`. It is the second manager of the interface of `gmi_calls`:
+//! what the manager with paging (`pvm_core`) saves and costs is measured beside it. What it stands
+//! for is the machine of plain bytes, whose pages are the bytes of the frames. Inside, the store of
+//! pages alone knows of frames; the calls above it speak of caches and their pages. The crate
+//! stands on `frame_pool`, `contexts` and `regions`, as the other manager does.
+//!
+//! [`laws`] compares two managers over one script, by the interface alone and without naming
+//! either: one without paging answers as one that pages, until its frames run out. What either
+//! pushes to segments, and when, may differ.
 #![tactic(auto)]
 
+mod access_calls;
+mod cache_calls;
+mod extent_calls;
+mod framed;
+mod gmi;
 pub mod laws;
+mod locks;
+mod manager;
+mod maps;
+mod pulling;
+mod pushing;
+mod region_calls;
+mod span_calls;
+mod store;
+#[cfg(test)]
+mod tests;
+mod write_access;
+
+pub use manager::FlatMm;

@@ -1,0 +1,21 @@
+use Rattle.std.proofs.Common.{Ok, Err, refl}
+use Rattle.std.specs.Prelude.{None}
+use Rattle.vm_ids.specs.declared.command.Command.TheVariants as commands
+use Rattle.vm_ids.specs.declared.reply.Reply.TheVariants as replies
+use Rattle.vm_ids.specs.declared.reply.Trouble.TheVariants as troubles
+use Rattle.flat_mm.specs.Manager.{caches_in}
+use Rattle.flat_mm.proofs.Acting.{told}
+use Rattle.flat_mm.proofs.RegionRows.{find_err, find_ok}
+use Rattle.flat_mm.proofs.manager.FlatMm.find.Goals as goal
+
+pub returns-in-Ok : goal.returns-in-Ok
+returns-in-Ok c =
+    let i = c.self.inside in
+    told i.store i.contexts i.actors c.self.invariant c.args.self.now c.self.view_is (commands.Find c.args.actor c.args.address) (record { reaches = refl; needs = λ m next. refl; said = λ m h a. tt }) (Ok (replies.Region c.in-Ok.region))
+    (λ h. find_ok (caches_in i.store) i.store.frames i.contexts None h c.args.actor c.args.address c.in-Ok.region c.in-Ok.ensures)
+
+pub returns-in-Err : goal.returns-in-Err
+returns-in-Err c =
+    let i = c.self.inside in
+    told i.store i.contexts i.actors c.self.invariant c.args.self.now c.self.view_is (commands.Find c.args.actor c.args.address) (record { reaches = refl; needs = λ m next. refl; said = λ m h a. tt }) (Err (troubles.Refused c.in-Err.refusal))
+    (λ h. find_err (caches_in i.store) i.store.frames i.contexts None h c.args.actor c.args.address c.in-Err.refusal (Err (troubles.Refused c.in-Err.refusal)) c.in-Err.ensures refl)

@@ -1,0 +1,75 @@
+use Rattle.std.proofs.Common.{◌≡◌, ◌∙◌, Bool, true, false, List, Option, Some, None, Ok, Err, ap, length, map, refl, subst, sym}
+use Rattle.std.specs.Prelude.{is_some, option_map, Result}
+use Rattle.std.proofs.lemmas.Bool.{not-false, not-true}
+use Rattle.vm_ids.specs.declared.command.Command.TheVariants as commands
+use Rattle.vm_ids.specs.declared.numbers.RegionId.{RegionId}
+use Rattle.vm_ids.specs.declared.refusal.Refusal.TheVariants as refusals
+use Rattle.vm_ids.specs.declared.reply.Reply.TheVariants as replies
+use Rattle.vm_ids.specs.declared.reply.Trouble.{Trouble}
+use Rattle.vm_ids.specs.declared.reply.Trouble.TheVariants as troubles
+use Rattle.vm_model.specs.Answering.{answer_by, reply, without_region}
+use Rattle.vm_model.specs.Machine.{numbered}
+use Rattle.vm_model.specs.Regions.{region_with, with_prot, with_lock}
+use Rattle.contexts.specs.Actors.{Actors, split_refusal, with_region, with_split}
+use Rattle.gmi_calls.specs.Calling.{CallDone}
+use Rattle.flat_mm.specs.Manager.{IsManagerSound, Manager, caches_in, flat, machine_with, sizes_in}
+use Rattle.flat_mm.specs.Placed.{AreRight}
+use Rattle.flat_mm.proofs.Acting.{acted, acted_sound, length_replaced, sizes_plain, stayed}
+use Rattle.std.proofs.Common.{◌-◌, ℕ, set}
+use Rattle.std.proofs.lemmas.List.{length-set}
+use Rattle.vm_model.specs.Answering.{insert_region}
+use Rattle.contexts.specs.Actors.{next_region}
+use Rattle.flat_mm.specs.Maps.{map_refusal}
+use Rattle.flat_mm.proofs.Placing.{after_either, next_placed, right_mapped}
+use Rattle.flat_mm.proofs.RegionRows.{IsMappable, is_mappable, map_refused, map_row, size_in}
+use Rattle.flat_mm.proofs.manager.FlatMm.map.Goals.{After-size-size, Joined-map, in-Ok, in-Err}
+use Rattle.flat_mm.proofs.manager.FlatMm.map.Goals as goal
+
+size : (c : After-size-size) → size_in (numbered (caches_in c.self.inside.store) c.args.mapping.extent.cache.0) ≡ c.size-size.result
+size c = sizes_plain c.self.inside.store c.args.mapping.extent.cache.0 ∙ sym c.size-size.ensures.size
+
+pub returns-in-Some : goal.returns-in-Some
+returns-in-Some c =
+    let i = c.self.inside in
+    let x = c.args.mapping in
+    stayed i.store i.contexts i.actors c.self.invariant c.args.self.now c.self.view_is (commands.Map c.args.actor x) (record { reaches = refl; needs = λ m next. refl; said = λ m h a. tt }) (Err (troubles.Refused c.in-Some.refusal))
+    (λ h. map_refused i.contexts x (caches_in i.store) i.store.frames c.args.actor.0 c.in-Some.refusal (numbered i.contexts.actors c.args.actor.0) (numbered (caches_in i.store) x.extent.cache.0) refl refl
+    (ap (λ (q : Option ℕ). map_refusal i.contexts (numbered i.contexts.actors c.args.actor.0) q x) (size (goal.at.returns-in-Some c).After-size-size) ∙ sym c.map_refusal.ensures ∙ c.in-Some.is))
+
+page : (c : Joined-map) → c.map.new.self.page_bytes ≡ c.self.inside.contexts.page_bytes
+page c =
+    let t = c.self.inside.contexts in
+    after_either (λ (u : Actors). u.page_bytes ≡ t.page_bytes) t c.map.new.self (with_region t c.args.actor.0 c.args.mapping) c.map.result c.map.ensures.ok c.map.ensures.err refl refl
+
+pub invariant_of-self : goal.invariant_of-self
+invariant_of-self c =
+    let i = c.self.inside in
+    let t = i.contexts in
+    let x = c.args.mapping in
+    let e = c.map.ensures in
+    let k = c.self.invariant in
+    let new = next_placed (sizes_in i.store) t x (numbered t.actors c.args.actor.0) c.size-size.result (sym c.size-size.ensures.size) (is_mappable t x (numbered t.actors c.args.actor.0) c.size-size.result (sym c.map_refusal.ensures ∙ c.in_default.is)) in
+    acted_sound i.store t c.map.new.self i.actors i.actors k (page c)
+    (after_either (λ (u : Actors). i.actors ≡ length u.actors) t c.map.new.self (with_region t c.args.actor.0 x) c.map.result e.ok e.err
+    (k.counted ∙ sym (length-set t.actors (c.args.actor.0 - 1) (option_map (insert_region (next_region t x)) (numbered t.actors c.args.actor.0)))) k.counted)
+    (after_either (AreRight (sizes_in i.store)) t c.map.new.self (with_region t c.args.actor.0 x) c.map.result e.ok e.err (right_mapped (sizes_in i.store) t c.args.actor.0 x new k.placed) k.placed)
+
+pub returns : goal.returns
+returns c =
+    let i = c.self.inside in
+    let t = i.contexts in
+    let x = c.args.mapping in
+    let n = c.args.actor.0 in
+    let caches = caches_in i.store in
+    let k : IsMappable t (numbered t.actors n) (size_in (numbered caches x.extent.cache.0)) x =
+    is_mappable t x (numbered t.actors n) (size_in (numbered caches x.extent.cache.0)) (ap (λ (q : Option ℕ). map_refusal t (numbered t.actors n) q x) (size (goal.at.returns c).After-size-size) ∙ sym c.map_refusal.ensures ∙ c.in_default.is) in
+    let row = map_row t x caches i.store.frames n k in
+    let at : Result RegionId Trouble → Type 0 = λ r. CallDone flat c.args.self.now (commands.Map c.args.actor x) (answer_by replies.Region r) (record { store = i.store; actors = c.map.new.self }) in
+    elim c.match-map.branch [
+      | in-Ok w ↦ subst at (sym w.result-is)
+          (acted i.store t i.actors c.self.invariant c.args.self.now c.self.view_is (commands.Map c.args.actor x) (record { reaches = refl; needs = λ m next. refl; said = λ m h a. tt }) (Ok (replies.Region w.in-Ok.region)) c.map.new.self (page c)
+          (λ h. row ∙ (λ j. reply (replies.Region (record { 0 = sym w.in-Ok.ensures.number j })) (machine_with caches i.store.frames (sym w.in-Ok.ensures.ok j)))))
+      | in-Err w ↦ subst at (sym w.result-is)
+          (acted i.store t i.actors c.self.invariant c.args.self.now c.self.view_is (commands.Map c.args.actor x) (record { reaches = refl; needs = λ m next. refl; said = λ m h a. tt }) (Err troubles.Memory) c.map.new.self (page c)
+          (λ h. (ap (machine_with caches i.store.frames) w.in-Err.ensures.err, tt, (let line = row in rw line tt))))
+    ]
