@@ -21,7 +21,7 @@ use Rattle.contexts.specs.Actors.{Actors}
 use Rattle.gmi_calls.specs.Calling.{AnswersWithin, CallDone}
 use Rattle.gmi_calls.specs.Room.{pages_needed}
 use Rattle.gmi_calls.proofs.Called.{answer_each, eager_done}
-use Rattle.flat_mm.specs.Manager.{IsManagerSound, Manager, caches_in, flat, machine_in, machine_with, plain, sizes_in}
+use Rattle.flat_mm.specs.Manager.{IsManagerSound, Manager, caches_in, flat, machine_in, machine_with, plain, room_of, sizes_in}
 use Rattle.flat_mm.specs.Placed.{AreRight}
 use Rattle.flat_mm.specs.Store.{AreWhole, Cache, HasWholePages, IsWhole, Page, Store}
 use Rattle.flat_mm.proofs.Calls.{FitsCall, FitsRoom, flat_done, flat_tells, none_made}
@@ -57,7 +57,7 @@ fits_room room m next command (Ok r) h = h
 fits_room room m next command (Err e) h = tt
 
 pub fits_less : (p q : Manager) (command : Command) (a : Answer) → NeedsMade command → live_pages (machine_in q) ≤ live_pages (machine_in p) → FitsCall p command a q
-fits_less p q command a needs less = λ told now. fits_room p.store.free (seen_at told (machine_in p)) (seen_at now (machine_in q)) command a
+fits_less p q command a needs less = λ told now. fits_room (room_of p) (seen_at told (machine_in p)) (seen_at now (machine_in q)) command a
     (omega (arith, needs (seen_at told (machine_in p)) (seen_at now (machine_in q)), none_made told now (machine_in p) (machine_in q) less))
 
 -- Calls

@@ -21,7 +21,7 @@ use Rattle.gmi_calls.specs.Parking.{AccessCall, NoPull}
 use Rattle.gmi_calls.specs.Room.{AnswerWithin, CallWithin, LimitedCall, pages_needed}
 use Rattle.gmi_calls.proofs.Still.{made_still}
 use Rattle.flat_mm.proofs.NeverFull.{never_full}
-use Rattle.flat_mm.specs.Manager.{AreKept, IsValid, Manager, flat, machine_in}
+use Rattle.flat_mm.specs.Manager.{AreKept, IsValid, Manager, flat, machine_in, room_of}
 
 -- How many live pages there are, with or without their bytes
 
@@ -55,7 +55,7 @@ within room before after command (Err (troubles.Refused refusals.Full)) pushes r
 within room before after command (Err e) pushes rises fits is = is
 
 abbrev pub FitsCall : Manager → Command → Answer → Manager → Type 0
-FitsCall p command a q = (told now : Option Held) → FitsRoom p.store.free (seen_at told (machine_in p)) command a (seen_at now (machine_in q))
+FitsCall p command a q = (told now : Option Held) → FitsRoom (room_of p) (seen_at told (machine_in p)) command a (seen_at now (machine_in q))
 
 -- Calls
 
@@ -64,7 +64,7 @@ pub flat_done : (p q : Manager) (command : Command) (a : Answer) → FitsCall p 
     → CallDone eager (machine_in p) command a (machine_in q) → CallDone flat p command a q
 flat_done p q command a fits kept E = record {
   valid = valid;
-  answers = λ h v. within p.store.free (eager_state h (machine_in p)) (eager_state h (machine_in q)) command a [] no_counts (fits h h) (E.answers h v.ready);
+  answers = λ h v. within (room_of p) (eager_state h (machine_in p)) (eager_state h (machine_in q)) command a [] no_counts (fits h h) (E.answers h v.ready);
   made = λ h v. made_still (seen_at h (machine_in p)) command a (seen_at h (machine_in q)) 0;
   room = refl;
 }
@@ -75,7 +75,7 @@ flat_done p q command a fits kept E = record {
 
 -- one that tells something
 pub flat_tells : (p : Manager) (command : Command) (a : Answer) → FitsCall p command a p → AnswersWithin eager (machine_in p) command a (machine_in p) → AnswersWithin flat p command a p
-flat_tells p command a fits E = λ h v. within p.store.free (eager_state h (machine_in p)) (eager_state h (machine_in p)) command a [] no_counts (fits h h) (E h v.ready)
+flat_tells p command a fits E = λ h v. within (room_of p) (eager_state h (machine_in p)) (eager_state h (machine_in p)) command a [] no_counts (fits h h) (E h v.ready)
 
 abbrev pub limited : (room : ℕ) (c d : MapperCounts) (before after : State) (command : Command) (a : Answer) → FitsRoom room before.machine command a after.machine → CallIs c d before command a after → LimitedCall room c d before command a after
 limited room c d before after command a fits E = record { pushes = E.pushes; rises = E.rises; rose = E.rose; is = within room before after command a E.pushes E.rises fits E.is }
@@ -85,7 +85,7 @@ module _ {X : Type 0} (M : GhostsOfMapper X) (before after : X) (p q : Manager) 
   abbrev pub flat_call : MapperCall M eager before (machine_in p) command a after (machine_in q) → MapperCall M flat before p command a after q
   flat_call E = record {
     valid = record { ready = E.valid; kept = kept };
-    answers = limited p.store.free (M.counts before) (M.counts after) (eager_state (M.held before) (machine_in p)) (eager_state (M.held after) (machine_in q)) command a (fits (M.held before) (M.held after)) E.answers;
+    answers = limited (room_of p) (M.counts before) (M.counts after) (eager_state (M.held before) (machine_in p)) (eager_state (M.held after) (machine_in q)) command a (fits (M.held before) (M.held after)) E.answers;
     asks_first = E.asks_first;
     made = made_still (seen_at (M.held before) (machine_in p)) command a (seen_at (M.held after) (machine_in q)) 0;
     room = refl;

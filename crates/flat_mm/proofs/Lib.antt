@@ -25,6 +25,8 @@ pub mod Locked
 pub mod Telling
 -- Calls that are handed the mapper and leave it.
 pub mod Handed
+-- For how many pages there is room.
+pub mod Rooms
 -- Pages are copied and moved.
 pub mod Spanning
 -- The law of two managers.

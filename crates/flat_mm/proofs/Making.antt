@@ -34,7 +34,7 @@ use Rattle.gmi_calls.specs.Calling.{CallDone}
 use Rattle.gmi_calls.specs.Room.{IsFull, pages_needed}
 use Rattle.gmi_calls.proofs.Called.{answer_each, eager_done}
 use Rattle.gmi_calls.proofs.Still.{made_still}
-use Rattle.flat_mm.specs.Manager.{AreKept, IsKept, IsManagerSound, IsValid, Manager, caches_in, flat, machine_in, machine_with, plain, sizes_in}
+use Rattle.flat_mm.specs.Manager.{AreKept, IsKept, IsManagerSound, IsValid, Manager, caches_in, flat, machine_in, machine_with, plain, room_of, sizes_in}
 use Rattle.flat_mm.specs.Placed.{ArePlaced, AreRight, HasItsPages}
 use Rattle.flat_mm.specs.Store.{AreWhole, Cache, Page, Store, live_in, size_of, temporary, zeros}
 use Rattle.flat_mm.proofs.Acting.{NeedsMade, whole_machine}
@@ -153,7 +153,7 @@ module _ (s u : Store) (t : Actors) (n : ℕ) (k : IsManagerSound s t n) (p : Ma
   at_old : (P : Machine → Type 0) → P (machine_in p) → P (machine_in old)
   at_old P h = subst (λ (x : Manager). P (machine_in x)) (sym view) h
 
-  pub made_call : (cache : CacheId) → cache.0 ≡ length s.caches + 1 → u ≡ with_temporary s pages → AreWhole u → nat_le MOST_MADE (length (machine_in p).caches) ≡ false → nat_lt LIVE_PAGES (live_pages (machine_in p) + pages) ≡ false → pages ≤ s.free
+  pub made_call : (cache : CacheId) → cache.0 ≡ length s.caches + 1 → u ≡ with_temporary s pages → AreWhole u → nat_le MOST_MADE (length (machine_in p).caches) ≡ false → nat_lt LIVE_PAGES (live_pages (machine_in p) + pages) ≡ false → pages ≤ room_of old
       → CallDone flat p (commands.MakeTemp pages) (Ok (replies.Cache cache)) new
   made_call cache number is whole many large room =
       let m = machine_in old in
@@ -184,7 +184,7 @@ module _ (s u : Store) (t : Actors) (n : ℕ) (k : IsManagerSound s t n) (p : Ma
 
 -- A call that is refused for want of room alone.
 pub full_done : (p : Manager) (command : Command) (r : Reply) (next : Machine) → ReachesMapper command no_counts → NeedsMade command → ((m : Machine) (h : Option Segments) (a : answering.Answer) → IsSynchronised m h command a)
-    → outcomes.HasWholePages next → PlainOutcome (machine_in p) command (Ok r) next → live_pages (machine_in p) + p.store.free < live_pages next
+    → outcomes.HasWholePages next → PlainOutcome (machine_in p) command (Ok r) next → room_of p < live_pages next - live_pages (machine_in p)
     → CallDone flat p command (Err (troubles.Refused refusals.Full)) p
 full_done p command r next reaches needs said whole outcome more = record {
   valid = λ h v. v;
@@ -201,7 +201,7 @@ full_done p command r next reaches needs said whole outcome more = record {
 }
 
 -- as of a temporary cache
-pub temp_full : (s : Store) (t : Actors) (n : ℕ) → IsManagerSound s t n → (p : Manager) → (let q : Manager = record { store = s; actors = t } in q) ≡ p → (pages : ℕ) → nat_le MOST_MADE (length (machine_in p).caches) ≡ false → nat_lt LIVE_PAGES (live_pages (machine_in p) + pages) ≡ false → s.free < pages
+pub temp_full : (s : Store) (t : Actors) (n : ℕ) → IsManagerSound s t n → (p : Manager) → (let q : Manager = record { store = s; actors = t } in q) ≡ p → (pages : ℕ) → nat_le MOST_MADE (length (machine_in p).caches) ≡ false → nat_lt LIVE_PAGES (live_pages (machine_in p) + pages) ≡ false → room_of p < pages
     → CallDone flat p (commands.MakeTemp pages) (Err (troubles.Refused refusals.Full)) p
 temp_full s t n k p view pages many large more =
     let m = machine_in p in
@@ -209,4 +209,4 @@ temp_full s t n k p view pages many large more =
     (All-append (outcomes.IsWhole m.page_bytes) m.caches (Some (answering.temporary m.page_bytes pages) ∷ []) (subst (λ (x : Manager). outcomes.HasWholePages (machine_in x)) view (whole_machine s t k.page k.whole))
     (All-cons (outcomes.IsWhole m.page_bytes) (Some (answering.temporary m.page_bytes pages)) [] (All-replicate (λ (b : List ℕ). length b ≡ m.page_bytes) pages (zero_page m.page_bytes) (length-replicate m.page_bytes 0)) (All-nil (outcomes.IsWhole m.page_bytes))))
     (λ h. temp_row m pages many large)
-    (omega (arith, temp_live m pages, more, ap (λ (x : Manager). x.store.free) view))
+    (omega (arith, temp_live m pages, more))

@@ -12,6 +12,7 @@ use Rattle.gmi_calls.specs.Backing.{IsReady}
 use Rattle.gmi_calls.specs.Calling.{Meanings, meanings}
 use Rattle.flat_mm.specs.Placed.{AreRight}
 use Rattle.flat_mm.specs.Store.{AreWhole, Cache, Page, Store}
+use Rattle.flat_mm.specs.TwoManagers.{frames_left}
 
 -- the pages in their frames, and the actors with their regions
 pub record Manager : Type 0 where
@@ -41,6 +42,10 @@ machine_with caches frames t = record {
 -- the machine that a manager stands for: each page is the bytes of its frame
 abbrev pub machine_in : Manager → Machine
 machine_in p = machine_with (caches_in p.store) p.store.frames p.actors
+
+-- for so many pages more there are frames
+abbrev pub room_of : Manager → ℕ
+room_of p = frames_left p.store.frames (machine_in p)
 
 -- how many pages a cache has, where it is alive
 abbrev pub sizes_in : Store → ℕ → Option ℕ
@@ -82,4 +87,4 @@ pub record IsValid (p : Manager) (told : Option Held) : Type 0 where
 abbrev pub flat : Meanings Manager
 flat =
     meanings (λ p told. seen_at told (machine_in p)) (λ p told. None) IsValid (λ p. 0)
-    (λ p. Some p.store.free)
+    (λ p. Some (room_of p))

@@ -3,7 +3,7 @@ ghost use Rattle.std.specs.Prelude.{◌≡◌, ◌≤◌, ◌+◌, length, nat_l
 ghost use Rattle.vm_model.specs.Answering.{answer_by};
 ghost use Rattle.vm_model.specs.Machine.{live_pages};
 ghost use Rattle.gmi_calls.specs.Calling.{AnswersWithin, CallDone, Fits, MapperCall, done_by};
-ghost use Rattle.flat_mm.specs.Manager.{IsValid, flat, machine_in};
+ghost use Rattle.flat_mm.specs.Manager.{IsValid, flat, machine_in, room_of};
 
 use crate::FlatMm;
 use crate::pulling::pull_loose;
@@ -32,7 +32,8 @@ impl FlatMm {
 
     // Whether fewer frames are free.
     pub(crate) fn lacks_room(&self, pages: u32) -> bool
-        ensures { result ≡ nat_lt self.now.store.free pages }
+        ensures free { result ≡ nat_lt self.now.store.free pages }
+        ensures room { result ≡ nat_lt (room_of self.now) pages }
     {
         self.store.free() < pages
     }

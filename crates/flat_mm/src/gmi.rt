@@ -1,7 +1,7 @@
 // The manager is one of the interface.
 ghost use Rattle.std.specs.Prelude.{None, Some, true};
 ghost use Rattle.vm_model.specs.Outcome.{seen_at};
-ghost use Rattle.flat_mm.specs.Manager.{IsValid, machine_in};
+ghost use Rattle.flat_mm.specs.Manager.{IsValid, machine_in, room_of};
 
 use crate::FlatMm;
 use gmi_calls::{Delivered, Gmi};
@@ -22,7 +22,7 @@ impl<M: Mapper, C: Chooser> Gmi<M, C> for FlatMm {
 
     ghost made = { λ _. 0 };
 
-    ghost room = { λ p. Some p.store.free };
+    ghost room = { λ p. Some (room_of p) };
 
     ghost ready = { λ _ _ _. true };
 

@@ -50,7 +50,6 @@ impl FlatMm {
         requires page { page ≤ 2 ^ 16 }
         ensures machine { IfOk result (λ p. machine_in p ≡ start frames page) }
         ensures valid { IfOk result (λ p. (told : Option Held) → IsValid p told) }
-        ensures free { IfOk result (λ p. p.store.free ≡ frames) }
     {
         Ok(FlatMm {
             store: PageStore::new(alloc, frames, page)?,

@@ -120,7 +120,9 @@ impl PageStore {
 
     /// How many frames are free.
     pub(crate) fn free(&self) -> u32
-        ensures { result ≡ self.now.free }
+        ensures free { result ≡ self.now.free }
+        ensures counted { result + live_in self.now.caches + length self.now.loose
+            ≡ self.now.frames }
     {
         self.frames.free_count()
     }

@@ -18,3 +18,5 @@ pub mod Answered
 pub mod PortsFormed
 -- And those of scripts of segments that are opened again.
 pub mod KeepsFormed
+-- Calls of a manager in which each live page has a page frame.
+pub mod Framing

@@ -52,8 +52,9 @@ use Rattle.seg_manager.specs.ReferenceMachine.{ReferenceMachine}
 use Rattle.seg_manager.specs.ReferenceMachine.{start as no_openings}
 use Rattle.seg_manager.specs.Stepping.{State as SegmentState}
 use Rattle.seg_manager.specs.Tying.{IsBare as IsBareForSegments}
-use Rattle.replay.specs.Ending.{CommandScene, EndsAs, KeepEnds, MixEnds, Outside, PortEnds, RunEnds, scene_of_ports, scene_of_processes, scene_of_segments, scene_with, status_of, stored_in}
-use Rattle.replay.specs.Managing.{CanCall}
+use Rattle.replay.specs.Ending.{CommandScene, EndsAs, FlatEnds, KeepEnds, MixEnds, Outside, PortEnds, RunEnds, scene_of_frames, scene_of_ports, scene_of_processes, scene_of_segments, scene_with, status_of, stored_in}
+use Rattle.replay.specs.Framed.{framed_command_of, framed_semantics, room_in}
+use Rattle.replay.specs.Managing.{CanCall, CanCallFramed}
 use Rattle.replay.specs.Posting.{port_semantics}
 use Rattle.replay.specs.Processing.{process_semantics}
 use Rattle.replay.specs.Reopening.{keep_semantics}
@@ -176,6 +177,15 @@ keep_ends status frames old now l k begun m machine begins starts ends = record 
       (begins ∙ ap (λ (x : Machine). segments_beginning x old.segments) starts ∙ nothing_open frames old.segments) ends;
 }
 
+-- the promise for a script over a manager whose live pages have frames, from a replay that began
+-- with some machine, which was that of the start
+pub flat_ends : (status : Status) (frames : ℕ) (old now : Outside) (l k : Option (List ℕ)) (m last : Machine) → m ≡ start frames PAGE
+    → EndsAs status framed_semantics framed_command_of (scene_of_frames old m) (scene_of_frames now last) l k → FlatEnds status frames old now l k
+flat_ends status frames old now l k m last starts ends = record {
+  last = last;
+  ends = subst (λ (x : Machine). EndsAs status framed_semantics framed_command_of (scene_of_frames old x) (scene_of_frames now last) l k) starts ends;
+}
+
 -- the mapper takes pages of the size that was asked for
 
 pub pages_are : (told : Option ℕ) (named bytes : ℕ) → IfSome told (λ n. n ≡ named) → named ≡ bytes → IfSome told (λ n. n ≡ bytes)
@@ -203,6 +213,16 @@ can_call G gmi told page_bytes frames bytes valid unlimited pages starts = recor
   fits = fits_start page_bytes frames bytes bytes (G.machine gmi told) pages refl starts;
   live = live_start frames bytes (G.machine gmi told) starts;
   living = living_start frames bytes (G.machine gmi told) starts;
+}
+
+-- and one whose live pages have frames
+pub can_call_framed : {Manager Mapper Chooser : Type 0} (G : GhostsOfGmi Manager Mapper Chooser) (gmi : Manager) (told : Option Held) (page_bytes : Option ℕ) (frames named : ℕ)
+    → G.valid gmi told → ((now : Manager) (held : Option Held) → G.valid now held → G.room now ≡ Some (room_in (G.machine now held))) → IfSome page_bytes (λ n. n ≡ named) → named ≡ PAGE → G.machine gmi told ≡ start frames PAGE → CanCallFramed G gmi told page_bytes
+can_call_framed G gmi told page_bytes frames named valid room pages same starts = record {
+  valid = valid;
+  room = room;
+  fits = fits_start page_bytes frames PAGE named (G.machine gmi told) pages same starts;
+  live = live_start frames PAGE (G.machine gmi told) starts;
 }
 
 -- what it takes to make processes over a manager that began

@@ -218,8 +218,8 @@ abbrev pub keep_behind : List (List ℕ) → Option Asked
 keep_behind words = option_and_then keep_of (values_behind keep_options words)
 
 -- What the words of a command line ask for: they are `run` and its options, `generate` and a
--- script, `trial`, a script and options, or `mix`, `ipc` or `keep` and options. None for other
--- words.
+-- script, `trial`, a script and options, or `mix`, `ipc`, `keep` or `flat` and options. None for
+-- other words.
 unfoldable pub asked_by : List (List ℕ) → Option Asked
 asked_by [] = None
 asked_by (command ∷ words) =
@@ -229,6 +229,7 @@ asked_by (command ∷ words) =
     else if bytes_eq command (codes "mix") then option_map asks.Mix (frames_behind words)
     else if bytes_eq command (codes "ipc") then option_map asks.Ipc (frames_behind words)
     else if bytes_eq command (codes "keep") then keep_behind words
+    else if bytes_eq command (codes "flat") then option_map asks.Flat (frames_behind words)
     else None
 
 -- the folder that words name, or the working folder

@@ -36,6 +36,7 @@ use Rattle.transit_ipc.specs.PortMachine.{PortMachine}
 use Rattle.transit_ipc.specs.PortMachine.{start as no_ports}
 use Rattle.seg_manager.specs.ReferenceMachine.{ReferenceMachine, Stored}
 use Rattle.seg_manager.specs.ReferenceMachine.{start as no_openings}
+use Rattle.replay.specs.Framed.{framed_command_of, framed_semantics}
 use Rattle.replay.specs.Posting.{port_semantics}
 use Rattle.replay.specs.Processing.{process_semantics}
 use Rattle.replay.specs.Reopening.{keep_semantics}
@@ -64,6 +65,11 @@ PortScene = Scene port_semantics Told
 -- same besides.
 abbrev pub SegmentScene : Type 0
 SegmentScene = Scene keep_semantics Told
+
+-- And of a script over a manager in which each live page has a page frame, which tells no page
+-- forest.
+abbrev pub FramedScene : Type 0
+FramedScene = Scene framed_semantics Told
 
 -- What a scene has besides: the mapper's segments, where they are told, its counts, the turns that
 -- the dispatcher has left, and what was written.
@@ -113,6 +119,15 @@ scene_of_ports o ports = record {
 abbrev pub scene_of_segments : Outside → ReferenceMachine → SegmentScene
 scene_of_segments o references = record {
   state = record { references = references; segments = o.segments };
+  counts = o.counts;
+  turns = o.turns;
+  written = o.written;
+}
+
+-- the scene of a machine whose live pages have frames
+abbrev pub scene_of_frames : Outside → Machine → FramedScene
+scene_of_frames o machine = record {
+  state = record { machine = machine; forest = None; segments = o.segments };
   counts = o.counts;
   turns = o.turns;
   written = o.written;
@@ -179,6 +194,14 @@ pub record KeepEnds (status : Status) (frames : ℕ) (before now : Outside) (lef
       (scene_of_segments before (no_openings frames PAGE (stored_in before.segments)))
       (scene_of_segments now last) left left_now
 
+-- How a script ends over a manager in which each live page has one of so many page frames: it began
+-- with the empty machine.
+pub record FlatEnds (status : Status) (frames : ℕ) (before now : Outside) (left left_now : Told)
+    : Type 0 where
+  pub last : Machine
+  pub ends : EndsAs status framed_semantics framed_command_of
+      (scene_of_frames before (start frames PAGE)) (scene_of_frames now last) left left_now
+
 -- All of a text was written; or, where a write failed, a front of it.
 abbrev pub WritesAs : Status → Option (List ℕ) → Option (List ℕ) → List ℕ → Type 0
 WritesAs statuses.Done before now text = Writes before now text
@@ -244,6 +267,8 @@ AskedEnds status (asks.Ipc frames) before now left left_now =
     PortEnds status frames before now left left_now
 AskedEnds status (asks.Keep limit frames) before now left left_now =
     KeepEnds status frames before now left left_now
+AskedEnds status (asks.Flat frames) before now left left_now =
+    FlatEnds status frames before now left left_now
 
 -- only the replay of a script reads the source
 abbrev pub reads_source : Asked → Bool
@@ -251,6 +276,7 @@ reads_source (asks.Run size) = true
 reads_source (asks.Mix frames) = true
 reads_source (asks.Ipc frames) = true
 reads_source (asks.Keep limit frames) = true
+reads_source (asks.Flat frames) = true
 reads_source asked = false
 
 -- What is asked for reads no source, or one that tells no more bytes than a script may have.
@@ -260,4 +286,5 @@ IsWithinLimit (asks.Mix frames) left = IsSomeAnd left (λ all. length all ≤ mo
 IsWithinLimit (asks.Ipc frames) left = IsSomeAnd left (λ all. length all ≤ most_bytes)
 IsWithinLimit (asks.Keep limit frames) left =
     IsSomeAnd left (λ all. length all ≤ most_bytes)
+IsWithinLimit (asks.Flat frames) left = IsSomeAnd left (λ all. length all ≤ most_bytes)
 IsWithinLimit asked left = Unit {0}

@@ -1,7 +1,7 @@
 -- Why few actors are alive, and why the front of a line is read as the line. The laws of a service
 -- cite them.
 use Rattle.std.specs.Prelude.{◌≡◌, ◌≢◌, ◌≤◌, ℕ, List, [], ◌∷◌, length, Option, IsSome}
-use Rattle.std.proofs.Common.{zero-le}
+use Rattle.std.proofs.Common.{ap, zero-le}
 use Rattle.std.specs.List.{AllByRecursion}
 use Rattle.vm_ids.specs.Held.{Held}
 use Rattle.vm_model.specs.Machine.{actor_of}
@@ -13,6 +13,7 @@ use Rattle.actor_script.specs.PortForms.{port_command_of}
 use Rattle.actor_script.proofs.Fronts.{command_of-front, keep_command_of-front, mix_command_of-front, port_command_of-front}
 use Rattle.gmi_calls.specs.declared.gmi.Gmi.{Ghosts as GhostsOfGmi}
 use Rattle.gmi_calls.proofs.FewAlive.{few_alive}
+use Rattle.replay.specs.Framed.{framed_command_of, without_forest}
 use Rattle.replay.specs.Managing.{CanCall}
 use Rattle.line_service.specs.Script.{front_of_line}
 use Rattle.line_service.specs.Serving.{AreDistinct}
@@ -40,6 +41,10 @@ port_fronts line = port_command_of-front line
 
 pub keep_fronts : (line : List ℕ) → keep_command_of (front_of_line line) ≡ keep_command_of line
 keep_fronts line = keep_command_of-front line
+
+pub framed_fronts : (line : List ℕ)
+    → framed_command_of (front_of_line line) ≡ framed_command_of line
+framed_fronts line = ap without_forest (command_of-front line)
 
 -- where nobody is alive, few are
 pub nobody : (actors : List ℕ) → AreDistinct actors → AllByRecursion (λ actor. ⊥) actors

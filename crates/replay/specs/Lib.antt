@@ -2,6 +2,7 @@ pub mod AtOnce
 pub mod Commanding
 pub mod Ending
 pub mod Few
+pub mod Framed
 pub mod Managing
 pub mod Posting
 pub mod Processing

@@ -1,5 +1,5 @@
 -- A manager as whoever answers the lines of a script.
-use Rattle.std.specs.Prelude.{◌≡◌, ◌≤◌, ℕ, List, Option, None}
+use Rattle.std.specs.Prelude.{◌≡◌, ◌≤◌, ℕ, List, Option, None, Some}
 use Rattle.vm_ids.specs.Held.{Held}
 use Rattle.vm_model.specs.Machine.{live_pages, living_actors}
 use Rattle.vm_model.specs.declared.limits.TheConstants.{LIVE_PAGES, LIVING_ACTORS}
@@ -9,6 +9,7 @@ use Rattle.gmi_calls.specs.declared.gmi.Gmi.{Ghosts as GhostsOfGmi}
 use Rattle.line_service.specs.Ending.{Told}
 use Rattle.vm_port.specs.declared.traits.mapper.Mapper.{Ghosts as GhostsOfMapper}
 use Rattle.replay.specs.Ending.{CommandScene}
+use Rattle.replay.specs.Framed.{room_in}
 
 -- What it takes to call a manager: it is valid beside what its mapper holds, its room isn't
 -- limited, the mapper takes pages of the manager's size, and no more pages are live and no more
@@ -20,6 +21,16 @@ pub record CanCall {Manager Mapper Chooser : Type 0} (G : GhostsOfGmi Manager Ma
   pub fits : Fits page_bytes (G.machine gmi held)
   pub live : live_pages (G.machine gmi held) ≤ LIVE_PAGES
   pub living : living_actors (G.machine gmi held) ≤ LIVING_ACTORS
+
+-- What it takes where each live page has a frame: its room is what frames are left, whatever is
+-- called.
+pub record CanCallFramed {Manager Mapper Chooser : Type 0} (G : GhostsOfGmi Manager Mapper Chooser)
+    (gmi : Manager) (held : Option Held) (page_bytes : Option ℕ) : Type 0 where
+  pub valid : G.valid gmi held
+  pub room : (now : Manager) (told : Option Held) → G.valid now told
+      → G.room now ≡ Some (room_in (G.machine now told))
+  pub fits : Fits page_bytes (G.machine gmi held)
+  pub live : live_pages (G.machine gmi held) ≤ LIVE_PAGES
 
 -- The scene of a manager and its mapper. `G` and `M` are the ghost members of the two.
 abbrev pub scene_of_manager : {Manager Mapper Chooser : Type 0} → GhostsOfGmi Manager Mapper Chooser

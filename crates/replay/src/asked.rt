@@ -36,4 +36,7 @@ pub enum Asked {
     /// The replay of the script of segments that the source has left, over so many page frames of
     /// 4,096 bytes. So many caches may be kept to which nothing refers, 0 to 1,024.
     Keep { limit: u32, frames: u32 },
+    /// The replay of the script that the source has left, over a manager in which each live page
+    /// has one of so many page frames of 4,096 bytes.
+    Flat { frames: u32 },
 }

@@ -3,13 +3,15 @@ ghost use Rattle.std.specs.Prelude.{◌≡◌, ◌≢◌, ◌≤◌, ◌^◌, If
 ghost use Rattle.line_service.specs.Ending.{Told};
 ghost use Rattle.line_service.specs.Going.{scene_of};
 ghost use Rattle.line_service.specs.Serving.{answer_budget};
-ghost use Rattle.replay.specs.Ending.{EndsAs, KeepEnds, MixEnds, PortEnds, RunEnds, outside_of};
+ghost use Rattle.replay.specs.Ending.{EndsAs, FlatEnds, KeepEnds, MixEnds, PortEnds, RunEnds, outside_of};
 ghost use Rattle.replay.specs.Replaying.{Replayed, Untouched};
 
 use crate::Status;
 use crate::asked::Size;
 use crate::at_once::AtOnce;
 use crate::commands::Commands;
+use crate::frames::Frames;
+use flat_mm::FlatMm;
 use line_service::{Service, replay};
 use mix_process::Mix;
 use pull_wait::PullWait;
@@ -192,6 +194,45 @@ pub fn replay_segments<S: Source, K: Sink, M: Mapper, C: Chooser, D: Dispatcher>
     replay_lines(
         alloc,
         &mut segments,
+        source,
+        sink,
+        mapper,
+        chooser,
+        dispatcher,
+    )
+}
+
+/// Replays the script that the source has left, over a manager in which each live page has one of so
+/// many page frames.
+pub fn replay_flat<S: Source, K: Sink, M: Mapper, C: Chooser, D: Dispatcher>(
+    alloc: Global,
+    frames: u32,
+    source: &mut S,
+    sink: &mut K,
+    mapper: &mut M,
+    chooser: &mut C,
+    dispatcher: &mut D,
+) -> Status
+    requires few { 3 ≤ frames }
+    requires frames { frames ≤ 2 ^ 16 }
+    requires page { IfSome (M.page_bytes mapper.old) (λ bytes. bytes ≡ PAGE) }
+    ensures ends { result ≢ Status.NoMemory → FlatEnds result frames
+        (outside_of M.Mapper mapper.old (D.turns dispatcher.old) (K.written sink.old))
+        (outside_of M.Mapper mapper.new (D.turns dispatcher.new) (K.written sink.new))
+        (S.left source.old) (S.left source.new) }
+    ensures replayed { Replayed S.Source K.Sink result source.old source.new sink.old sink.new }
+    ensures untouched { result ≡ Status.NoMemory → Untouched source.old source.new sink.old
+        sink.new mapper.old mapper.new chooser.old chooser.new dispatcher.old dispatcher.new }
+{
+    let manager = match FlatMm::new(alloc, frames, PAGE as u32) {
+        Ok(manager) => manager,
+        Err(_) => return Status::NoMemory,
+    };
+    let answerer = Frames { gmi: manager };
+    let mut commands = AtOnce { answerer };
+    replay_lines(
+        alloc,
+        &mut commands,
         source,
         sink,
         mapper,

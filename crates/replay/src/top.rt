@@ -8,13 +8,15 @@ ghost use Rattle.line_service.specs.Script.{most_bytes};
 use crate::Status;
 use crate::asked::Asked;
 use crate::generating::generate;
-use crate::replaying::{replay_commands, replay_messages, replay_processes, replay_segments};
+use crate::replaying::{
+    replay_commands, replay_flat, replay_messages, replay_processes, replay_segments,
+};
 use crate::trying::trial;
 use crate::words::read_words;
 use std::alloc::Global;
 use vm_port::{Chooser, Dispatcher, Mapper, Sink, Source};
 
-/// Runs the program for the words of a command line, which ask for one of six things:
+/// Runs the program for the words of a command line, which ask for one of seven things:
 ///
 /// - `run --frames F [--page B] [--segments DIR]` replays the script that the source has left, over
 ///   a demand-paged manager of F page frames of B bytes, and writes a reply for each line. The
@@ -30,6 +32,9 @@ use vm_port::{Chooser, Dispatcher, Mapper, Sink, Source};
 /// - `keep --limit K --frames F [--segments DIR]` replays the script of segments that the source has
 ///   left, which are opened again and again, over a manager of F page frames of 4,096 bytes, and
 ///   writes a reply for each line. K caches to which nothing refers are kept.
+/// - `flat --frames F [--segments DIR]` replays the script that the source has left, over a manager
+///   without paging, in which each live page has one of F page frames of 4,096 bytes, and writes a
+///   reply for each line.
 ///
 /// Whatever the source, the sink, the mapper, the chooser and the dispatcher: the lines written
 /// are, in the order written, the replies of a machine that keeps each cache as plain bytes and
@@ -41,7 +46,9 @@ use vm_port::{Chooser, Dispatcher, Mapper, Sink, Source};
 /// pages of bytes, which a fork copies at once; those to a script of message ports are those of
 /// ports at which plain pages of bytes wait, first in, first out. With both no segment changes. The
 /// replies to a script of segments are those of a machine in which a segment's cache lives while an
-/// opening or a region refers to it; K is no part of what that machine is.
+/// opening or a region refers to it; K is no part of what that machine is. The replies of a manager
+/// without paging are those of the machine that copies at once, or `Full` exactly where a line asks
+/// for more pages than frames are left; it answers lines in order, and no chains and counts.
 ///
 /// - `Done`: where a script is read, the source has nothing left, and each line is answered; else
 ///   all is written.
@@ -127,5 +134,8 @@ pub fn run<S: Source, K: Sink, M: Mapper, C: Chooser, D: Dispatcher>(
         Asked::Keep { limit, frames } => replay_segments(
             alloc, frames, limit, source, sink, mapper, chooser, dispatcher,
         ),
+        Asked::Flat { frames } => {
+            replay_flat(alloc, frames, source, sink, mapper, chooser, dispatcher)
+        }
     }
 }

@@ -237,8 +237,9 @@ fn keep_behind(alloc: Global, words: &[&str]) -> Result<Option<Asked>, NoMemory>
 
 /// What the words of a command line ask for, which are `run --frames F [--page B] [--segments
 /// DIR]`, `generate N L`, `trial N L --frames F [--segments DIR]`, `mix --frames F [--segments
-/// DIR]`, `ipc --frames F [--segments DIR]` or `keep --limit K --frames F [--segments DIR]`: `None`
-/// exactly for other words. `NoMemory` where there is none to read them.
+/// DIR]`, `ipc --frames F [--segments DIR]`, `keep --limit K --frames F [--segments DIR]` or `flat
+/// --frames F [--segments DIR]`: `None` exactly for other words. `NoMemory` where there is none to
+/// read them.
 #[tactic(auto, unfolding(crate::specs::Commanding::asked_by))]
 pub fn read_words(alloc: Global, words: &[&str]) -> Result<Option<Asked>, NoMemory>
     ensures { IfOk result (λ asked. asked ≡ asked_by (map (λ w. w.now) words.now)) }
@@ -264,6 +265,10 @@ pub fn read_words(alloc: Global, words: &[&str]) -> Result<Option<Asked>, NoMemo
             None => Ok(None),
         },
         [command, options @ ..] if *command == "keep" => keep_behind(alloc, options),
+        [command, options @ ..] if *command == "flat" => match frames_behind(alloc, options)? {
+            Some(frames) => Ok(Some(Asked::Flat { frames })),
+            None => Ok(None),
+        },
         _ => Ok(None),
     }
 }

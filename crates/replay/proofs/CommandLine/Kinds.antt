@@ -30,6 +30,7 @@ IsKind words (asks.Generate script) = IsWord (codes "generate") (λ rest. script
 IsKind words (asks.Trial script frames) = IsWord (codes "trial") (IsTrial script frames) words
 IsKind words (asks.Mix frames) = IsWord (codes "mix") (λ rest. frames_behind rest ≡ Some frames) words
 IsKind words (asks.Ipc frames) = IsWord (codes "ipc") (λ rest. frames_behind rest ≡ Some frames) words
+IsKind words (asks.Flat frames) = IsWord (codes "flat") (λ rest. frames_behind rest ≡ Some frames) words
 IsKind words (asks.Keep limit frames) = IsWord (codes "keep") (λ rest. Made (size_behind keep_options rest) (λ size. size.frames ≡ frames)) words
 
 -- what a word asks for is made of what its words are
@@ -70,7 +71,8 @@ kind_of_words (command ∷ rest) asked e =
     (λ e. this_or (codes "mix") command rest asked _ _ e (mapped (codes "mix") rest asks.Mix _ asked (λ frames is. record { rest = rest; words_are = refl; holds = is }))
     (λ e. this_or (codes "ipc") command rest asked _ _ e (mapped (codes "ipc") rest asks.Ipc _ asked (λ frames is. record { rest = rest; words_are = refl; holds = is }))
     (λ e. this_or (codes "keep") command rest asked _ _ e (keep_is rest asked)
-    (λ e. absurd (cc)))))))
+    (λ e. this_or (codes "flat") command rest asked _ _ e (mapped (codes "flat") rest asks.Flat _ asked (λ frames is. record { rest = rest; words_are = refl; holds = is }))
+    (λ e. absurd (cc))))))))
 
 -- words whose pages have 4,096 bytes ask for a size, too
 plain_size : (words : List (List ℕ)) (frames : ℕ) → frames_behind words ≡ Some frames → Made (size_behind plain_options words) (λ size. size.frames ≡ frames)
@@ -105,6 +107,11 @@ pub ipc_page : (words : List (List ℕ)) (frames : ℕ) → asked_by words ≡ S
 ipc_page words frames e =
     let ipc = kind_of_words words (asks.Ipc frames) e in
     ap page_size_of ipc.words_are ∙ plain_page ipc.rest frames ipc.holds
+
+pub flat_page : (words : List (List ℕ)) (frames : ℕ) → asked_by words ≡ Some (asks.Flat frames) → page_size_of words ≡ PAGE
+flat_page words frames e =
+    let flat = kind_of_words words (asks.Flat frames) e in
+    ap page_size_of flat.words_are ∙ plain_page flat.rest frames flat.holds
 
 pub keep_page : (words : List (List ℕ)) (limit frames : ℕ) → asked_by words ≡ Some (asks.Keep limit frames) → page_size_of words ≡ PAGE
 keep_page words limit frames e =
@@ -148,6 +155,9 @@ mix_bounds words frames e = let mix = kind_of_words words (asks.Mix frames) e in
 
 pub ipc_bounds : (words : List (List ℕ)) (frames : ℕ) → asked_by words ≡ Some (asks.Ipc frames) → HasBounds frames PAGE
 ipc_bounds words frames e = let ipc = kind_of_words words (asks.Ipc frames) e in plain_bounds ipc.rest frames ipc.holds
+
+pub flat_bounds : (words : List (List ℕ)) (frames : ℕ) → asked_by words ≡ Some (asks.Flat frames) → HasBounds frames PAGE
+flat_bounds words frames e = let flat = kind_of_words words (asks.Flat frames) e in plain_bounds flat.rest frames flat.holds
 
 pub keep_bounds : (words : List (List ℕ)) (limit frames : ℕ) → asked_by words ≡ Some (asks.Keep limit frames) → HasBounds frames PAGE
 keep_bounds words limit frames e = let keep = kind_of_words words (asks.Keep limit frames) e in of_size keep_options keep.rest frames keep.holds

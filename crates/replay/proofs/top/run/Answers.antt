@@ -1,6 +1,6 @@
 use Rattle.std.proofs.Common.{◌∙◌, Some, ap, sym}
 use Rattle.replay.specs.declared.asked.Asked.TheVariants as asks
-use Rattle.replay.proofs.CommandLine.Kinds.{ipc_bounds, ipc_page, keep_bounds, keep_page, mix_bounds, mix_page, run_bounds, run_page, trial_bounds, trial_few, trial_page}
+use Rattle.replay.proofs.CommandLine.Kinds.{flat_bounds, flat_page, ipc_bounds, ipc_page, keep_bounds, keep_page, mix_bounds, mix_page, run_bounds, run_page, trial_bounds, trial_few, trial_page}
 use Rattle.replay.proofs.Promise.{as_asked, asked_holds, pages_are, untouched}
 use Rattle.replay.proofs.top.run.Goals as goal
 
@@ -108,3 +108,24 @@ returns-in-Keep-clause-untouched g c = untouched c.replay_segments.result _ _ _ 
 
 pub returns-in-Keep-clause-complete : goal.returns-in-Keep-clause-complete
 returns-in-Keep-clause-complete g c = λ short. c.replay_segments.ensures.replayed.complete (asked_holds (asks.Keep c.in-Keep.limit c.in-Keep.frames) _ _ (sym (ap Some c.in-Keep.is) ∙ sym c.in-Ok-Some.field-0-is ∙ c.in-Ok-Some.ensures) short)
+
+pub replay_flat-requires-clause-few : goal.replay_flat-requires-clause-few
+replay_flat-requires-clause-few g c = (flat_bounds _ c.in-Flat.frames (sym c.in-Ok-Some.ensures ∙ c.in-Ok-Some.field-0-is ∙ ap Some c.in-Flat.is)).few
+
+pub replay_flat-requires-clause-frames : goal.replay_flat-requires-clause-frames
+replay_flat-requires-clause-frames g c = (flat_bounds _ c.in-Flat.frames (sym c.in-Ok-Some.ensures ∙ c.in-Ok-Some.field-0-is ∙ ap Some c.in-Flat.is)).frames
+
+pub replay_flat-requires-clause-page : goal.replay_flat-requires-clause-page
+replay_flat-requires-clause-page g c = pages_are _ _ _ c.requires (flat_page _ c.in-Flat.frames (sym c.in-Ok-Some.ensures ∙ c.in-Ok-Some.field-0-is ∙ ap Some c.in-Flat.is))
+
+pub returns-in-Flat-clause-ends : goal.returns-in-Flat-clause-ends
+returns-in-Flat-clause-ends g c = λ some. as_asked (asks.Flat c.in-Flat.frames) _ _ (sym (ap Some c.in-Flat.is) ∙ sym c.in-Ok-Some.field-0-is ∙ c.in-Ok-Some.ensures) (c.replay_flat.ensures.ends some)
+
+pub returns-in-Flat-clause-too_long_exactly : goal.returns-in-Flat-clause-too_long_exactly
+returns-in-Flat-clause-too_long_exactly g c = c.replay_flat.ensures.replayed.too_long
+
+pub returns-in-Flat-clause-untouched : goal.returns-in-Flat-clause-untouched
+returns-in-Flat-clause-untouched g c = untouched c.replay_flat.result _ _ _ _ _ _ _ _ _ _ c.replay_flat.ensures.replayed.not_usage c.replay_flat.ensures.untouched
+
+pub returns-in-Flat-clause-complete : goal.returns-in-Flat-clause-complete
+returns-in-Flat-clause-complete g c = λ short. c.replay_flat.ensures.replayed.complete (asked_holds (asks.Flat c.in-Flat.frames) _ _ (sym (ap Some c.in-Flat.is) ∙ sym c.in-Ok-Some.field-0-is ∙ c.in-Ok-Some.ensures) short)

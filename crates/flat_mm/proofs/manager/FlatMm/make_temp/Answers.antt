@@ -11,7 +11,7 @@ use Rattle.vm_model.specs.declared.limits.TheConstants.{LIVE_PAGES, MOST_MADE}
 use Rattle.vm_model.specs.Answering.{answer_by}
 use Rattle.vm_model.specs.Machine.{live_pages}
 use Rattle.gmi_calls.specs.Calling.{CallDone}
-use Rattle.flat_mm.specs.Manager.{Manager, flat, machine_in}
+use Rattle.flat_mm.specs.Manager.{Manager, flat, machine_in, room_of}
 use Rattle.flat_mm.proofs.Acting.{stayed}
 use Rattle.flat_mm.proofs.Making.{few_made, made_call, made_many, made_sound, temp_full, temp_large, temp_lacks, temp_many}
 use Rattle.flat_mm.proofs.manager.FlatMm.make_temp.Goals.{Else-has_made_all, Else-lacks_room, Else-passes_live_pages, Joined-make, in-Ok, in-Err}
@@ -41,14 +41,20 @@ returns-then-passes_live_pages c =
 pub returns-then-lacks_room : goal.returns-then-lacks_room
 returns-then-lacks_room c =
     let i = c.self.inside in
-    let more : c.args.self.now.store.free < c.args.pages = (let e = c.if-lacks_room.ensures in grind (arith, nat_tests)) in
+    let more : room_of c.args.self.now < c.args.pages = (let e = c.if-lacks_room.ensures.room in grind (arith, nat_tests)) in
     temp_full i.store i.contexts i.actors c.self.invariant c.args.self.now c.self.view_is c.args.pages (few (goal.at.returns-then-lacks_room c).Else-has_made_all) (small (goal.at.returns-then-lacks_room c).Else-passes_live_pages)
-    (omega (arith, more, ap (λ (p : Manager). p.store.free) c.self.view_is))
+    more
 
 roomy : (c : Else-lacks_room) → c.args.pages ≤ c.self.inside.store.free
 roomy c =
-    let less : c.args.pages ≤ c.args.self.now.store.free = (let e = c.if-lacks_room.ensures in grind (arith, nat_tests)) in
+    let less : c.args.pages ≤ c.args.self.now.store.free = (let e = c.if-lacks_room.ensures.free in grind (arith, nat_tests)) in
     omega (arith, less, ap (λ (p : Manager). p.store.free) c.self.view_is)
+
+-- and there is room for the pages
+enough : (c : Else-lacks_room) → c.args.pages ≤ room_of (record { store = c.self.inside.store; actors = c.self.inside.contexts })
+enough c =
+    let less : c.args.pages ≤ room_of c.args.self.now = (let e = c.if-lacks_room.ensures.room in grind (arith, nat_tests)) in
+    omega (arith, less, ap room_of c.self.view_is)
 
 pub make-requires-clause-few : goal.make-requires-clause-few
 make-requires-clause-few c =
@@ -76,7 +82,7 @@ returns c =
     let large = small (goal.at.returns c).Else-passes_live_pages in
     elim c.match-make.branch [
       | in-Ok w ↦ subst at (sym w.result-is)
-          (made_call i.store c.make.new.self i.contexts i.actors c.self.invariant c.args.self.now c.self.view_is c.args.pages w.in-Ok.cache w.in-Ok.ensures.number w.in-Ok.ensures.ok w.in-Ok.ensures.whole many large (roomy (goal.at.returns c).Else-lacks_room))
+          (made_call i.store c.make.new.self i.contexts i.actors c.self.invariant c.args.self.now c.self.view_is c.args.pages w.in-Ok.cache w.in-Ok.ensures.number w.in-Ok.ensures.ok w.in-Ok.ensures.whole many large (enough (goal.at.returns c).Else-lacks_room))
       | in-Err w ↦ subst at (sym w.result-is)
           (temp_lacks i.store c.make.new.self i.contexts i.actors c.self.invariant c.args.self.now c.self.view_is c.args.pages w.in-Err.ensures.err many large)
     ]
