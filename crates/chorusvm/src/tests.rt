@@ -83,7 +83,7 @@ fn faults_have_a_message(rt: HostRuntime) -> Result<(), std::alloc::AllocError> 
         (
             Status::Usage,
             1,
-            "usage: chorusvm run --frames F [--page B] [--segments DIR] | generate N L | trial N L --frames F [--segments DIR] | mix --frames F [--segments DIR] | ipc --frames F [--segments DIR] | keep --limit K --frames F [--segments DIR]",
+            "usage: chorusvm run --frames F [--page B] [--segments DIR] | generate N L | trial N L --frames F [--segments DIR] | mix --frames F [--segments DIR] | ipc --frames F [--segments DIR] | keep --limit K --frames F [--segments DIR] | flat --frames F [--segments DIR]",
         ),
         (Status::SourceFault, 2, "source fault"),
         (Status::SinkFault, 3, "sink fault"),

@@ -25,6 +25,9 @@ posts frames = Some (asks.Ipc frames)
 abbrev keeps : ℕ → ℕ → Option Asked
 keeps limit frames = Some (asks.Keep limit frames)
 
+abbrev flats : ℕ → Option Asked
+flats frames = Some (asks.Flat frames)
+
 abbrev line_asks : List ℕ → Option Asked
 line_asks line = asked_by (words_of line)
 
@@ -89,6 +92,11 @@ rows = (codes "run --frames 8", runs 8 4096)
     ∷ (codes "keep --limit 1", None)
     ∷ (codes "keep --limit 1 --frames 8 --page 4096", None)
     ∷ (codes "mix --limit 1 --frames 8", None)
+    ∷ (codes "flat --frames 3", flats 3)
+    ∷ (codes "flat --segments d --frames=65536", flats 65536)
+    ∷ (codes "flat", None)
+    ∷ (codes "flat --frames 8 --page 4096", None)
+    ∷ (codes "flat --limit 1 --frames 8", None)
     ∷ (codes "help", None)
     ∷ []
 

@@ -18,7 +18,7 @@ const LINES: u32 = 80;
 
 // Whose pages an actor loads and stores.
 #[derive(Clone, Copy, PartialEq)]
-enum Touched {
+pub(super) enum Touched {
     // Those of a cache of its own.
     Own,
     // Those of all caches.
@@ -64,7 +64,11 @@ fn drawn_line(alloc: Global, draws: &mut Draws, touched: Touched) -> Result<Stri
 }
 
 // A drawn script.
-fn drawn_script(alloc: Global, draws: &mut Draws, touched: Touched) -> Result<String, NoMemory> {
+pub(super) fn drawn_script(
+    alloc: Global,
+    draws: &mut Draws,
+    touched: Touched,
+) -> Result<String, NoMemory> {
     let mut script = String::new(alloc);
     script.push_str(OPENING)?;
     for _ in 0..LINES {

@@ -4,6 +4,7 @@ ghost use Rattle.std.specs.Prelude.{◌≡◌, ◌≤◌, ◌^◌, None, IfOk};
 mod drawn;
 mod draws;
 mod failing_calls;
+mod flat;
 mod following;
 mod generated;
 mod keep;
