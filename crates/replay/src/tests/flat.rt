@@ -59,12 +59,13 @@ destroy c1
 temp 1
 open 1
 actor
-map a1 c4 0 2 10000 rw
+map a1 c3 0 2 10000 rw
 store a1 10000 58
-invalidate c4 0 1
+invalidate c3 0 1
 load a1 10000 1
 store a1 11000 59
-invalidate c4 0 2
+invalidate c3 0 2
+load a1 11000 1
 ";
 
 const PULLED_AGAIN_REPLIES: &str = "1 fault mapper open
@@ -76,15 +77,16 @@ const PULLED_AGAIN_REPLIES: &str = "1 fault mapper open
 7 ok c2
 8 ok c3
 9 ok a1
-10 no NoCache
-11 no BadAddress
-12 no NoCache
-13 no BadAddress
-14 no BadAddress
-15 no NoCache
+10 ok r1
+11 ok
+12 ok
+13 ok 41
+14 ok
+15 no Full
+16 ok 59
 ";
 
-// What these words write for a script over one segment of two pages.
+// These words write these replies for a script over one segment of two pages.
 fn replies_are(
     rt: &impl Abort,
     alloc: Global,
