@@ -157,7 +157,7 @@ module _ (s u : Store) (t : Actors) (n : ℕ) (k : IsManagerSound s t n) (p : Ma
       → CallDone flat p (commands.MakeTemp pages) (Ok (replies.Cache cache)) new
   made_call cache number is whole many large room =
       let m = machine_in old in
-      let answer = Ok (replies.Cache cache) in
+      let answer : answering.Answer = Ok (replies.Cache cache) in
       let page : t.page_bytes ≡ u.page_bytes = k.page ∙ sym (ap (λ (x : Store). x.page_bytes) is) in
       let next : machine_in new ≡ temp_next m pages =
       (λ i. machine_with (ap caches_in is i) (ap (λ (x : Store). x.frames) is i) t)
