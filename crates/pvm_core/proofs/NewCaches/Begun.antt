@@ -23,7 +23,7 @@ use Rattle.local_cache.proofs.Whole.LivePages.{whole_same}
 use Rattle.vm_ids.specs.Forest.Commands.{make}
 use Rattle.vm_ids.specs.Forest.Shape.{IsBounded}
 use Rattle.vm_ids.proofs.Forest.Laws.Commands.{make_keeps_bound}
-use Rattle.vm_model.specs.Machine.{Actor, Machine, Region}
+use Rattle.vm_model.specs.Machine.{Machine}
 use Rattle.vm_model.specs.Outcome.{HasWholePages}
 use Rattle.vm_model.specs.PageForest.{PageForest}
 use Rattle.contexts.specs.Actors.{Actors}
