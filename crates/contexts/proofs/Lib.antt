@@ -10,3 +10,5 @@ pub mod Gone
 pub mod Told
 pub mod Replaced
 pub mod Changing
+pub mod RegionRows
+pub mod Placing

@@ -32,7 +32,7 @@ told_some n first (Some rs ∷ xs) = go (region_among n rs) (told_some n (first 
     go None rest = rest
     go (Some r) rest = refl
 
-none_is : {A : Type 0} (o : Option A) → is_some o ≡ false → o ≡ None
+pub none_is : {A : Type 0} (o : Option A) → is_some o ≡ false → o ≡ None
 none_is None e = refl
 none_is (Some x) e = absurd (cc e)
 

@@ -6,7 +6,7 @@ use Rattle.vm_ids.specs.declared.refusal.Refusal.{Refusal}
 use Rattle.vm_ids.specs.declared.refusal.Refusal.TheVariants.{BadAddress, NoActor, NoRegion, TooMany}
 use Rattle.vm_model.specs.Answering.{insert_region, region_of}
 use Rattle.vm_model.specs.Regions.{region_among, region_with, replace_in, split_at}
-use Rattle.vm_model.specs.Machine.{Actor, Region, numbered}
+use Rattle.vm_model.specs.Machine.{Actor, Cache, Machine, Region, numbered}
 use Rattle.vm_model.specs.Place.{region_at}
 use Rattle.vm_model.specs.declared.limits.TheConstants.{LIVING_ACTORS, MOST_MADE}
 use Rattle.regions.specs.AddressSpace.{id_of}
@@ -17,6 +17,16 @@ pub record Actors : Type 0 where
   pub page_bytes : ℕ
   pub actors : List (Option Actor)
   pub regions_made : ℕ
+
+-- the machine with these caches and frames, and with these actors
+abbrev pub machine_with : List (Option Cache) → ℕ → Actors → Machine
+machine_with caches frames a = record {
+  page_bytes = a.page_bytes;
+  frames = frames;
+  caches = caches;
+  actors = a.actors;
+  regions_made = a.regions_made;
+}
 
 -- no more can be made
 abbrev pub is_full : Actors → Bool

@@ -1,2 +1,4 @@
 pub mod Actors
 pub mod Layout
+pub mod Maps
+pub mod Placed

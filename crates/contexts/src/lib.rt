@@ -8,11 +8,13 @@
 //! The model is what the plain machine (`vm_model`) has of actors: the regions of each, or none
 //! where it is dead, and how many regions were made. The calls say in its words what they do and
 //! answer. Of the fields it holds that each region was made for the actor that has it, under a
-//! number of its own. This crate stands on `vm_ids`, `vm_model` and `regions`; the manager
-//! (`pvm_core`) stands on it.
+//! number of its own. This crate stands on `vm_ids`, `vm_model` and `regions`; both managers
+//! (`pvm_core` and `flat_mm`) stand on it.
 #![tactic(auto)]
 
 mod contexts;
+mod maps;
 mod spaces;
 
 pub use contexts::Contexts;
+pub use maps::passes_end;

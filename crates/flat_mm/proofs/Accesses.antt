@@ -22,13 +22,12 @@ use Rattle.vm_model.proofs.Parts.Lists.{get_set_other, get_set_same, numbered-ma
 use Rattle.vm_model.proofs.Parts.ListParts.{numbered_set, numbered_set_other}
 use Rattle.regions.specs.AddressSpace.{place_told}
 use Rattle.regions.specs.declared.region.Place as regions
-use Rattle.contexts.specs.Actors.{Actors}
+use Rattle.contexts.specs.Actors.{Actors, machine_with}
+use Rattle.contexts.specs.Placed.{AreRight}
+use Rattle.contexts.proofs.Placing.{refused_at, right_weaker, spot}
 use Rattle.gmi_calls.proofs.Accessing.{segments_for}
 use Rattle.flat_mm.specs.Accessing.{IsPlacedAt}
-use Rattle.flat_mm.specs.Placed.{AreRight}
-use Rattle.flat_mm.proofs.Making.{right_weaker}
-use Rattle.flat_mm.proofs.Placing.{refused_at, spot}
-use Rattle.flat_mm.specs.Manager.{AreKept, IsKept, IsManagerSound, IsValid, Manager, caches_in, machine_in, machine_with, plain, sizes_in}
+use Rattle.flat_mm.specs.Manager.{AreKept, IsKept, IsManagerSound, IsValid, Manager, caches_in, machine_in, plain, sizes_in}
 use Rattle.flat_mm.specs.Store as store
 use Rattle.flat_mm.specs.Store.{AreWhole, Cache, Page, Store, with_cache, with_page}
 

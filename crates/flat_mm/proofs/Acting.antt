@@ -17,15 +17,15 @@ use Rattle.vm_model.specs.Outcome.{Outcome, seen_at}
 use Rattle.vm_model.specs.Regions.{region_among, replace_in, replace_region}
 use Rattle.vm_model.specs.Synchronised.{IsSynchronised}
 use Rattle.vm_model.proofs.Parts.Lists.{numbered-map}
-use Rattle.contexts.specs.Actors.{Actors}
+use Rattle.contexts.specs.Actors.{Actors, machine_with}
+use Rattle.contexts.specs.Placed.{AreRight}
+use Rattle.contexts.proofs.RegionRows.{size_in}
 use Rattle.gmi_calls.specs.Calling.{AnswersWithin, CallDone}
 use Rattle.gmi_calls.specs.Room.{pages_needed}
 use Rattle.gmi_calls.proofs.Called.{answer_each, eager_done}
-use Rattle.flat_mm.specs.Manager.{IsManagerSound, Manager, caches_in, flat, machine_in, machine_with, plain, room_of, sizes_in}
-use Rattle.flat_mm.specs.Placed.{AreRight}
+use Rattle.flat_mm.specs.Manager.{IsManagerSound, Manager, caches_in, flat, machine_in, plain, room_of, sizes_in}
 use Rattle.flat_mm.specs.Store.{AreWhole, Cache, HasWholePages, IsWhole, Page, Store}
 use Rattle.flat_mm.proofs.Calls.{FitsCall, FitsRoom, flat_done, flat_tells, none_made}
-use Rattle.flat_mm.proofs.RegionRows.{size_in}
 
 -- The machine's pages
 

@@ -12,14 +12,14 @@ use Rattle.vm_model.specs.Outcome.{Outcome}
 use Rattle.vm_model.specs.Regions.{region_among, region_with, replace_in, replace_region, with_lock}
 use Rattle.vm_model.proofs.Machines.Locks.{lock_taken_back}
 use Rattle.vm_port.specs.declared.traits.mapper.Mapper.{Ghosts as GhostsOfMapper}
-use Rattle.contexts.specs.Actors.{Actors}
+use Rattle.contexts.specs.Actors.{Actors, machine_with}
+use Rattle.contexts.proofs.RegionRows.{with_locked}
 use Rattle.gmi_calls.specs.Calling.{MapperCall}
 use Rattle.gmi_calls.proofs.Called.{eager_left}
-use Rattle.flat_mm.specs.Manager.{IsManagerSound, IsValid, Manager, caches_in, flat, machine_in, machine_with}
+use Rattle.flat_mm.specs.Manager.{IsManagerSound, IsValid, Manager, caches_in, flat, machine_in}
 use Rattle.flat_mm.specs.Store.{Store}
 use Rattle.flat_mm.proofs.Acting.{IsOfActors, fits_less, whole_machine}
 use Rattle.flat_mm.proofs.Calls.{flat_call}
-use Rattle.flat_mm.proofs.RegionRows.{with_locked}
 
 module _ {X : Type 0} (M : GhostsOfMapper X) (x : X) (s : Store) (t : Actors) (n : ℕ) (k : IsManagerSound s t n) (p : Manager) (view : (let q : Manager = record { store = s; actors = t } in q) ≡ p) (command : Command) (of : IsOfActors command) (valid : IsValid p (M.held x)) (a : Answer) where
   -- a call that changes actors

@@ -1,9 +1,6 @@
 -- How page frames stand behind the pages of caches.
 pub mod Framing
 pub mod Loosening
--- Actors and their regions.
-pub mod RegionRows
-pub mod Placing
 -- The machine itself refuses nothing for want of room.
 pub mod NeverFull
 -- Calls of the manager, from those of the machine.

@@ -5,7 +5,7 @@ use Rattle.std.specs.List.{All}
 use Rattle.std.proofs.lemmas.Bool.{cases_eq}
 use Rattle.std.proofs.lemmas.Bool.Decides.{nat_tests}
 use Rattle.std.proofs.lemmas.List.{length-append, length-map, length-replicate, map_push}
-use Rattle.std.proofs.lemmas.List.Elements.{All-append, All-cons, All-nil, All-replicate, All-weaker}
+use Rattle.std.proofs.lemmas.List.Elements.{All-append, All-cons, All-nil, All-replicate}
 use Rattle.std.proofs.lemmas.List.Sums.{sum_by-cons, sum_by_push}
 use Rattle.vm_ids.specs.Counting.{no_counts}
 use Rattle.vm_ids.specs.Held.{Held, Segments, segments_in, segments_of}
@@ -28,14 +28,14 @@ use Rattle.vm_model.specs.Outcome as outcomes
 use Rattle.vm_model.specs.Outcome.{PlainOutcome, seen_at}
 use Rattle.vm_model.specs.Synchronised.{IsSynchronised}
 use Rattle.vm_model.proofs.Parts.ListParts.{numbered_past, numbered_push, numbered_pushed}
-use Rattle.contexts.specs.Actors.{Actors}
+use Rattle.contexts.specs.Actors.{Actors, machine_with}
+use Rattle.contexts.proofs.Placing.{right_weaker}
 use Rattle.gmi_calls.specs.Backing.{IsReady, eager_state}
 use Rattle.gmi_calls.specs.Calling.{CallDone}
 use Rattle.gmi_calls.specs.Room.{IsFull, pages_needed}
 use Rattle.gmi_calls.proofs.Called.{answer_each, eager_done}
 use Rattle.gmi_calls.proofs.Still.{made_still}
-use Rattle.flat_mm.specs.Manager.{AreKept, IsKept, IsManagerSound, IsValid, Manager, caches_in, flat, machine_in, machine_with, plain, room_of, sizes_in}
-use Rattle.flat_mm.specs.Placed.{ArePlaced, AreRight, HasItsPages}
+use Rattle.flat_mm.specs.Manager.{AreKept, IsKept, IsManagerSound, IsValid, Manager, caches_in, flat, machine_in, plain, room_of, sizes_in}
 use Rattle.flat_mm.specs.Store.{AreWhole, Cache, Page, Store, live_in, size_of, temporary, zeros}
 use Rattle.flat_mm.proofs.Acting.{NeedsMade, whole_machine}
 use Rattle.flat_mm.proofs.Calls.{flat_done, seen_live}
@@ -67,17 +67,6 @@ caches_more cs c = map_push (option_map plain) cs (Some c)
 
 pub live_more : (cs : List (Option Cache)) (c : Cache) → live_in (cs ++ Some c ∷ []) ≡ live_in cs + length c.pages
 live_more cs c = sum_by_push size_of cs (Some c)
-
--- regions lie where they lay
-pub right_weaker : (f g : ℕ → Option ℕ) (t : Actors) → ((n count : ℕ) → f n ≡ Some count → g n ≡ Some count) → AreRight f t → AreRight g t
-right_weaker f g t there k = record { some = k.some; placed = All-weaker (ArePlaced f) (ArePlaced g) actor t.actors k.placed }
-  where
-    region : (r : model.Region) → HasItsPages f r → HasItsPages g r
-    region r p = record { count = p.count; there = there r.cache p.count p.there; within = p.within }
-
-    actor : (o : Option model.Actor) → ArePlaced f o → ArePlaced g o
-    actor None p = tt
-    actor (Some rs) p = All-weaker (HasItsPages f) (HasItsPages g) region rs p
 
 sized_more : (cs : List (Option Cache)) (c : Option Cache) (n count : ℕ) → option_map (λ (c : Cache). length c.pages) (numbered cs n) ≡ Some count → option_map (λ (c : Cache). length c.pages) (numbered (cs ++ c ∷ []) n) ≡ Some count
 sized_more cs c n count e = elim (cases_eq n (length cs + 1)) [

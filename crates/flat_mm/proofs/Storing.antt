@@ -22,13 +22,13 @@ use Rattle.vm_model.proofs.Machines.Awaiting.{awaits, store_unless, unless_false
 use Rattle.vm_model.proofs.Parts.Lists.{at_number, sum_by_same}
 use Rattle.vm_port.specs.declared.traits.mapper.Mapper.{Ghosts as GhostsOfMapper}
 use Rattle.regions.specs.declared.region.Place as regions
-use Rattle.contexts.specs.Actors.{Actors}
+use Rattle.contexts.specs.Actors.{Actors, machine_with}
 use Rattle.gmi_calls.specs.Parking.{AccessCall, NoPull}
 use Rattle.gmi_calls.specs.Reaching.{Asked}
 use Rattle.gmi_calls.proofs.Accessing.{denied_call, failed_call, granted_call, range_allowed, range_denied, segments_for}
 use Rattle.gmi_calls.proofs.Called.{eager_quiet}
 use Rattle.flat_mm.specs.Accessing.{IsPlacedAt, place_at}
-use Rattle.flat_mm.specs.Manager.{AreKept, IsManagerSound, IsValid, Manager, caches_in, flat, machine_in, machine_with}
+use Rattle.flat_mm.specs.Manager.{AreKept, IsManagerSound, IsValid, Manager, caches_in, flat, machine_in}
 use Rattle.flat_mm.specs.Store as store
 use Rattle.flat_mm.specs.Store.{AreWhole, Cache, Page, Store, live_in, size_of, with_page}
 use Rattle.flat_mm.proofs.Accesses.{IsPageAt, kept_written, one_denied, store_protected, store_refused, written_machine}

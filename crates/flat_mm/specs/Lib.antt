@@ -3,8 +3,6 @@ pub mod FramedAnswers
 pub mod Frames
 pub mod Layout
 pub mod Manager
-pub mod Maps
-pub mod Placed
 pub mod Spans
 pub mod Store
 pub mod TwoManagers

@@ -8,9 +8,9 @@ use Rattle.vm_model.specs.Machine as model
 use Rattle.vm_model.specs.Machine.{Machine, numbered}
 use Rattle.vm_model.specs.Outcome.{seen_at}
 use Rattle.contexts.specs.Actors.{Actors}
+use Rattle.contexts.specs.Placed.{AreRight}
 use Rattle.gmi_calls.specs.Backing.{IsReady}
 use Rattle.gmi_calls.specs.Calling.{Meanings, meanings}
-use Rattle.flat_mm.specs.Placed.{AreRight}
 use Rattle.flat_mm.specs.Store.{AreWhole, Cache, Page, Store}
 use Rattle.flat_mm.specs.TwoManagers.{frames_left}
 
@@ -28,16 +28,6 @@ plain c = record {
 
 abbrev pub caches_in : Store → List (Option model.Cache)
 caches_in s = map (option_map plain) s.caches
-
--- the machine with these caches and frames, and with these actors
-abbrev pub machine_with : List (Option model.Cache) → ℕ → Actors → Machine
-machine_with caches frames t = record {
-  page_bytes = t.page_bytes;
-  frames = frames;
-  caches = caches;
-  actors = t.actors;
-  regions_made = t.regions_made;
-}
 
 -- the machine that a manager stands for: each page is the bytes of its frame
 abbrev pub machine_in : Manager → Machine

@@ -22,7 +22,6 @@ mod gmi;
 pub mod laws;
 mod locks;
 mod manager;
-mod maps;
 mod pulling;
 mod pushing;
 mod region_calls;

@@ -5,7 +5,6 @@ ghost use Rattle.gmi_calls.specs.Calling.{AnswersWithin, CallDone, done_by};
 ghost use Rattle.flat_mm.specs.Manager.{flat};
 
 use crate::FlatMm;
-use crate::maps::map_refusal;
 use vm_ids::{
     ActorId, Command, Mapping, NoMemory, Prot, Refusal, RegionId, RegionStatus, Reply, Trouble,
 };
@@ -45,7 +44,7 @@ impl FlatMm {
             (Command.Map actor mapping) (answer_by Reply.Region result) self.new }
     {
         let size = self.store.size(mapping.extent.cache);
-        if let Some(refusal) = map_refusal(&self.contexts, actor, &mapping, size) {
+        if let Some(refusal) = self.contexts.map_refusal(actor, &mapping, size) {
             return Err(Trouble::Refused(refusal));
         }
         match self.contexts.map(actor, mapping) {

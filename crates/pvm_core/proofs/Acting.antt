@@ -19,11 +19,10 @@ use Rattle.vm_model.specs.Synchronised.{IsSynchronised}
 use Rattle.local_cache.specs.Arena.{Arena}
 use Rattle.local_cache.specs.Whole.{IsWhole}
 use Rattle.residency.specs.declared.store.Store.{Store}
-use Rattle.contexts.specs.Actors.{Actors}
+use Rattle.contexts.specs.Actors.{Actors, machine_with}
 use Rattle.pvm_core.specs.Manager.{IsValid, Manager, caches_shown, forest_of, machine_of, state_at}
 use Rattle.pvm_core.proofs.Answering.Answered.{seated}
 use Rattle.pvm_core.proofs.Answering.Kept.{seated_valid, seen}
-use Rattle.pvm_core.proofs.Answering.Listed.{machine_with}
 
 -- a command that saves nothing, locks nothing, reaches no mapper, and leaves the segments and the
 -- forest

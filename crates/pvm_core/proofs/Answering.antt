@@ -4,7 +4,6 @@ pub mod Chains
 pub mod Changed
 pub mod Ended
 pub mod Kept
-pub mod Listed
 pub mod Rising
 pub mod Reaching
 pub mod Standing

@@ -4,8 +4,6 @@
 pub mod Written
 -- Tables without one.
 pub mod Tables
--- Regions of other caches.
-pub mod Regions
 -- The rows of a destroy.
 pub mod Rows
 -- The store without the cache.

@@ -13,7 +13,6 @@ pub mod Homes
 -- Pages are granted, and saved for their heirs, before they are replaced.
 pub mod Readiness
 -- Actors and their regions.
-mod RegionRows
 mod Acting
 -- Caches that go.
 mod Destroying

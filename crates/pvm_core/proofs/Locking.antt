@@ -20,8 +20,6 @@ pub mod LockedPages
 pub mod Limit
 -- The regions of an actor, one after the other.
 pub mod Regions
--- The rows of lock and unlock.
-pub mod Rows
 -- The manager at the end.
 pub mod Ends
 -- Locks that go.

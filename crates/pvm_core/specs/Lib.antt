@@ -1,6 +1,4 @@
-pub mod Placed
 pub mod Locks
-pub mod Maps
 pub mod Manager
 pub mod Opening
 pub mod Codes

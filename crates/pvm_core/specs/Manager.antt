@@ -23,8 +23,8 @@ use Rattle.vm_model.specs.Run.{State}
 use Rattle.vm_model.specs.declared.limits.TheConstants.{LIVE_PAGES}
 use Rattle.gmi_calls.specs.Calling.{Meanings}
 use Rattle.contexts.specs.Actors.{Actors}
+use Rattle.contexts.specs.Placed.{AreRight}
 use Rattle.pvm_core.specs.Locks.{AreHeld}
-use Rattle.pvm_core.specs.Placed.{AreRight}
 use Rattle.pvm_core.specs.Translated.{AreTranslationsRight}
 
 -- the caches with their page nodes, the store of frames and slots, the size of a page, and the

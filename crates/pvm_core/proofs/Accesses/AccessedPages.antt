@@ -10,8 +10,8 @@ use Rattle.std.proofs.lemmas.Nat.{div-add-mod', div-mul-add, mod-mul-add}
 use Rattle.vm_ids.specs.declared.refusal.Refusal.TheVariants as refusals
 use Rattle.vm_model.specs.Machine as model
 use Rattle.vm_model.specs.Place.{Place, holds, place_in, place_of_actor, placed, region_at}
-use Rattle.pvm_core.specs.Placed.{EachRegion, IsAligned}
-use Rattle.pvm_core.proofs.Answering.Listed.{held_in}
+use Rattle.contexts.specs.Placed.{EachRegion, IsAligned}
+use Rattle.contexts.proofs.Placing.{held_in}
 
 -- a test that passes exactly where the other one does
 same_tests : (x y : Bool) → (x ≡ true → y ≡ true) → (y ≡ true → x ≡ true) → x ≡ y

@@ -32,16 +32,16 @@ use Rattle.fault_path.specs.Faults.{IsFound, IsOwner}
 use Rattle.fault_path.proofs.Calls.Kept.{still_owner, still_shaped}
 use Rattle.page_release.specs.Homes.{IsWritable}
 use Rattle.contexts.specs.Actors.{Actors}
+use Rattle.contexts.specs.Placed.{AreRight, IsAligned}
+use Rattle.contexts.proofs.Placing.{each_at}
 use Rattle.vm_model.specs.Machine.{Machine, numbered}
 use Rattle.vm_model.specs.Outcome.{HasWholePages}
 use Rattle.vm_model.specs.PageForest.{PageForest}
 use Rattle.vm_model.specs.Place.{Place, place_of_actor}
 use Rattle.pvm_core.specs.Manager as manager
 use Rattle.pvm_core.specs.Manager.{IsManagerSound, IsValid, machine_by, machine_of, state_at}
-use Rattle.pvm_core.specs.Placed.{AreRight, IsAligned}
 use Rattle.pvm_core.specs.Translated.{AreTranslationsRight, IsTranslationRight, Leads, LeadsFound, MayBeWritten, OnlySeen, found_for, frame_to_write, name_at}
 use Rattle.pvm_core.proofs.Accesses.AccessedPages.{page_of_access}
-use Rattle.pvm_core.proofs.Answering.Listed.{each_at}
 use Rattle.pvm_core.proofs.Answering.Kept.{seen}
 use Rattle.pvm_core.proofs.Translating.Alike.{still_right}
 

@@ -36,10 +36,11 @@ use Rattle.vm_model.specs.Place.{Place, place_of_actor}
 use Rattle.vm_model.specs.Run.{CallIs}
 use Rattle.regions.specs.AddressSpace.{access_to, place_told}
 use Rattle.contexts.specs.Actors.{Actors}
+use Rattle.contexts.specs.Placed.{IsAligned}
+use Rattle.contexts.proofs.Placing.{each_at, spot}
 use Rattle.pvm_core.specs.Access.{IsLoaded}
 use Rattle.pvm_core.specs.Manager as manager
 use Rattle.pvm_core.specs.Manager.{IsManagerSound, IsValid, Manager, machine_of, nodes_of, state_at}
-use Rattle.pvm_core.specs.Placed.{IsAligned}
 use Rattle.pvm_core.specs.Translated.{AreTranslationsRight, IsTranslationRight, MayBeWritten, OnlySeen, found_for, name_at, place_of_page}
 use Rattle.pvm_core.proofs.Accesses.Found.{no_rise}
 use Rattle.pvm_core.proofs.Accesses.Loading.{loaded, owner_there}
@@ -47,7 +48,6 @@ use Rattle.pvm_core.proofs.Accesses.AccessedPages.{access_of_page}
 use Rattle.pvm_core.proofs.Accesses.Seen.{seen_by, seen_forest, seen_machine, seen_valid, seen_world}
 use Rattle.pvm_core.proofs.Answering.Answered.{call_is}
 use Rattle.pvm_core.proofs.Answering.Kept.{seen}
-use Rattle.pvm_core.proofs.Answering.Listed.{each_at, spot}
 use Rattle.pvm_core.proofs.Answering.Reaching.{reach_none}
 
 -- The place of an access, and the node that owns the page there, in the frame of a translation.

@@ -16,9 +16,9 @@ use Rattle.vm_model.specs.Outcome.{blank, blank_cache}
 use Rattle.vm_model.specs.PageForest.{PageForest}
 use Rattle.vm_model.specs.Laws.{IsFollowed}
 use Rattle.contexts.specs.Actors.{Actors}
+use Rattle.contexts.proofs.Placing.{right_weaker}
 use Rattle.pvm_core.specs.Locks.{AreHeld}
 use Rattle.pvm_core.specs.Manager.{IsManagerSound, caches_shown, forest_of, machine_by, machine_of}
-use Rattle.pvm_core.proofs.NewCaches.Begun.{right_with}
 use Rattle.pvm_core.proofs.Meaning.Determined.{IsShaped, followed_is}
 use Rattle.pvm_core.proofs.Answering.Kept.{seen}
 use Rattle.pvm_core.proofs.Meaning.Live.{live_most}
@@ -81,7 +81,7 @@ module _ (b d : Arena) (s u : Store) (t : Actors) (live : ℕ) (i : IsManagerSou
     few = i.few;
     loose = subst (λ (ps : List Bool). count_by (λ p. p) ps + 3 ≤ length ps) (sym gives.pins) i.loose;
     locked = held;
-    actors = right_with (size_of b) (size_of d) (λ n k e. same.sizes n ∙ e) t i.actors;
+    actors = right_weaker (size_of b) (size_of d) (λ n k e. same.sizes n ∙ e) t i.actors;
     page = i.page ∙ sym gives.page;
   }
 

@@ -31,7 +31,7 @@ use Rattle.vm_model.specs.Machine.{Machine}
 use Rattle.vm_model.specs.Outcome.{HasWholePages}
 use Rattle.vm_model.specs.PageForest.{PageForest}
 use Rattle.contexts.specs.Actors.{Actors}
-use Rattle.pvm_core.specs.Placed.{AreRight}
+use Rattle.contexts.specs.Placed.{AreRight}
 use Rattle.pvm_core.proofs.Holding.Bound.{AreBound}
 use Rattle.pvm_core.proofs.Holding.Kept.{held_kept}
 use Rattle.pvm_core.proofs.Holding.Made.{held_by_actors}

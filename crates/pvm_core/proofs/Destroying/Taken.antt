@@ -31,6 +31,7 @@ use Rattle.vm_model.specs.PageForest.{PageForest}
 use Rattle.vm_model.specs.Laws.{IsFollowed}
 use Rattle.vm_model.proofs.Forests.Following.{destroyed_followed}
 use Rattle.contexts.specs.Actors.{Actors}
+use Rattle.contexts.proofs.Placing.{placed_actors}
 use Rattle.pvm_core.specs.Locks.{AreHeld}
 use Rattle.pvm_core.specs.Manager.{IsManagerSound, IsValid, Manager, cache_shown, caches_shown, forest_of, live_in, machine_by, machine_of}
 use Rattle.pvm_core.proofs.Answering.Answered.{no_segments}
@@ -41,7 +42,6 @@ use Rattle.pvm_core.proofs.Holding.Made.{held_gone}
 use Rattle.pvm_core.proofs.Meaning.Same.{live_same, set_shaped, shaped_same, shown_shaped}
 use Rattle.pvm_core.proofs.Meaning.Shown.{length-pages, numbered-caches, shown_made}
 use Rattle.pvm_core.proofs.Homes.Sized.{same_or_not}
-use Rattle.pvm_core.proofs.Destroying.Regions.{placed_actors}
 use Rattle.pvm_core.proofs.Destroying.Right.{not_named, without_right, without_store}
 use Rattle.pvm_core.proofs.Destroying.Rows.{destroy_row}
 use Rattle.pvm_core.proofs.Destroying.Tables.{gone, left, other_table, without_at}

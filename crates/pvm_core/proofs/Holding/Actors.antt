@@ -1,19 +1,26 @@
 -- How many locked regions of all actors cover a page, after regions were mapped, cut, protected and
 -- taken away.
 use Rattle.std.proofs.Common.{◌≡◌, ◌==◌, ℕ, ◌+◌, ◌-◌, ◌<◌, ◌≤◌, Bool, true, false, cond, List, [], ◌∷◌, ◌++◌, get_or, set, length, map, Option, Some, None, refl, sym, ap, ◌∙◌, arith}
-use Rattle.std.specs.Prelude.{◌&&◌, count_by, is_some, nat_le, nat_lt, option_map}
+use Rattle.std.specs.Prelude.{◌&&◌, Err, IfSome, Ok, OnErr, OnOk, Result, count_by, is_some, nat_le, nat_lt, option_map}
 use Rattle.std.specs.List.{list_any}
 use Rattle.std.specs.Option.{option_or}
+use Rattle.std.proofs.lemmas.Bool.Decides.{nat_tests}
 use Rattle.std.proofs.lemmas.List.Sums.{sum_by-cons, sum_by-set, sum_by_push}
 use Rattle.std.proofs.lemmas.Option.{get_or_from_slice_get, slice_get_within}
+use Rattle.vm_ids.specs.declared.command.Prot.{Prot}
+use Rattle.vm_ids.specs.declared.numbers.RegionId.{RegionId}
+use Rattle.vm_ids.specs.declared.refusal.Refusal.{Refusal}
+use Rattle.vm_ids.specs.declared.reply.Trouble.{Trouble}
+use Rattle.vm_ids.specs.declared.reply.Trouble.TheVariants as troubles
 use Rattle.vm_ids.proofs.Places.{bit, count_cons}
 use Rattle.vm_model.specs.Answering.{insert_region, maps_in, without_region}
 use Rattle.vm_model.specs.Machine.{Actor, Region, locks, numbered}
 use Rattle.vm_model.proofs.Parts.Lists.{at_number}
-use Rattle.vm_model.specs.Regions.{region_among, region_with, replace_in, replace_region}
-use Rattle.contexts.specs.Actors.{times_among, times_made}
+use Rattle.vm_model.specs.Regions.{region_among, region_with, replace_in, replace_region, split_at, with_prot}
+use Rattle.contexts.specs.Actors.{Actors, split_refusal, times_among, times_made, with_split}
+use Rattle.contexts.proofs.RegionRows.{IsCut, is_cut, with_allowed}
 use Rattle.pvm_core.specs.Locks.{locks_by, locks_over}
-use Rattle.pvm_core.proofs.Holding.Regions.{counted_insert, neither, none_goes, one_goes, replaced, times_none, times_some, unlocked}
+use Rattle.pvm_core.proofs.Holding.Regions.{counted_insert, cut_counts, neither, none_goes, one_goes, prot_counts, replaced, times_none, times_some, unlocked}
 
 module _ (cache page : ℕ) where
   abbrev by_page : Option Actor → ℕ
@@ -85,6 +92,28 @@ module _ (cache page : ℕ) where
           let some = times_some n r rs found in
           both (one_goes (locks cache page) n r rs (omega (arith, times, once)) found (unlocked cache page r free)) (over_left n xs (omega (arith, times, once, some)))
       go rest None here e = both (none_goes (locks cache page) n rs (times_none n rs here)) (rest (omega (arith, times, once)) e)
+
+-- as many locked regions cover each page after a region was protected
+pub over_allowed : (n : ℕ) (prot : Prot) (t : Actors) → is_some (region_with n t.actors) ≡ true → (cache page : ℕ) → locks_over (with_allowed n prot t).actors cache page ≡ locks_over t.actors cache page
+over_allowed n prot t some cache page = go (region_with n t.actors) refl some
+  where
+    go : (o : Option Region) → region_with n t.actors ≡ o → is_some o ≡ true → locks_over (with_allowed n prot t).actors cache page ≡ locks_over t.actors cache page
+    go None found e = absurd (cc e)
+    go (Some r) found e = over_replaced cache page n (with_prot prot) r (prot_counts cache page prot r) t.actors found
+
+-- and after one was cut
+over_split : (t : Actors) (n pages : ℕ) → IsCut t n pages → (cache page : ℕ) → locks_over (with_split t n pages).actors cache page ≡ locks_over t.actors cache page
+over_split t n pages c cache page =
+    let e = c.fewer in
+    let fewer : pages < c.region.pages = grind (arith, nat_tests) in
+    over_replaced cache page n (split_at t.page_bytes pages (t.regions_made + 1)) c.region (cut_counts cache page t.page_bytes pages (t.regions_made + 1) c.region fewer) t.actors c.found
+
+-- or wasn't
+pub over_cut : (t u : Actors) (region : RegionId) (pages : ℕ) (o : Option Refusal) (result : Result RegionId Trouble) → split_refusal t region.0 pages ≡ o → IfSome o (λ r. result ≡ Err (troubles.Refused r))
+    → OnOk result (u ≡ with_split t region.0 pages) → OnErr result (u ≡ t) → (cache page : ℕ) → locks_over u.actors cache page ≡ locks_over t.actors cache page
+over_cut t u region pages None (Ok fresh) is refused ok err cache page = ap (λ (w : Actors). locks_over w.actors cache page) ok ∙ over_split t region.0 pages (is_cut t region.0 pages is) cache page
+over_cut t u region pages (Some r) (Ok fresh) is refused ok err cache page = absurd (cc refused)
+over_cut t u region pages o (Err e) is refused ok err cache page = ap (λ (w : Actors). locks_over w.actors cache page) err
 
 -- A cache that no region maps
 

@@ -14,7 +14,7 @@ use Rattle.vm_model.specs.Machine.{Actor, Machine, Region, is_locked_page, locks
 use Rattle.vm_model.specs.PageForest.{PageForest}
 use Rattle.pvm_core.specs.Locks.{any_locked, locks_by, locks_over}
 use Rattle.pvm_core.specs.Manager.{Manager, machine_by}
-use Rattle.pvm_core.specs.Placed.{ArePlaced, HasItsPages}
+use Rattle.contexts.specs.Placed.{ArePlaced, HasItsPages}
 
 pub some_locked : (n : ℕ) → 1 ≤ n → is_locked n ≡ true
 some_locked zero some = absurd (omega (arith, some))

@@ -23,8 +23,8 @@ use Rattle.residency.specs.World.{world}
 use Rattle.fault_path.specs.Faults as faults
 use Rattle.page_release.specs.Steps.{GivesBack, IsStoreTied, Kept, PinnedStayNamed}
 use Rattle.contexts.specs.Actors.{Actors}
+use Rattle.contexts.specs.Placed.{AreRight}
 use Rattle.pvm_core.specs.Locks.{AreHeld, has_locked, is_locked_name}
-use Rattle.pvm_core.specs.Placed.{AreRight}
 use Rattle.pvm_core.proofs.Holding.Bound.{AreBound, bound_resident, bound_there, one_frame, resident_bound}
 use Rattle.pvm_core.proofs.Holding.Counted.{locked_there}
 use Rattle.pvm_core.proofs.Holding.Made.{both_ways}

@@ -31,22 +31,22 @@ use Rattle.vm_model.specs.PageForest.{PageForest}
 use Rattle.vm_model.specs.Regions.{region_with}
 use Rattle.vm_model.specs.Run.{CallIs}
 use Rattle.vm_model.specs.declared.limits.TheConstants.{MOST_MADE, UNLOCKED_FRAMES}
-use Rattle.contexts.specs.Actors.{Actors, region_count, regions_among}
+use Rattle.contexts.specs.Actors.{Actors, machine_with, region_count, regions_among}
+use Rattle.contexts.proofs.Placing.{right_with_locked}
+use Rattle.contexts.proofs.RegionRows.{lock_row, with_locked}
 use Rattle.pvm_core.specs.Holding.{AreOwned, FailedToHold, HoldsLocked, LocksMore, ReadsAlike, covers, unlocked_in}
 use Rattle.pvm_core.specs.Locks.{AreHeld, locks_by, locks_over}
 use Rattle.pvm_core.specs.Manager.{IsManagerSound, IsValid, Manager, caches_shown, forest_of, machine_by, machine_of, numbered, state_at}
 use Rattle.pvm_core.proofs.Answering.Answered.{call_is, no_segments, outcome_at}
 use Rattle.pvm_core.proofs.Answering.Ended.{Ended}
 use Rattle.pvm_core.proofs.Answering.Kept.{seen, sizeless}
-use Rattle.pvm_core.proofs.Answering.Listed.{machine_with}
 use Rattle.pvm_core.proofs.Answering.Reaching.{reach_told}
 use Rattle.pvm_core.proofs.Answering.Rising.{grown_some, rises_between}
 use Rattle.pvm_core.proofs.Locking.Covered.{placed_with}
 use Rattle.pvm_core.proofs.Locking.Ends.{ends_by, ends_machine, ends_reach, ends_sound, ends_valid, held_of}
 use Rattle.pvm_core.proofs.Locking.Totals.{locked_more}
-use Rattle.pvm_core.proofs.Locking.Limit.{limit_is, over_locked, pages_of, right_with_locked, sizes_shown, with_locked}
+use Rattle.pvm_core.proofs.Locking.Limit.{limit_is, over_locked, pages_of, sizes_shown}
 use Rattle.pvm_core.proofs.Locking.LockedPages.{owned_few}
-use Rattle.pvm_core.proofs.Locking.Rows.{lock_row}
 
 -- How many locks a page has
 

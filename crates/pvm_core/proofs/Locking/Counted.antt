@@ -9,7 +9,7 @@ use Rattle.local_cache.specs.Arena as arena
 use Rattle.local_cache.specs.Whole.{size_of}
 use Rattle.vm_model.specs.Machine.{Machine, cache_of, is_locked_page, locked_in, locked_pages, pages_in}
 use Rattle.pvm_core.specs.Locks.{locks_over}
-use Rattle.pvm_core.specs.Placed.{ArePlaced}
+use Rattle.contexts.specs.Placed.{ArePlaced}
 use Rattle.pvm_core.proofs.Locking.Covered.{over_out, page_locked}
 
 abbrev pub count_at : List ℕ → ℕ → ℕ

@@ -12,7 +12,7 @@ use Rattle.local_cache.specs.Arena.{is_locked}
 use Rattle.vm_model.specs.Machine.{Actor, Machine, Region, is_locked_page, locks, locks_any}
 use Rattle.vm_model.specs.Regions.{region_among, region_with, replace_in, replace_region, with_lock}
 use Rattle.pvm_core.specs.Locks.{locks_by, locks_over}
-use Rattle.pvm_core.specs.Placed.{ArePlaced, HasItsPages}
+use Rattle.contexts.specs.Placed.{ArePlaced, HasItsPages}
 
 -- Whether a page is locked
 

@@ -18,23 +18,22 @@ use Rattle.vm_model.specs.Machine as model
 use Rattle.vm_model.specs.Machine.{Machine}
 use Rattle.vm_model.specs.Outcome.{HasWholePages}
 use Rattle.vm_model.specs.PageForest.{PageForest}
-use Rattle.contexts.specs.Actors.{Actors}
+use Rattle.contexts.specs.Actors.{Actors, machine_with}
+use Rattle.contexts.specs.Placed.{AreRight}
+use Rattle.contexts.proofs.Placing.{right_weaker}
 use Rattle.pvm_core.specs.Holding.{HoldsLocked, ReadsAlike}
 use Rattle.pvm_core.specs.Locks.{AreHeld, locks_over}
 use Rattle.pvm_core.specs.Manager.{AreFull, IsManagerSound, IsValid, cache_shown, caches_shown, forest_of, machine_by, machine_of, pages_shown, shown}
-use Rattle.pvm_core.specs.Placed.{AreRight}
 use Rattle.pvm_core.specs.Reaching.{Reach}
 use Rattle.local_cache.specs.Arena.{locked_count, locks_of}
 use Rattle.local_cache.specs.Whole.{size_of}
 use Rattle.pvm_core.proofs.Answering.Kept.{seen, sizeless, unsized_right}
-use Rattle.pvm_core.proofs.Answering.Listed.{machine_with}
 use Rattle.pvm_core.proofs.Answering.Reaching.{as_told, reach_told}
 use Rattle.pvm_core.proofs.Homes.Full.{full_after}
 use Rattle.pvm_core.proofs.Homes.Pushed.{values_reached}
 use Rattle.pvm_core.proofs.Homes.Sized.{apart_same, sized_after}
 use Rattle.pvm_core.proofs.Meaning.Same.{live_same}
 use Rattle.pvm_core.proofs.Meaning.Shown.{id_of}
-use Rattle.pvm_core.proofs.NewCaches.Begun.{right_with}
 use Rattle.pvm_core.proofs.Readiness.Granted.{shown_same}
 
 -- Forests that read alike show the same caches
@@ -101,7 +100,7 @@ module _ (a b : Arena) (s u : Store) (h g : Option Held) (i j : Option ℕ) (c d
     few = sound.few;
     loose = omega (arith, held.pins, held.few, alike.right.tied.fitted.pinned_frames);
     locked = held;
-    actors = right_with (size_of a) (size_of b) (λ n k e. alike.same.sizes n ∙ e) x right;
+    actors = right_weaker (size_of a) (size_of b) (λ n k e. alike.same.sizes n ∙ e) x right;
     page = page ∙ sound.page ∙ sym alike.page;
   }
 

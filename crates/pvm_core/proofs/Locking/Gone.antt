@@ -24,14 +24,14 @@ use Rattle.vm_model.specs.Regions.{region_with}
 use Rattle.vm_model.specs.Run.{AnswerIs}
 use Rattle.vm_model.specs.Synchronised.{IsSynchronised}
 use Rattle.vm_model.proofs.Parts.Lists.{at_number}
-use Rattle.contexts.specs.Actors.{Actors}
+use Rattle.contexts.specs.Actors.{Actors, machine_with}
+use Rattle.contexts.specs.Placed.{ArePlaced, AreRight, HasItsPages}
+use Rattle.contexts.proofs.RegionRows.{with_locked}
 use Rattle.pvm_core.specs.Holding.{HoldsLocked, KeepsPages, LocksMore, ReadsAlike}
 use Rattle.pvm_core.specs.Locks.{AreHeld, locks_over}
 use Rattle.pvm_core.specs.Manager.{IsManagerSound, IsValid, caches_shown, forest_of, machine_of, numbered, state_at}
-use Rattle.pvm_core.specs.Placed.{ArePlaced, AreRight, HasItsPages}
 use Rattle.pvm_core.proofs.Answering.Answered.{answered}
 use Rattle.pvm_core.proofs.Answering.Kept.{seen}
-use Rattle.pvm_core.proofs.Answering.Listed.{machine_with}
 use Rattle.pvm_core.proofs.Locking.Covered.{gone_over}
 use Rattle.pvm_core.proofs.Locking.Ends.{ends_by, ends_sound, ends_valid, held_of}
 use Rattle.segment_ops.specs.Ranges.{IsPageOf}
@@ -39,7 +39,7 @@ use Rattle.std.specs.List.{All}
 use Rattle.pvm_core.proofs.Locking.Extents.{covers_yes}
 use Rattle.pvm_core.proofs.Locking.Totals.{locked_fewer}
 use Rattle.pvm_core.proofs.Locking.Regions.{all_at}
-use Rattle.pvm_core.proofs.Locking.Limit.{over_unlocked, pages_of, with_locked}
+use Rattle.pvm_core.proofs.Locking.Limit.{over_unlocked, pages_of}
 use Rattle.pvm_core.proofs.Locking.LockedPages.{store_copies}
 
 -- The locks of a region that is unlocked

@@ -3,7 +3,6 @@ use Rattle.std.proofs.Common.{◌≡◌, ℕ, zero, suc, ◌+◌, ◌-◌, ◌<�
 use Rattle.std.specs.Prelude.{nat_lt, option_and_then}
 use Rattle.std.specs.List.{All, range_with_len}
 use Rattle.std.proofs.lemmas.Bool.{cases_lt}
-use Rattle.std.proofs.lemmas.List.Elements.{All-cons, All-nil}
 use Rattle.vm_ids.specs.declared.command.Extent.{Extent}
 use Rattle.vm_ids.proofs.Places.{bit}
 use Rattle.local_cache.specs.Arena.{Arena, Table, locked_count, locks_of, table_of}
@@ -14,16 +13,16 @@ use Rattle.vm_model.specs.Machine.{Region, cache_of, locked_pages, locks, pages_
 use Rattle.vm_model.specs.Regions.{mapping_of, region_with, replace_in, with_lock}
 use Rattle.vm_model.specs.PageForest.{PageForest}
 use Rattle.vm_model.specs.declared.limits.TheConstants.{UNLOCKED_FRAMES}
-use Rattle.contexts.specs.Actors.{Actors}
+use Rattle.contexts.specs.Actors.{Actors, machine_with}
+use Rattle.contexts.proofs.Placing.{right_with_locked}
+use Rattle.contexts.proofs.RegionRows.{with_locked}
+use Rattle.contexts.specs.Placed.{ArePlaced, AreRight}
 use Rattle.pvm_core.specs.Holding.{LocksMore, covers, unlocked_in}
 use Rattle.pvm_core.specs.Locks.{locks_over}
 use Rattle.pvm_core.specs.Manager.{caches_shown}
-use Rattle.pvm_core.specs.Placed.{ArePlaced, AreRight, IsAligned, HasItsPages}
-use Rattle.pvm_core.proofs.Answering.Listed.{machine_with}
 use Rattle.pvm_core.proofs.Locking.Counted.{count_at, pages_counted}
 use Rattle.pvm_core.proofs.Locking.Covered.{as_locked, over_out, replaced_over}
 use Rattle.pvm_core.proofs.Locking.Totals.{locked_more}
-use Rattle.pvm_core.proofs.RegionRows.{replaced_right}
 use Rattle.pvm_core.proofs.Meaning.Shown.{shown_made, shown_size}
 
 -- Tables with other locks
@@ -97,16 +96,6 @@ pub sizes_shown : (f : PageForest) (frames : ℕ) (a : Arena) (t : Actors) (cach
 sizes_shown f frames a t cache = unwrapped (model.numbered (caches_shown f 1 a.caches) cache) ∙ ap (λ (o : Option ℕ). unwrap_or o 0) (shown_size f a.caches cache)
 
 -- A region more is locked
-
--- the actors, of whom a region is locked or unlocked
-abbrev pub with_locked : ℕ → Bool → Actors → Actors
-with_locked n b t = record t { actors = replace_in n (with_lock b) t.actors }
-
-pub right_with_locked : (sizes : ℕ → Option ℕ) (n : ℕ) (b : Bool) (r : Region) (t : Actors) → region_with n t.actors ≡ Some r → AreRight sizes t → AreRight sizes (with_locked n b t)
-right_with_locked sizes n b r t found k =
-    replaced_right sizes n (with_lock b) r t found
-    (λ p. All-cons (HasItsPages sizes) (as_locked b r) [] (record { count = p.count; there = p.there; within = p.within }) (All-nil (HasItsPages sizes)))
-    (λ p. All-cons (IsAligned t.page_bytes) (as_locked b r) [] p (All-nil (IsAligned t.page_bytes))) k
 
 -- what a region covers
 abbrev pub pages_of : Region → Extent

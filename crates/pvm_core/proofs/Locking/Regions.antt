@@ -12,7 +12,7 @@ use Rattle.local_cache.specs.Arena.{Arena, locks_of}
 use Rattle.local_cache.specs.Whole.{SameCaches, size_of}
 use Rattle.segment_ops.specs.Ranges.{HasRange, IsPageOf}
 use Rattle.pvm_core.specs.Holding.{LocksMore, covers}
-use Rattle.pvm_core.specs.Placed.{HasItsPages}
+use Rattle.contexts.specs.Placed.{HasItsPages}
 use Rattle.pvm_core.proofs.Locking.Extents.{covers_yes}
 use Rattle.pvm_core.proofs.Locking.Limit.{pages_of}
 

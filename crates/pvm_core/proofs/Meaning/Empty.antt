@@ -27,8 +27,8 @@ use Rattle.local_cache.specs.Whole.{size_of}
 use Rattle.local_cache.proofs.Whole.LivePages.{no_caches, no_nodes}
 use Rattle.vm_model.specs.Outcome.{IsWhole}
 use Rattle.contexts.specs.Actors.{Actors}
+use Rattle.contexts.specs.Placed.{ArePlaced, EachRegion, IsAligned}
 use Rattle.pvm_core.specs.Locks.{has_locked, locks_over}
-use Rattle.pvm_core.specs.Placed.{ArePlaced, EachRegion, IsAligned}
 use Rattle.vm_ids.specs.declared.numbers.SegId.{SegId}
 use Rattle.pvm_core.specs.Manager as manager
 use Rattle.pvm_core.specs.Manager.{caches_shown}

@@ -2,7 +2,6 @@
 use Rattle.std.proofs.Common.{◌≡◌, ℕ, zero, suc, ◌+◌, ◌*◌, ◌≤◌, Bool, false, List, [], ◌∷◌, ◌++◌, length, get_or, map, replicate, Option, Some, None, refl, sym, ap, ◌∙◌, subst, arith}
 use Rattle.std.specs.Prelude.{IfSome, option_map, sum_by, count_by}
 use Rattle.std.proofs.lemmas.List.{length-append, length-map}
-use Rattle.std.proofs.lemmas.List.Elements.{All-weaker}
 use Rattle.std.proofs.lemmas.List.Sums.{sum_by_push}
 use Rattle.vm_ids.specs.Held.{Held}
 use Rattle.vm_ids.specs.declared.numbers.CacheId.{CacheId}
@@ -24,13 +23,14 @@ use Rattle.local_cache.proofs.Whole.LivePages.{whole_same}
 use Rattle.vm_ids.specs.Forest.Commands.{make}
 use Rattle.vm_ids.specs.Forest.Shape.{IsBounded}
 use Rattle.vm_ids.proofs.Forest.Laws.Commands.{make_keeps_bound}
-use Rattle.vm_model.specs.Machine.{Actor, Machine, Region}
+use Rattle.vm_model.specs.Machine.{Machine}
 use Rattle.vm_model.specs.Outcome.{HasWholePages}
 use Rattle.vm_model.specs.PageForest.{PageForest}
 use Rattle.contexts.specs.Actors.{Actors}
+use Rattle.contexts.specs.Placed.{AreRight}
+use Rattle.contexts.proofs.Placing.{right_weaker}
 use Rattle.pvm_core.proofs.Homes.Full.{full_same}
 use Rattle.pvm_core.proofs.Homes.Sized.{apart_same, sized_same}
-use Rattle.pvm_core.specs.Placed.{ArePlaced, AreRight, HasItsPages}
 use Rattle.pvm_core.specs.Manager.{AreFull, AreSized, IsManagerSound, IsValid, caches_shown, forest_of, live_in, machine_by, machine_of}
 use Rattle.local_cache.proofs.Nodes.Count.{forest_len}
 use Rattle.pvm_core.proofs.Answering.Kept.{seen}
@@ -121,16 +121,6 @@ module _ (a b : Arena) (s u : Store) (t : Actors) (live : ℕ) (room : b ≡ rec
 
 -- Regions stay placed where a cache is added
 
-placed_more : (f g : ℕ → Option ℕ) → ((n k : ℕ) → f n ≡ Some k → g n ≡ Some k) → (r : Region) → HasItsPages f r → HasItsPages g r
-placed_more f g up r p = record { count = p.count; there = up r.cache p.count p.there; within = p.within }
-
-actor_more : (f g : ℕ → Option ℕ) → ((n k : ℕ) → f n ≡ Some k → g n ≡ Some k) → (a : Option Actor) → ArePlaced f a → ArePlaced g a
-actor_more f g up None p = tt
-actor_more f g up (Some rs) p = All-weaker (HasItsPages f) (HasItsPages g) (placed_more f g up) rs p
-
-pub right_with : (f g : ℕ → Option ℕ) → ((n k : ℕ) → f n ≡ Some k → g n ≡ Some k) → (t : Actors) → AreRight f t → AreRight g t
-right_with f g up t r = record { some = r.some; placed = All-weaker (ArePlaced f) (ArePlaced g) (actor_more f g up) t.actors r.placed; aligned = r.aligned }
-
 size : Option Table → Option ℕ
 size o = option_map (λ (t : Table). length t.pages) o
 
@@ -195,7 +185,7 @@ module _ (b d : Arena) (u : Store) (t : Actors) (live n : ℕ) (cache : CacheId)
     loose = i.loose;
     locked = held_made b d u t.actors cache None Zero nodes made stays i.nodes.sound.kept.listed sound.kept.listed i.locked;
     actors = subst (λ (ts : List (Option Table)). AreRight (λ k. option_map (λ (t : Table). length t.pages) (table_at ts k)) t) (sym made.caches)
-        (right_with (size_of b) (λ k. option_map (λ (t : Table). length t.pages) (table_at (b.caches ++ Some table ∷ []) k)) (size_more b.caches (Some table)) t i.actors);
+        (right_weaker (size_of b) (λ k. option_map (λ (t : Table). length t.pages) (table_at (b.caches ++ Some table ∷ []) k)) (size_more b.caches (Some table)) t i.actors);
     page = i.page;
   }
 

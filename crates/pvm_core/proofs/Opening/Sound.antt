@@ -22,10 +22,11 @@ use Rattle.local_cache.proofs.Nodes.Count.{forest_len}
 use Rattle.residency.specs.declared.store.Store.{Store}
 use Rattle.vm_model.specs.declared.limits.TheConstants.{LIVE_PAGES}
 use Rattle.contexts.specs.Actors.{Actors}
+use Rattle.contexts.specs.Placed.{AreRight}
+use Rattle.contexts.proofs.Placing.{right_weaker}
 use Rattle.pvm_core.specs.Manager.{AreFull, AreSized, IsManagerSound, live_in}
 use Rattle.pvm_core.specs.Opening.{ArePagesOf, HasSegment, IsOpened}
-use Rattle.pvm_core.specs.Placed.{AreRight}
-use Rattle.pvm_core.proofs.NewCaches.Begun.{right_with, size_more}
+use Rattle.pvm_core.proofs.NewCaches.Begun.{size_more}
 use Rattle.pvm_core.proofs.Holding.Made.{held_made}
 use Rattle.pvm_core.proofs.Meaning.Live.{nodes_most}
 
@@ -93,7 +94,7 @@ module _ (b d : Arena) (u : Store) (t : Actors) (live n : ℕ) (cache : CacheId)
         loose = i.loose;
         locked = held_made b d u t.actors cache (Some seg) OnSegment nodes made stays i.nodes.sound.kept.listed sound.kept.listed i.locked;
         actors = subst (λ (ts : List (Option Table)). AreRight (λ k. option_map (λ (t : Table). length t.pages) (table_at ts k)) t) (sym made.caches)
-            (right_with (size_of b) (λ k. option_map (λ (t : Table). length t.pages) (table_at (b.caches ++ Some (new_table (Some seg) nodes) ∷ []) k)) (size_more b.caches (Some (new_table (Some seg) nodes))) t i.actors);
+            (right_weaker (size_of b) (λ k. option_map (λ (t : Table). length t.pages) (table_at (b.caches ++ Some (new_table (Some seg) nodes) ∷ []) k)) (size_more b.caches (Some (new_table (Some seg) nodes))) t i.actors);
         page = i.page;
       }
 

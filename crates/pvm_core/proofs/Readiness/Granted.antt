@@ -26,12 +26,12 @@ use Rattle.vm_model.specs.Machine.{Machine}
 use Rattle.vm_model.specs.Outcome.{HasWholePages}
 use Rattle.vm_model.specs.PageForest.{PageForest}
 use Rattle.contexts.specs.Actors.{Actors}
+use Rattle.contexts.proofs.Placing.{right_weaker}
 use Rattle.pvm_core.specs.Manager.{AreFull, AreSized, IsManagerSound, IsValid, cache_shown, caches_shown, forest_of, machine_by, machine_of, pages_shown, state_at}
 use Rattle.pvm_core.specs.Writes.{GrantsWithin, KeepsNodes, OnlyAsked, SameGrants, asked_end}
 use Rattle.vm_port.specs.declared.traits.mapper.Mapper.{Ghosts}
 use Rattle.segment_ops.proofs.Granting.{granted_locks}
 use Rattle.pvm_core.proofs.Holding.Made.{held_by_cells}
-use Rattle.pvm_core.proofs.NewCaches.Begun.{right_with}
 use Rattle.pvm_core.proofs.Homes.Full.{full_same}
 use Rattle.pvm_core.proofs.Answering.Kept.{seen, sizeless, unsized_right}
 use Rattle.pvm_core.proofs.Meaning.Same.{live_same}
@@ -120,7 +120,7 @@ module _ (a b : Arena) (s : Store) (t : Actors) (live : ℕ) (stays : KeepsNodes
     few = i.few;
     loose = i.loose;
     locked = held_by_cells a b s t.actors stays.cells stays.locks i.nodes.sound.kept.listed stays.whole.sound.kept.listed i.locked;
-    actors = right_with (size_of a) (size_of b) (λ n k e. stays.same.sizes n ∙ e) t i.actors;
+    actors = right_weaker (size_of a) (size_of b) (λ n k e. stays.same.sizes n ∙ e) t i.actors;
     page = i.page;
   }
 

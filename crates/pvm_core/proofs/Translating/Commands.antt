@@ -13,7 +13,6 @@ use Rattle.vm_ids.specs.declared.reply.RegionStatus.{RegionStatus}
 use Rattle.vm_ids.specs.declared.reply.Trouble.{Trouble}
 use Rattle.vm_ids.specs.declared.reply.Trouble.TheVariants as troubles
 use Rattle.std.proofs.lemmas.Bool.Decides.{nat_tests}
-use Rattle.pvm_core.proofs.RegionRows.{is_cut}
 use Rattle.vm_ids.proofs.Places.{same_number}
 use Rattle.vm_model.specs.Answering.{overlaps, without_region}
 use Rattle.vm_model.specs.Machine.{Actor, Region, numbered}
@@ -22,6 +21,7 @@ use Rattle.vm_model.specs.Regions.{region_with, replace_in, split_at, status_in,
 use Rattle.vm_model.proofs.Parts.Lists.{is_there, numbered_place}
 use Rattle.contexts.specs.Actors.{Actors, times_made, with_region, with_split, split_refusal}
 use Rattle.contexts.proofs.Told.{IsTold, is_told, told_some}
+use Rattle.contexts.proofs.RegionRows.{is_cut}
 use Rattle.local_cache.specs.Arena.{Arena}
 use Rattle.page_tables.specs.Entries.{is_between, is_of_actor}
 use Rattle.page_tables.specs.Translations.{entry_at, unless}

@@ -11,8 +11,8 @@ use Rattle.vm_model.specs.Machine.{Actor, Region, numbered}
 use Rattle.vm_model.specs.Place.{Place, holds, place_in, place_of_actor, placed, region_at}
 use Rattle.vm_model.specs.Regions.{region_among, replace_in, replace_region, with_lock}
 use Rattle.contexts.specs.Actors.{Actors}
+use Rattle.contexts.proofs.RegionRows.{with_locked}
 use Rattle.pvm_core.specs.Translated.{AreTranslationsRight, name_at}
-use Rattle.pvm_core.proofs.Locking.Limit.{with_locked}
 
 -- the region, whether it is locked or not
 abbrev free : Region → Region

@@ -18,8 +18,8 @@ use Rattle.residency.specs.declared.store.Store.{Store}
 use Rattle.page_release.specs.Homes.{IsWritable}
 use Rattle.page_release.specs.Translating.{Replaces, freed, where_mapped}
 use Rattle.contexts.specs.Actors.{Actors}
+use Rattle.contexts.proofs.Placing.{neither, other_number}
 use Rattle.pvm_core.specs.Translated.{AreTranslationsRight, name_at, place_of_page}
-use Rattle.pvm_core.proofs.Destroying.Regions.{neither, other_number}
 use Rattle.pvm_core.proofs.Translating.Alike.{still_right}
 use Rattle.pvm_core.proofs.Translating.Dropped.{left_unless}
 use Rattle.pvm_core.proofs.Translating.Places.{lies_in}

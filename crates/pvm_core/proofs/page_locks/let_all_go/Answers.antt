@@ -7,7 +7,7 @@ use Rattle.local_cache.specs.Whole.{size_of}
 use Rattle.residency.specs.declared.store.Store.{Store}
 use Rattle.segment_ops.specs.Ranges.{HasRange, IsPageOf}
 use Rattle.pvm_core.specs.Holding.{HoldsLocked, KeepsPages, LocksMore}
-use Rattle.pvm_core.specs.Placed.{HasItsPages}
+use Rattle.contexts.specs.Placed.{HasItsPages}
 use Rattle.pvm_core.proofs.Locking.LockedPages.{keeps_then}
 use Rattle.pvm_core.proofs.Locking.Regions.{all_at, next_locked, next_unlocked, pages_locked, placed_range, viewed}
 use Rattle.pvm_core.proofs.page_locks.let_all_go.Goals as goal

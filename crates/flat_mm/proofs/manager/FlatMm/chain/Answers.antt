@@ -9,7 +9,7 @@ use Rattle.vm_model.specs.Machine.{Cache, numbered}
 use Rattle.vm_model.specs.Outcome.{IsNotRefused}
 use Rattle.flat_mm.specs.Manager.{Manager, caches_in, machine_in}
 use Rattle.flat_mm.proofs.Acting.{sizes_plain, told}
-use Rattle.flat_mm.proofs.RegionRows.{sized, unsized}
+use Rattle.contexts.proofs.RegionRows.{sized, unsized}
 use Rattle.flat_mm.proofs.Telling.{chain_none, chain_past, chain_row}
 use Rattle.flat_mm.proofs.manager.FlatMm.chain.Goals.{In-Some}
 use Rattle.flat_mm.proofs.manager.FlatMm.chain.Goals as goal

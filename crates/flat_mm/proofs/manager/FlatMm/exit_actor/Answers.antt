@@ -6,10 +6,10 @@ use Rattle.vm_ids.specs.declared.reply.Reply.TheVariants as replies
 use Rattle.vm_ids.specs.declared.reply.Trouble.TheVariants as troubles
 use Rattle.vm_model.specs.Answering.{reply}
 use Rattle.vm_model.specs.Machine.{numbered}
-use Rattle.contexts.specs.Actors.{Actors}
-use Rattle.flat_mm.specs.Manager.{caches_in, machine_with}
+use Rattle.contexts.specs.Actors.{Actors, machine_with}
+use Rattle.contexts.proofs.RegionRows.{exit_none, exit_row}
+use Rattle.flat_mm.specs.Manager.{caches_in}
 use Rattle.flat_mm.proofs.Acting.{acted, mapped_some, stayed}
-use Rattle.flat_mm.proofs.RegionRows.{exit_none, exit_row}
 use Rattle.flat_mm.proofs.manager.FlatMm.exit_actor.Goals as goal
 
 pub returns-then-is_none : goal.returns-then-is_none

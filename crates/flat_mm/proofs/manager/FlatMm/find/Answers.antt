@@ -5,7 +5,7 @@ use Rattle.vm_ids.specs.declared.reply.Reply.TheVariants as replies
 use Rattle.vm_ids.specs.declared.reply.Trouble.TheVariants as troubles
 use Rattle.flat_mm.specs.Manager.{caches_in}
 use Rattle.flat_mm.proofs.Acting.{told}
-use Rattle.flat_mm.proofs.RegionRows.{find_err, find_ok}
+use Rattle.contexts.proofs.RegionRows.{find_err, find_ok}
 use Rattle.flat_mm.proofs.manager.FlatMm.find.Goals as goal
 
 pub returns-in-Ok : goal.returns-in-Ok

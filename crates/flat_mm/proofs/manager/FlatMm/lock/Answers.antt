@@ -8,13 +8,13 @@ use Rattle.vm_ids.specs.declared.reply.Reply.TheVariants as replies
 use Rattle.vm_ids.specs.declared.reply.Trouble.TheVariants as troubles
 use Rattle.vm_model.specs.Answering.{passes_lock_limit, refuse, reply}
 use Rattle.vm_model.specs.Regions.{region_with, with_lock}
-use Rattle.contexts.specs.Actors.{Actors}
+use Rattle.contexts.specs.Actors.{Actors, machine_with}
+use Rattle.contexts.proofs.Placing.{right_with_locked}
+use Rattle.contexts.proofs.RegionRows.{IsToldOf, lock_limit, lock_locked, lock_none, lock_row, told_of, untold_of, with_locked}
 use Rattle.gmi_calls.specs.Calling.{MapperCall}
-use Rattle.flat_mm.specs.Manager.{IsManagerSound, Manager, caches_in, flat, machine_with, sizes_in}
+use Rattle.flat_mm.specs.Manager.{IsManagerSound, Manager, caches_in, flat, sizes_in}
 use Rattle.flat_mm.proofs.Acting.{IsOfActors, acted_sound, length_replaced}
 use Rattle.flat_mm.proofs.Handed.{handed, handed_back, lock_undone, locked_found}
-use Rattle.flat_mm.proofs.Placing.{right_with_locked}
-use Rattle.flat_mm.proofs.RegionRows.{IsToldOf, lock_limit, lock_locked, lock_none, lock_row, told_of, untold_of, with_locked}
 use Rattle.flat_mm.proofs.manager.FlatMm.lock.Goals.{After-set_locked, After-set_locked-then-passes_lock_limit, In-Some}
 use Rattle.flat_mm.proofs.manager.FlatMm.lock.Given.{Over}
 use Rattle.flat_mm.proofs.manager.FlatMm.lock.Goals as goal

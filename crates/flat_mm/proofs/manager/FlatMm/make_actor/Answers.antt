@@ -3,9 +3,9 @@ use Rattle.std.specs.Prelude.{None}
 use Rattle.vm_ids.specs.declared.command.Command.TheVariants as commands
 use Rattle.vm_ids.specs.declared.reply.Reply.TheVariants as replies
 use Rattle.contexts.specs.Actors.{Actors, is_full}
+use Rattle.contexts.proofs.RegionRows.{actor_outcome}
 use Rattle.flat_mm.specs.Manager.{caches_in}
 use Rattle.flat_mm.proofs.Acting.{acted}
-use Rattle.flat_mm.proofs.RegionRows.{actor_outcome}
 use Rattle.flat_mm.proofs.manager.FlatMm.make_actor.Goals as goal
 
 pub returns-in-Ok : goal.returns-in-Ok

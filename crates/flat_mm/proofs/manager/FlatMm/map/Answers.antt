@@ -10,18 +10,18 @@ use Rattle.vm_ids.specs.declared.reply.Trouble.TheVariants as troubles
 use Rattle.vm_model.specs.Answering.{answer_by, reply, without_region}
 use Rattle.vm_model.specs.Machine.{numbered}
 use Rattle.vm_model.specs.Regions.{region_with, with_prot, with_lock}
-use Rattle.contexts.specs.Actors.{Actors, split_refusal, with_region, with_split}
+use Rattle.contexts.specs.Actors.{Actors, machine_with, split_refusal, with_region, with_split}
 use Rattle.gmi_calls.specs.Calling.{CallDone}
-use Rattle.flat_mm.specs.Manager.{IsManagerSound, Manager, caches_in, flat, machine_with, sizes_in}
-use Rattle.flat_mm.specs.Placed.{AreRight}
+use Rattle.flat_mm.specs.Manager.{IsManagerSound, Manager, caches_in, flat, sizes_in}
 use Rattle.flat_mm.proofs.Acting.{acted, acted_sound, length_replaced, sizes_plain, stayed}
 use Rattle.std.proofs.Common.{◌-◌, ℕ, set}
 use Rattle.std.proofs.lemmas.List.{length-set}
 use Rattle.vm_model.specs.Answering.{insert_region}
 use Rattle.contexts.specs.Actors.{next_region}
-use Rattle.flat_mm.specs.Maps.{map_refusal}
-use Rattle.flat_mm.proofs.Placing.{after_either, next_placed, right_mapped}
-use Rattle.flat_mm.proofs.RegionRows.{IsMappable, is_mappable, map_refused, map_row, size_in}
+use Rattle.contexts.specs.Maps.{map_refusal}
+use Rattle.contexts.specs.Placed.{AreRight}
+use Rattle.contexts.proofs.Placing.{after_either, next_placed, right_mapped}
+use Rattle.contexts.proofs.RegionRows.{IsMappable, is_mappable, map_refused, map_row, size_in}
 use Rattle.flat_mm.proofs.manager.FlatMm.map.Goals.{After-size-size, Joined-map, in-Ok, in-Err}
 use Rattle.flat_mm.proofs.manager.FlatMm.map.Goals as goal
 

@@ -10,13 +10,13 @@ use Rattle.vm_ids.specs.declared.reply.Trouble.TheVariants as troubles
 use Rattle.vm_model.specs.Answering.{answer_by, reply, without_region}
 use Rattle.vm_model.specs.Machine.{numbered}
 use Rattle.vm_model.specs.Regions.{region_with, with_prot, with_lock}
-use Rattle.contexts.specs.Actors.{Actors, split_refusal, with_region, with_split}
+use Rattle.contexts.specs.Actors.{Actors, machine_with, split_refusal, with_region, with_split}
+use Rattle.contexts.specs.Placed.{AreRight}
+use Rattle.contexts.proofs.Placing.{right_with_allowed}
+use Rattle.contexts.proofs.RegionRows.{protect_none, protect_row, with_allowed}
 use Rattle.gmi_calls.specs.Calling.{CallDone}
-use Rattle.flat_mm.specs.Manager.{IsManagerSound, Manager, caches_in, flat, machine_with, sizes_in}
-use Rattle.flat_mm.specs.Placed.{AreRight}
+use Rattle.flat_mm.specs.Manager.{IsManagerSound, Manager, caches_in, flat, sizes_in}
 use Rattle.flat_mm.proofs.Acting.{acted, acted_sound, length_replaced, sizes_plain, stayed}
-use Rattle.flat_mm.proofs.Placing.{right_with_allowed}
-use Rattle.flat_mm.proofs.RegionRows.{protect_none, protect_row, with_allowed}
 use Rattle.flat_mm.proofs.manager.FlatMm.protect.Goals.{Else-not-protect, Then-not-protect}
 use Rattle.flat_mm.proofs.manager.FlatMm.protect.Goals as goal
 

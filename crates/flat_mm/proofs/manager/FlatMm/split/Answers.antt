@@ -10,13 +10,13 @@ use Rattle.vm_ids.specs.declared.reply.Trouble.TheVariants as troubles
 use Rattle.vm_model.specs.Answering.{answer_by, reply, without_region}
 use Rattle.vm_model.specs.Machine.{numbered}
 use Rattle.vm_model.specs.Regions.{region_with, with_prot, with_lock}
-use Rattle.contexts.specs.Actors.{Actors, split_refusal, with_region, with_split}
+use Rattle.contexts.specs.Actors.{Actors, machine_with, split_refusal, with_region, with_split}
+use Rattle.contexts.specs.Placed.{AreRight}
+use Rattle.contexts.proofs.Placing.{after_either, right_cut}
+use Rattle.contexts.proofs.RegionRows.{split_outcome}
 use Rattle.gmi_calls.specs.Calling.{CallDone}
-use Rattle.flat_mm.specs.Manager.{IsManagerSound, Manager, caches_in, flat, machine_with, sizes_in}
-use Rattle.flat_mm.specs.Placed.{AreRight}
+use Rattle.flat_mm.specs.Manager.{IsManagerSound, Manager, caches_in, flat, sizes_in}
 use Rattle.flat_mm.proofs.Acting.{acted, acted_sound, length_replaced, sizes_plain, stayed}
-use Rattle.flat_mm.proofs.Placing.{after_either, right_cut}
-use Rattle.flat_mm.proofs.RegionRows.{split_outcome}
 use Rattle.vm_model.specs.Regions.{split_at}
 use Rattle.flat_mm.proofs.manager.FlatMm.split.Goals.{After-split}
 use Rattle.flat_mm.proofs.manager.FlatMm.split.Goals as goal

@@ -6,7 +6,7 @@ use Rattle.vm_ids.specs.declared.reply.Reply.TheVariants as replies
 use Rattle.vm_ids.specs.declared.reply.Trouble.TheVariants as troubles
 use Rattle.flat_mm.specs.Manager.{caches_in}
 use Rattle.flat_mm.proofs.Acting.{told}
-use Rattle.flat_mm.proofs.RegionRows.{status_outcome}
+use Rattle.contexts.proofs.RegionRows.{status_outcome}
 use Rattle.flat_mm.proofs.manager.FlatMm.status.Goals as goal
 
 pub returns-in-Some : goal.returns-in-Some

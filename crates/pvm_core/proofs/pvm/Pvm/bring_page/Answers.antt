@@ -28,7 +28,7 @@ use Rattle.pvm_core.proofs.Homes.Homed.{reached}
 use Rattle.pvm_core.proofs.Answering.Reaching.{reach_denied}
 use Rattle.pvm_core.proofs.Answering.Kept.{seen}
 use Rattle.pvm_core.proofs.Answering.Standing.{Stands, stands}
-use Rattle.pvm_core.proofs.Answering.Listed.{IsFoundAt, found_at, spot}
+use Rattle.contexts.proofs.Placing.{IsFoundAt, found_at, spot}
 use Rattle.pvm_core.proofs.Accesses.Loading.{owner_there}
 use Rattle.pvm_core.proofs.Accesses.Seen.{same_grants}
 use Rattle.pvm_core.proofs.Translating.Dropped.{dropped_right}

@@ -16,7 +16,7 @@ use Rattle.pvm_core.specs.Manager.{nodes_of, Manager, forest_of, machine_by, sta
 use Rattle.pvm_core.specs.contracts.pvm.Pvm.{the_view}
 use Rattle.pvm_core.proofs.Answering.Answered.{seated}
 use Rattle.pvm_core.proofs.Answering.Chains.{chain_no_cache, chain_out, chain_row, chains_of}
-use Rattle.pvm_core.proofs.Answering.Listed.{sized, unsized}
+use Rattle.contexts.proofs.RegionRows.{sized, unsized}
 use Rattle.pvm_core.proofs.Meaning.Shown.{shown_size}
 use Rattle.pvm_core.proofs.pvm.Pvm.chain.Goals as goal
 

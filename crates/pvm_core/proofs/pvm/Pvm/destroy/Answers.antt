@@ -16,6 +16,7 @@ use Rattle.vm_ids.specs.Held.{Held, segments_of}
 use Rattle.local_cache.specs.Arena.{Arena, table_of}
 use Rattle.local_cache.specs.Whole.{size_of}
 use Rattle.contexts.specs.Actors.{Actors}
+use Rattle.contexts.proofs.RegionRows.{sized, unsized}
 use Rattle.residency.specs.declared.store.Store.{Store}
 use Rattle.vm_ids.specs.declared.numbers.CacheId.{CacheId}
 use Rattle.page_release.specs.Steps.{IsStoreTied, IsUnpinned}
@@ -38,7 +39,6 @@ use Rattle.pvm_core.proofs.Destroying.Failed.{IsNotDestroyed, of_cache, touched,
 use Rattle.pvm_core.proofs.Destroying.Rows.{destroy_in_use, destroy_no_cache}
 use Rattle.pvm_core.proofs.Destroying.Taken.{follows, taken, taken_sound, taken_valid}
 use Rattle.pvm_core.proofs.Answering.Kept.{seen}
-use Rattle.pvm_core.proofs.Answering.Listed.{sized, unsized}
 use Rattle.pvm_core.proofs.Accesses.Loading.{size_le, sized_table}
 use Rattle.pvm_core.proofs.Answering.Reaching.{reach_none}
 use Rattle.pvm_core.proofs.Answering.Rising.{rises_between}

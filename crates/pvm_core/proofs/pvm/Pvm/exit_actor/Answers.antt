@@ -13,11 +13,12 @@ use Rattle.page_tables.specs.Entries.{is_of_actor}
 use Rattle.page_tables.specs.Translations.{unless}
 use Rattle.page_tables.specs.declared.entry.Entry.{Entry}
 use Rattle.contexts.specs.Actors.{Actors}
+use Rattle.contexts.proofs.Placing.{right_without_actor}
+use Rattle.contexts.proofs.RegionRows.{exit_none, exit_row, without_actor}
 use Rattle.pvm_core.specs.Manager.{IsManagerRight, IsValid, Manager, caches_shown, numbered, state_at}
 use Rattle.pvm_core.proofs.Acting.{exited, told}
 use Rattle.pvm_core.proofs.Answering.Kept.{seen}
 use Rattle.pvm_core.proofs.Locking.Gone.{IsGone, actor_locks, actor_placed, ended_counts, gone_answer, gone_numbered, gone_sound, gone_valid, mapped_is, mapped_none}
-use Rattle.pvm_core.proofs.RegionRows.{exit_none, exit_row, right_without_actor, without_actor}
 use Rattle.pvm_core.proofs.Translating.Commands.{ended_right}
 use Rattle.pvm_core.proofs.Translating.Tables.{tables_sound, tables_state, tables_valid, with_tables}
 use Rattle.pvm_core.proofs.Answering.Recorded.{refused_call}

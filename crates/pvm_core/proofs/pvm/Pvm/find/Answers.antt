@@ -6,7 +6,7 @@ use Rattle.vm_ids.specs.declared.reply.Reply.TheVariants as replies
 use Rattle.vm_model.specs.Answering.{answer_by}
 use Rattle.pvm_core.specs.Manager.{caches_shown}
 use Rattle.pvm_core.proofs.Acting.{found, told}
-use Rattle.pvm_core.proofs.RegionRows.{find_err, find_ok}
+use Rattle.contexts.proofs.RegionRows.{find_err, find_ok}
 use Rattle.pvm_core.proofs.pvm.Pvm.find.Goals as goal
 
 pub returns-in_err-find : goal.returns-in_err-find

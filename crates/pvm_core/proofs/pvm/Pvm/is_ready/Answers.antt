@@ -5,7 +5,7 @@ use Rattle.local_cache.specs.Whole.{size_of}
 use Rattle.pvm_core.specs.Access.{is_page_at_hand, is_ready, is_ready_at}
 use Rattle.pvm_core.specs.Manager.{Manager}
 use Rattle.pvm_core.proofs.Answering.Kept.{seen}
-use Rattle.pvm_core.proofs.Answering.Listed.{IsFoundAt, refused_at, spot}
+use Rattle.contexts.proofs.Placing.{IsFoundAt, refused_at, spot}
 use Rattle.pvm_core.proofs.pvm.Pvm.is_ready.Goals.{In-Ok}
 use Rattle.pvm_core.proofs.pvm.Pvm.is_ready.Goals as goal
 

@@ -10,7 +10,7 @@ use Rattle.pvm_core.specs.Keeping.{SameButSeen}
 use Rattle.vm_model.specs.Answering.{answer_by}
 use Rattle.vm_model.specs.Place.{place}
 use Rattle.pvm_core.specs.Manager.{IsValid, Manager, machine_by, machine_of}
-use Rattle.pvm_core.proofs.Answering.Listed.{refused_at}
+use Rattle.contexts.proofs.Placing.{refused_at}
 use Rattle.gmi_calls.specs.Calling.{Fits, MapperCall}
 use Rattle.std.specs.Prelude.{IfOk}
 use Rattle.pvm_core.specs.Manager.{meaning}

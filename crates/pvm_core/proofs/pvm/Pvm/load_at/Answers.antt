@@ -31,7 +31,7 @@ use Rattle.pvm_core.proofs.Homes.Homed.{reached}
 use Rattle.pvm_core.proofs.Answering.Reaching.{reach_told}
 use Rattle.pvm_core.proofs.Answering.Kept.{seen, sizeless}
 use Rattle.pvm_core.proofs.Answering.Standing.{Stands, stands}
-use Rattle.pvm_core.proofs.Answering.Listed.{IsFoundAt, found_at, spot}
+use Rattle.contexts.proofs.Placing.{IsFoundAt, found_at, spot}
 use Rattle.pvm_core.proofs.Accesses.Loading.{found_place, found_within, load_fault, loaded, owner_there}
 use Rattle.pvm_core.proofs.Accesses.AccessedPages.{ends_within}
 use Rattle.pvm_core.proofs.Accesses.Seen.{found_led, found_right, found_seen, led_found, same_grants, seen_by, seen_forest, seen_machine, seen_sound, seen_valid, seen_world}

@@ -10,7 +10,7 @@ use Rattle.pvm_core.specs.Manager.{Manager, machine_by, machine_of, state_at}
 use Rattle.pvm_core.proofs.Answering.Answered.{called, failed}
 use Rattle.pvm_core.proofs.Answering.Reaching.{reach_none}
 use Rattle.pvm_core.proofs.Answering.Kept.{seen}
-use Rattle.pvm_core.proofs.Answering.Listed.{found_at, refused_at, spot}
+use Rattle.contexts.proofs.Placing.{found_at, refused_at, spot}
 use Rattle.pvm_core.proofs.Accesses.Loading.{load_refused, load_unrefused}
 use Rattle.pvm_core.proofs.Answering.Recorded.{refused_call}
 use Rattle.vm_ids.specs.Counting.{no_counts}

@@ -20,6 +20,7 @@ use Rattle.residency.specs.World.{world}
 use Rattle.segment_ops.specs.Ranges.{HasRange}
 use Rattle.segment_ops.proofs.Unsaved.{range_fits}
 use Rattle.contexts.specs.Actors.{Actors}
+use Rattle.contexts.proofs.RegionRows.{IsToldOf, lock_limit, lock_locked, lock_none, told_of, untold_of, with_locked}
 use Rattle.pvm_core.specs.Holding.{AreOwned, FailedToHold, LocksMore, unlocked_in}
 use Rattle.pvm_core.specs.Manager.{IsValid, Manager, caches_shown, machine_by, machine_of, numbered, state_at}
 use Rattle.pvm_core.proofs.Answering.Answered.{failed}
@@ -28,9 +29,8 @@ use Rattle.pvm_core.proofs.Answering.Kept.{seen}
 use Rattle.pvm_core.proofs.Answering.Reaching.{reach_none}
 use Rattle.pvm_core.proofs.Locking.Calls.{fault_ended, few_locks, lock_ended, region_few}
 use Rattle.pvm_core.proofs.Locking.Covered.{placed_with}
-use Rattle.pvm_core.proofs.Locking.Limit.{limit_is, pages_of, with_locked}
+use Rattle.pvm_core.proofs.Locking.Limit.{limit_is, pages_of}
 use Rattle.pvm_core.proofs.Locking.Regions.{placed_range}
-use Rattle.pvm_core.proofs.Locking.Rows.{IsToldOf, lock_limit, lock_locked, lock_none, told_of, untold_of}
 use Rattle.pvm_core.specs.Translated.{AreTranslationsRight}
 use Rattle.pvm_core.proofs.Translating.Relocked.{relocked_right}
 use Rattle.pvm_core.proofs.Answering.Recorded.{refused_mapper_call}

@@ -7,8 +7,10 @@ use Rattle.vm_model.specs.Answering.{answer_by}
 use Rattle.vm_model.specs.Run.{AnswerIs}
 use Rattle.local_cache.specs.Whole.{size_of}
 use Rattle.contexts.specs.Actors.{Actors, is_full}
+use Rattle.contexts.specs.Placed.{AreRight}
+use Rattle.contexts.proofs.Placing.{after_either, right_made}
+use Rattle.contexts.proofs.RegionRows.{actor_outcome}
 use Rattle.pvm_core.specs.Locks.{locks_over}
-use Rattle.pvm_core.specs.Placed.{AreRight}
 use Rattle.pvm_core.proofs.Holding.Actors.{over_made}
 use Rattle.pvm_core.specs.Manager.{IsValid, Manager, caches_shown, forest_of, machine_of, numbered, state_at}
 use Rattle.pvm_core.specs.Translated.{AreTranslationsRight}
@@ -16,7 +18,6 @@ use Rattle.pvm_core.specs.contracts.pvm.Pvm.{the_view}
 use Rattle.pvm_core.proofs.Translating.Commands.{made_right}
 use Rattle.pvm_core.proofs.Answering.Answered.{made_stays, seated}
 use Rattle.pvm_core.proofs.Answering.Kept.{on_err, seated_same, seated_sound, seated_valid}
-use Rattle.pvm_core.proofs.Answering.Listed.{actor_outcome, after_either, right_made}
 use Rattle.pvm_core.proofs.pvm.Pvm.make_actor.Goals as goal
 
 abbrev more : Actors → Actors

@@ -11,19 +11,20 @@ use Rattle.vm_model.specs.Machine.{numbered}
 use Rattle.vm_model.specs.PageForest.{PageForest}
 use Rattle.vm_model.specs.Run.{AnswerIs}
 use Rattle.local_cache.specs.Whole.{size_of}
-use Rattle.contexts.specs.Actors.{Actors, next_region, with_region}
+use Rattle.contexts.specs.Actors.{Actors, machine_with, next_region, with_region}
+use Rattle.contexts.specs.Maps.{map_refusal}
+use Rattle.contexts.specs.Placed.{AreRight}
+use Rattle.contexts.proofs.Placing.{after_either, next_placed, right_mapped}
+use Rattle.contexts.proofs.RegionRows.{IsMappable, is_mappable, map_refused, map_row, size_in}
 use Rattle.pvm_core.specs.Manager as managers
 use Rattle.pvm_core.specs.Manager.{IsValid, Manager, caches_shown, machine_of, state_at}
 use Rattle.pvm_core.specs.Locks.{locks_over}
-use Rattle.pvm_core.specs.Maps.{map_refusal}
 use Rattle.pvm_core.proofs.Holding.Actors.{over_mapped}
-use Rattle.pvm_core.specs.Placed.{AreRight}
 use Rattle.pvm_core.specs.Translated.{AreTranslationsRight}
 use Rattle.pvm_core.specs.contracts.pvm.Pvm.{the_view}
 use Rattle.pvm_core.proofs.Translating.Commands.{mapped_right}
 use Rattle.pvm_core.proofs.Answering.Answered.{made_stays, seated}
 use Rattle.pvm_core.proofs.Answering.Kept.{seated_sound, seated_valid}
-use Rattle.pvm_core.proofs.Answering.Listed.{IsMappable, after_either, is_mappable, machine_with, map_refused, map_row, next_placed, right_mapped, size_in}
 use Rattle.pvm_core.proofs.Meaning.Shown.{shown_size}
 use Rattle.pvm_core.proofs.Answering.Recorded.{refused_call}
 use Rattle.pvm_core.proofs.pvm.Pvm.map.Goals as goal
@@ -56,7 +57,7 @@ invariant_of-self c = record {
       let e = c.map.ensures in
       let sizes = size_of i.caches in
       let k = is_mappable t x (numbered t.actors actor) c.pages-count.result (sym c.map_refusal.ensures ∙ c.in_default.is) in
-      let new = next_placed t x sizes (numbered t.actors actor) c.pages-count.result (sym c.pages-count.ensures) k in
+      let new = next_placed sizes t x (numbered t.actors actor) c.pages-count.result (sym c.pages-count.ensures) k in
       seated_sound i.caches i.store t u i.live
       (after_either (λ (w : Actors). w.page_bytes ≡ t.page_bytes) t u (with_region t actor x) c.map.result e.ok e.err refl refl)
       (after_either (AreRight sizes) t u (with_region t actor x) c.map.result e.ok e.err (right_mapped sizes t actor x new c.self.invariant.sound.actors) c.self.invariant.sound.actors)

@@ -25,7 +25,7 @@ use Rattle.pvm_core.proofs.Answering.Answered.{failed, failed_at, made_stays}
 use Rattle.pvm_core.proofs.Readiness.Denied.{denied_cases, denied_there, told_denied, denies_one, one_denied}
 use Rattle.pvm_core.proofs.Readiness.Granted.{granted_forest, granted_sound, granted_state, granted_valid, granted_by}
 use Rattle.pvm_core.proofs.Answering.Kept.{seen}
-use Rattle.pvm_core.proofs.Answering.Listed.{IsFoundAt, found_at, spot}
+use Rattle.contexts.proofs.Placing.{IsFoundAt, found_at, spot}
 use Rattle.pvm_core.proofs.Accesses.Asked.{on_no_access}
 use Rattle.pvm_core.proofs.Translating.Cells.{granted_right}
 use Rattle.pvm_core.proofs.Answering.Reaching.{reach_quiet}

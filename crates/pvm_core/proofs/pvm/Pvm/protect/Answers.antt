@@ -12,22 +12,23 @@ use Rattle.vm_model.specs.Run.{AnswerIs, State}
 use Rattle.local_cache.specs.Whole.{size_of}
 use Rattle.page_tables.specs.declared.entry.Entry.{Entry}
 use Rattle.residency.specs.declared.store.Store.{Store}
-use Rattle.contexts.specs.Actors.{Actors}
+use Rattle.contexts.specs.Actors.{Actors, machine_with}
 use Rattle.contexts.proofs.Told.{told_some}
+use Rattle.contexts.specs.Placed.{AreRight}
+use Rattle.contexts.proofs.Placing.{right_with_allowed}
+use Rattle.contexts.proofs.RegionRows.{protect_none, protect_row, with_allowed}
 use Rattle.pvm_core.specs.Manager.{IsManagerRight, IsValid, caches_shown, numbered, state_at}
 use Rattle.pvm_core.specs.Locks.{locks_over}
-use Rattle.pvm_core.specs.Placed.{AreRight}
 use Rattle.pvm_core.specs.Translated.{AreTranslationsRight}
 use Rattle.pvm_core.specs.declared.pvm.Pvm.TheInside.{Inside}
 use Rattle.pvm_core.proofs.Acting.{acted, acted_valid, protected, told}
 use Rattle.pvm_core.proofs.Answering.Kept.{seated_sound, seen}
-use Rattle.pvm_core.proofs.Answering.Listed.{machine_with}
-use Rattle.pvm_core.proofs.RegionRows.{over_allowed, protect_none, protect_row, right_with_allowed, with_allowed}
 use Rattle.pvm_core.proofs.Translating.Commands.{forgotten, forgotten_count, protected_right}
 use Rattle.pvm_core.proofs.Translating.Tables.{tables_sound, tables_state, tables_valid, with_tables}
 use Rattle.pvm_core.proofs.Answering.Recorded.{refused_call}
 use Rattle.pvm_core.proofs.pvm.Pvm.protect.Goals as goal
 use Rattle.pvm_core.proofs.pvm.Pvm.protect.Goals.{After-protect, In-Some, else-not-prot, then-not-prot}
+use Rattle.pvm_core.proofs.Holding.Actors.{over_allowed}
 
 pub returns-in_default-clause-call : goal.returns-in_default-clause-call
 returns-in_default-clause-call c = refused_call (

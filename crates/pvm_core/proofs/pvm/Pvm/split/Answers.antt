@@ -5,14 +5,15 @@ use Rattle.vm_ids.specs.declared.reply.Reply.TheVariants as replies
 use Rattle.vm_model.specs.Answering.{answer_by}
 use Rattle.local_cache.specs.Whole.{size_of}
 use Rattle.contexts.specs.Actors.{Actors, split_refusal, with_split}
+use Rattle.contexts.proofs.Placing.{after_either, right_cut}
+use Rattle.contexts.proofs.RegionRows.{split_outcome}
 use Rattle.pvm_core.specs.Manager.{Manager, caches_shown, machine_of, numbered}
 use Rattle.pvm_core.specs.contracts.pvm.Pvm.{the_view}
 use Rattle.pvm_core.proofs.Acting.{acted, acted_valid, cut}
 use Rattle.pvm_core.proofs.Answering.Kept.{on_err, seated_same, seated_sound}
-use Rattle.pvm_core.proofs.Answering.Listed.{after_either}
-use Rattle.pvm_core.proofs.RegionRows.{over_cut, right_cut, split_outcome}
 use Rattle.pvm_core.proofs.Translating.Commands.{split_right}
 use Rattle.pvm_core.proofs.Answering.Answered.{made_stays}
+use Rattle.pvm_core.proofs.Holding.Actors.{over_cut}
 use Rattle.pvm_core.proofs.pvm.Pvm.split.Goals as goal
 
 pub invariant_of-self : goal.invariant_of-self
@@ -25,7 +26,7 @@ invariant_of-self c = record {
       let region = c.args.region in
       seated_sound i.caches i.store t u i.live
       (after_either (λ (w : Actors). w.page_bytes ≡ t.page_bytes) t u (with_split t region.0 c.args.pages) c.split.result e.ok e.err refl refl)
-      (right_cut t u region c.args.pages (size_of i.caches) (split_refusal t region.0 c.args.pages) c.split.result refl e.refused e.ok e.err c.self.invariant.sound.actors)
+      (right_cut (size_of i.caches) t u region c.args.pages (split_refusal t region.0 c.args.pages) c.split.result refl e.refused e.ok e.err c.self.invariant.sound.actors)
       (over_cut t u region c.args.pages (split_refusal t region.0 c.args.pages) c.split.result refl e.refused e.ok e.err) c.self.invariant.sound
       );
   translated = (

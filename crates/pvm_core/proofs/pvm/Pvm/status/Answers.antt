@@ -4,7 +4,7 @@ use Rattle.vm_ids.specs.declared.reply.Reply.TheVariants as replies
 use Rattle.vm_model.specs.Answering.{answer_by}
 use Rattle.pvm_core.specs.Manager.{caches_shown}
 use Rattle.pvm_core.proofs.Acting.{told, told_of}
-use Rattle.pvm_core.proofs.RegionRows.{status_outcome}
+use Rattle.contexts.proofs.RegionRows.{status_outcome}
 use Rattle.pvm_core.proofs.pvm.Pvm.status.Goals as goal
 
 pub returns : goal.returns

@@ -40,7 +40,7 @@ use Rattle.pvm_core.proofs.Homes.Homed.{reached}
 use Rattle.pvm_core.specs.Reaching.{Reach}
 use Rattle.pvm_core.proofs.Answering.Kept.{kept_by, kept_sound, seen, sizeless, unsized_right}
 use Rattle.pvm_core.proofs.Answering.Standing.{Stands, stands}
-use Rattle.pvm_core.proofs.Answering.Listed.{IsFoundAt, found_at, spot}
+use Rattle.contexts.proofs.Placing.{IsFoundAt, found_at, spot}
 use Rattle.pvm_core.proofs.Accesses.Asked.{missed_by, same_tables}
 use Rattle.pvm_core.proofs.Accesses.Loading.{owner_there, sized_table}
 use Rattle.pvm_core.proofs.Accesses.AccessedPages.{ends_within}

@@ -13,15 +13,15 @@ use Rattle.local_cache.specs.Whole.{size_of}
 use Rattle.local_cache.proofs.Tables.Sizes.{sizes_same}
 use Rattle.segment_ops.specs.Ranges.{HasRange, IsPageOf}
 use Rattle.contexts.specs.Actors.{Actors}
+use Rattle.contexts.proofs.Placing.{right_with_locked}
+use Rattle.contexts.proofs.RegionRows.{IsToldOf, told_of, unlock_none, unlock_not, unlock_row, untold_of, with_locked}
 use Rattle.pvm_core.specs.Holding.{LocksMore}
 use Rattle.pvm_core.specs.Manager.{IsManagerSound, IsValid, Manager, caches_shown, numbered, state_at}
 use Rattle.pvm_core.proofs.Acting.{told}
 use Rattle.pvm_core.proofs.Answering.Kept.{seen}
 use Rattle.pvm_core.proofs.Locking.Covered.{placed_with}
 use Rattle.pvm_core.proofs.Locking.Gone.{IsGone, gone_answer, gone_numbered, gone_sound, gone_valid, region_locks, unlocked_counts, unlocked_is}
-use Rattle.pvm_core.proofs.Locking.Limit.{right_with_locked, with_locked}
 use Rattle.pvm_core.proofs.Locking.Regions.{placed_range}
-use Rattle.pvm_core.proofs.Locking.Rows.{IsToldOf, told_of, unlock_none, unlock_not, unlock_row, untold_of}
 use Rattle.pvm_core.specs.Translated.{AreTranslationsRight}
 use Rattle.pvm_core.proofs.Translating.Relocked.{relocked_right}
 use Rattle.pvm_core.proofs.Answering.Recorded.{refused_call}

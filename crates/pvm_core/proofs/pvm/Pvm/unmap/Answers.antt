@@ -12,15 +12,16 @@ use Rattle.vm_model.specs.Run.{AnswerIs, State}
 use Rattle.page_tables.specs.Translations.{unless}
 use Rattle.residency.specs.declared.store.Store.{Store}
 use Rattle.local_cache.specs.Whole.{size_of}
-use Rattle.contexts.specs.Actors.{Actors}
+use Rattle.contexts.specs.Actors.{Actors, machine_with}
 use Rattle.contexts.proofs.Told.{told_some}
+use Rattle.contexts.specs.Placed.{AreRight}
+use Rattle.contexts.proofs.Placing.{right_without}
+use Rattle.contexts.proofs.RegionRows.{told_of, unmap_locked, unmap_none, unmap_row}
 use Rattle.pvm_core.specs.Manager.{IsManagerRight, IsValid, caches_shown, numbered, state_at}
 use Rattle.pvm_core.specs.Translated.{AreTranslationsRight, is_in_region}
 use Rattle.pvm_core.specs.Locks.{locks_over}
-use Rattle.pvm_core.specs.Placed.{AreRight}
 use Rattle.pvm_core.proofs.Acting.{acted, acted_valid, told, unmapped}
 use Rattle.pvm_core.proofs.Answering.Kept.{seated_sound, seen}
-use Rattle.pvm_core.proofs.Answering.Listed.{locked_told, machine_with, right_without, unmap_locked, unmap_none, unmap_row}
 use Rattle.pvm_core.proofs.Holding.Actors.{over_unmapped}
 use Rattle.pvm_core.proofs.Translating.Commands.{unmapped_right}
 use Rattle.pvm_core.proofs.Translating.Tables.{tables_sound, tables_state, tables_valid, with_tables}
@@ -41,9 +42,9 @@ returns-then-status-clause-call c = refused_call (
     λ h v.
     let i = c.self.inside in
     let n = c.args.region.0 in
-    let r = locked_told n 1 i.contexts.actors c.in-Some.status (sym c.status.ensures ∙ c.in-Some.is) in
+    let r = told_of n i.contexts c.in-Some.status (sym c.status.ensures ∙ c.in-Some.is) in
     told i.caches i.store i.contexts _ c.self.view_is h v (commands.Unmap c.args.region) (unmapped c.args.region) (Err (troubles.Refused refusals.Locked)) c.self.invariant.sound.nodes
-    (λ f g k. unmap_locked (caches_shown f 1 i.caches.caches) (length i.store.frames.held) i.contexts n r.0 r.1 (r.2 ∙ c.if-status.true)))
+    (λ f g k. unmap_locked (caches_shown f 1 i.caches.caches) (length i.store.frames.held) i.contexts n r.region r.found (sym r.locked ∙ c.if-status.true)))
 
 pub invariant_of-self : goal.invariant_of-self
 invariant_of-self c =
@@ -53,14 +54,14 @@ invariant_of-self c =
     let u = c.unmap.new.self in
     let some = c.self.invariant.sound.actors.some in
     let status = sym c.status.ensures ∙ c.in-Some.is in
-    let r = locked_told n 1 t.actors c.in-Some.status status in
-    let there : is_some (region_with n t.actors) ≡ true = ap is_some r.1 in
+    let r = told_of n t c.in-Some.status status in
+    let there : is_some (region_with n t.actors) ≡ true = ap is_some r.found in
     let gone = c.unmap.ensures.gone (c.unmap.ensures.found ∙ there) in
     subst (λ (s : Store). IsManagerRight i.caches s u i.live) (sym c.forget_region.ensures) (record {
       sound = tables_sound i.caches i.store (map (unless (is_in_region t.page_bytes c.in-Some.status)) i.store.tables) u i.live
           (seated_sound i.caches i.store t u i.live (ap (λ (t : Actors). t.page_bytes) gone)
           (subst (AreRight (size_of i.caches)) (sym gone) (right_without (size_of i.caches) n t c.self.invariant.sound.actors))
-          (λ cache page. ap (λ (w : Actors). locks_over w.actors cache page) gone ∙ over_unmapped cache page n r.0 t.actors c.unmap.ensures.once r.1 (r.2 ∙ c.if-status.false))
+          (λ cache page. ap (λ (w : Actors). locks_over w.actors cache page) gone ∙ over_unmapped cache page n r.region t.actors c.unmap.ensures.once r.found (sym r.locked ∙ c.if-status.false))
           c.self.invariant.sound);
       translated = subst (AreTranslationsRight i.caches (with_tables i.store (map (unless (is_in_region t.page_bytes c.in-Some.status)) i.store.tables))) (sym gone)
           (unmapped_right i.caches i.store t c.self.invariant.translated n c.in-Some.status some c.unmap.ensures.once status);
@@ -73,8 +74,8 @@ returns-clause-call c = record {
       let i = c.self.inside in
       let n = c.args.region.0 in
       let u = c.unmap.new.self in
-      let r = locked_told n 1 i.contexts.actors c.in-Some.status (sym c.status.ensures ∙ c.in-Some.is) in
-      let there : is_some (region_with n i.contexts.actors) ≡ true = ap is_some r.1 in
+      let r = told_of n i.contexts c.in-Some.status (sym c.status.ensures ∙ c.in-Some.is) in
+      let there : is_some (region_with n i.contexts.actors) ≡ true = ap is_some r.found in
       subst (λ (s : Store). IsValid (seen i.caches s u) h) (sym c.forget_region.ensures)
       (tables_valid (seen i.caches i.store u) (map (unless (is_in_region i.contexts.page_bytes c.in-Some.status)) i.store.tables) (length-map i.store.tables (unless (is_in_region i.contexts.page_bytes c.in-Some.status))) h
       (acted_valid i.caches i.store i.contexts _ c.self.view_is h v u (ap (λ (t : Actors). t.page_bytes) (c.unmap.ensures.gone (c.unmap.ensures.found ∙ there)))))
@@ -85,8 +86,8 @@ returns-clause-call c = record {
       let n = c.args.region.0 in
       let t : Actors = i.contexts in
       let u = c.unmap.new.self in
-      let r = locked_told n 1 t.actors c.in-Some.status (sym c.status.ensures ∙ c.in-Some.is) in
-      let there : is_some (region_with n t.actors) ≡ true = ap is_some r.1 in
+      let r = told_of n t c.in-Some.status (sym c.status.ensures ∙ c.in-Some.is) in
+      let there : is_some (region_with n t.actors) ≡ true = ap is_some r.found in
       let gone = c.unmap.ensures.gone (c.unmap.ensures.found ∙ there) in
       subst (λ (s : Store). AnswerIs (state_at c.args.self.now h) (commands.Unmap c.args.region) (Ok replies.Done) [] no_counts (state_at (seen i.caches s u) h)) (sym c.forget_region.ensures)
       (subst (λ (m : State). AnswerIs (state_at c.args.self.now h) (commands.Unmap c.args.region) (Ok replies.Done) [] no_counts m)
@@ -95,7 +96,7 @@ returns-clause-call c = record {
       (ap (λ (w : Actors). w.page_bytes) gone)
       (λ f g k. let caches = caches_shown f 1 i.caches.caches in
       let frames = length i.store.frames.held in
-      unmap_row caches frames t n r.0 r.1 (r.2 ∙ c.if-status.false) ∙ ap (λ (w : Actors). reply replies.Done (machine_with caches frames w)) (sym gone))))
+      unmap_row caches frames t n r.region r.found (sym r.locked ∙ c.if-status.false) ∙ ap (λ (w : Actors). reply replies.Done (machine_with caches frames w)) (sym gone))))
       );
   made = λ h v. omega (arith, ap numbered c.self.view_is);
   room = refl;

@@ -1,9 +1,7 @@
--- Actors and their regions: the rows of their commands.
-use Rattle.std.proofs.Common.{◌≡◌, ◌==◌, ℕ, ◌+◌, ◌-◌, ◌*◌, ◌%◌, ◌^◌, ◌<◌, ◌≤◌, Bool, true, false, cond, not, List, [], ◌∷◌, ◌++◌, length, map, Option, Some, None, refl, sym, ap, subst, ◌∙◌, arith, rules}
+-- The rows of the commands on actors and their regions.
+use Rattle.std.proofs.Common.{◌≡◌, ◌==◌, ℕ, ◌+◌, ◌-◌, ◌*◌, ◌%◌, ◌^◌, Bool, true, false, cond, List, [], ◌∷◌, ◌++◌, length, map, Option, Some, None, refl, sym, ap, subst, ◌∙◌, rules}
 use Rattle.std.specs.Prelude.{option_map, is_some, IfSome, MatchResult, OnErr, OnOk, Result, Ok, Err, nat_le, nat_lt, ok_or, slice_set}
-use Rattle.std.specs.List.{All, list_any}
-use Rattle.std.specs.Option.{option_or}
-use Rattle.std.proofs.lemmas.Bool.Decides.{nat_tests}
+use Rattle.std.specs.List.{list_any}
 use Rattle.vm_ids.specs.Counting.{no_counts}
 use Rattle.vm_ids.specs.Held.{Segments}
 use Rattle.vm_ids.specs.declared.command.Command.TheVariants as commands
@@ -26,10 +24,9 @@ use Rattle.vm_model.specs.PageForest.{PageForest}
 use Rattle.vm_model.specs.Place.{region_at}
 use Rattle.vm_model.specs.Regions.{mapping_of, region_with, replace_in, status_with, with_lock, with_prot}
 use Rattle.regions.specs.AddressSpace.{id_of}
-use Rattle.contexts.specs.Actors.{Actors, cut_refusal, holder_of, is_full, split_refusal, with_region, with_split}
-use Rattle.contexts.proofs.Told.{is_told, told_some}
-use Rattle.flat_mm.specs.Maps.{map_refusal}
-use Rattle.flat_mm.specs.Manager.{machine_with}
+use Rattle.contexts.specs.Actors.{Actors, cut_refusal, holder_of, is_full, machine_with, split_refusal, with_region, with_split}
+use Rattle.contexts.specs.Maps.{map_refusal}
+use Rattle.contexts.proofs.Told.{is_told, none_is, told_some}
 
 -- a cache with so many pages
 pub sized : (o : Option model.Cache) (n : ℕ) → option_map (λ (c : model.Cache). length c.pages) o ≡ Some n → (c : model.Cache) × (o ≡ Some c) × (length c.pages ≡ n)
@@ -331,11 +328,7 @@ told_of n t status e =
     record { region = told.region; found = told.found; mapping = ap (λ (s : RegionStatus). s.mapping) told.told; locked = ap (λ (s : RegionStatus). s.locked) told.told }
 
 pub untold_of : (n : ℕ) (t : Actors) → status_with n 1 t.actors ≡ None → region_with n t.actors ≡ None
-untold_of n t e = none_of (region_with n t.actors) (sym (told_some n 1 t.actors) ∙ ap is_some e)
-  where
-    none_of : (o : Option model.Region) → is_some o ≡ false → o ≡ None
-    none_of None f = refl
-    none_of (Some r) f = absurd (cc f)
+untold_of n t e = none_is (region_with n t.actors) (sym (told_some n 1 t.actors) ∙ ap is_some e)
 
 module _ (caches : List (Option model.Cache)) (frames : ℕ) (t : Actors) (n : ℕ) where
   pub lock_none : region_with n t.actors ≡ None → lock_of (machine_with caches frames t) n ≡ refuse (machine_with caches frames t) refusals.NoRegion

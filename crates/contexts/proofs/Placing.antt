@@ -3,7 +3,8 @@ use Rattle.std.proofs.Common.{◌≡◌, ◌≢◌, ◌==◌, ℕ, ◌+◌, ◌-
 use Rattle.std.specs.Prelude.{option_map, is_some, IfSome, OnErr, OnOk, Result, Ok, Err, nat_le, nat_lt, ◌&&◌, ◌||◌}
 use Rattle.std.specs.List.{All, list_any}
 use Rattle.std.proofs.lemmas.Bool.Decides.{nat_tests}
-use Rattle.std.proofs.lemmas.List.Elements.{All-append, All-cons, All-filter, All-head, All-nil, All-set, All-tail}
+use Rattle.std.proofs.Math.Nat.{add-mul-mod_self_left}
+use Rattle.std.proofs.lemmas.List.Elements.{All-append, All-cons, All-filter, All-head, All-nil, All-set, All-tail, All-weaker}
 use Rattle.vm_ids.specs.declared.command.Mapping.{Mapping}
 use Rattle.vm_ids.specs.declared.command.Prot.{Prot}
 use Rattle.vm_ids.specs.declared.numbers.RegionId.{RegionId}
@@ -20,10 +21,10 @@ use Rattle.vm_model.proofs.Machines.Sound.{numbered-all}
 use Rattle.regions.specs.AddressSpace.{access_to, place_told}
 use Rattle.regions.specs.declared.region.Place as regions
 use Rattle.contexts.specs.Actors.{Actors, next_region, split_refusal, with_region, with_split}
+use Rattle.contexts.specs.Placed.{ArePlaced, AreRight, EachRegion, HasItsPages, IsAligned}
 use Rattle.contexts.proofs.Owners.{all_insert}
+use Rattle.contexts.proofs.RegionRows.{IsCut, IsMappable, is_cut, with_allowed, with_locked, without_actor}
 use Rattle.contexts.proofs.Replaced.{all_replaced, all_replaced_in}
-use Rattle.flat_mm.specs.Placed.{ArePlaced, AreRight, EachRegion, HasItsPages}
-use Rattle.flat_mm.proofs.RegionRows.{IsCut, IsMappable, is_cut, with_allowed, with_locked, without_actor}
 
 -- Where regions lie
 
@@ -56,59 +57,100 @@ module _ (sizes : ℕ → Option ℕ) where
   pub placed_at : (xs : List (Option model.Actor)) (n : ℕ) → All (ArePlaced sizes) xs → ArePlaced sizes (numbered xs n)
   placed_at = each_at (HasItsPages sizes)
 
-  -- the region that is mapped lies in the cache
-  pub next_placed : (t : Actors) (p : Mapping) (o : Option model.Actor) (q : Option ℕ) → sizes p.extent.cache.0 ≡ q → IsMappable t o q p → HasItsPages sizes (next_region t p)
-  next_placed t p o q size k = record { count = k.count; there = size ∙ k.there; within = (let inside = k.inside in grind (arith, nat_tests)) }
+  -- the region that is mapped lies in the cache, and is of whole pages
+  pub next_placed : (t : Actors) (p : Mapping) (o : Option model.Actor) (q : Option ℕ) → sizes p.extent.cache.0 ≡ q → IsMappable t o q p → HasItsPages sizes (next_region t p) × IsAligned t.page_bytes (next_region t p)
+  next_placed t p o q size k = (
+    record {
+      count = k.count;
+      there = size ∙ k.there;
+      within = (let inside = k.inside in grind (arith, nat_tests));
+    },
+    (let e = k.aligned in grind (arith, nat_tests)),
+  )
 
-  pub right_mapped : (t : Actors) (actor : ℕ) (p : Mapping) → HasItsPages sizes (next_region t p) → AreRight sizes t → AreRight sizes (with_region t actor p)
+  pub right_mapped : (t : Actors) (actor : ℕ) (p : Mapping) → HasItsPages sizes (next_region t p) × IsAligned t.page_bytes (next_region t p) → AreRight sizes t → AreRight sizes (with_region t actor p)
   right_mapped t actor p r k = record {
     some = k.some;
-    placed = All-set (ArePlaced sizes) t.actors (actor - 1) (option_map (insert_region (next_region t p)) (numbered t.actors actor)) (each_put (HasItsPages sizes) (next_region t p) r (numbered t.actors actor) (placed_at t.actors actor k.placed)) k.placed;
+    placed = put (HasItsPages sizes) r.0 k.placed;
+    aligned = put (IsAligned t.page_bytes) r.1 k.aligned;
   }
+    where
+      put : (P : model.Region → Type 0) → P (next_region t p) → All (EachRegion P) t.actors → All (EachRegion P) (with_region t actor p).actors
+      put P r h = All-set (EachRegion P) t.actors (actor - 1) (option_map (insert_region (next_region t p)) (numbered t.actors actor)) (each_put P (next_region t p) r (numbered t.actors actor) (each_at P t.actors actor h)) h
 
   pub right_made : (t : Actors) → AreRight sizes t → AreRight sizes (record t { actors = t.actors ++ Some [] ∷ [] })
-  right_made t k = record { some = k.some; placed = each_more (HasItsPages sizes) t.actors k.placed }
+  right_made t k = record {
+    some = k.some;
+    placed = each_more (HasItsPages sizes) t.actors k.placed;
+    aligned = each_more (IsAligned t.page_bytes) t.actors k.aligned;
+  }
 
   pub right_without : (n : ℕ) (t : Actors) → AreRight sizes t → AreRight sizes (record t { actors = map (option_map (without_region n)) t.actors })
-  right_without n t k = record { some = k.some; placed = each_without (HasItsPages sizes) n t.actors k.placed }
+  right_without n t k = record {
+    some = k.some;
+    placed = each_without (HasItsPages sizes) n t.actors k.placed;
+    aligned = each_without (IsAligned t.page_bytes) n t.actors k.aligned;
+  }
 
   pub right_without_actor : (actor : ℕ) (t : Actors) → AreRight sizes t → AreRight sizes (without_actor actor t)
-  right_without_actor actor t k = record { some = k.some; placed = All-set (ArePlaced sizes) t.actors (actor - 1) None tt k.placed }
+  right_without_actor actor t k = record {
+    some = k.some;
+    placed = All-set (ArePlaced sizes) t.actors (actor - 1) None tt k.placed;
+    aligned = All-set (EachRegion (IsAligned t.page_bytes)) t.actors (actor - 1) None tt k.aligned;
+  }
 
   -- a region became others, which lie where it lay
-  pub replaced_right : (n : ℕ) (by : model.Region → List model.Region) (r : model.Region) (t : Actors) → region_with n t.actors ≡ Some r → (HasItsPages sizes r → All (HasItsPages sizes) (by r)) → AreRight sizes t
+  replaced_right : (n : ℕ) (by : model.Region → List model.Region) (r : model.Region) (t : Actors) → region_with n t.actors ≡ Some r → (HasItsPages sizes r → All (HasItsPages sizes) (by r))
+      → (IsAligned t.page_bytes r → All (IsAligned t.page_bytes) (by r)) → AreRight sizes t
       → AreRight sizes (record t { actors = replace_in n by t.actors })
-  replaced_right n by r t found placed k = record {
+  replaced_right n by r t found placed aligned k = record {
     some = k.some;
-    placed = all_replaced_in (ArePlaced sizes) n by r t.actors found (λ (rs : model.Actor) (here : region_among n rs ≡ Some r) (h : All (HasItsPages sizes) rs). all_replaced (HasItsPages sizes) n by r rs here placed h) k.placed;
+    placed = each (HasItsPages sizes) placed k.placed;
+    aligned = each (IsAligned t.page_bytes) aligned k.aligned;
   }
+    where
+      each : (P : model.Region → Type 0) → (P r → All P (by r)) → All (EachRegion P) t.actors → All (EachRegion P) (replace_in n by t.actors)
+      each P new h = all_replaced_in (EachRegion P) n by r t.actors found (λ (rs : model.Actor) (here : region_among n rs ≡ Some r) (h : All P rs). all_replaced P n by r rs here new h) h
 
   one_placed : (r x : model.Region) → x.cache ≡ r.cache → x.offset + x.pages ≤ r.offset + r.pages → HasItsPages sizes r → HasItsPages sizes x
   one_placed r x same less p = record { count = p.count; there = ap sizes same ∙ p.there; within = (let within = p.within in omega (arith, less, within)) }
 
-  one_right : (n : ℕ) (change : model.Region → model.Region) (r : model.Region) (t : Actors) → region_with n t.actors ≡ Some r → (change r).cache ≡ r.cache → (change r).offset + (change r).pages ≤ r.offset + r.pages → AreRight sizes t
-      → AreRight sizes (record t { actors = replace_in n (λ r. change r ∷ []) t.actors })
-  one_right n change r t found same less k =
-      replaced_right n (λ r. change r ∷ []) r t found (λ p. All-cons (HasItsPages sizes) (change r) [] (one_placed r (change r) same less p) (All-nil (HasItsPages sizes))) k
+  -- a region that lies where it lay
+  one_right : (n : ℕ) (change : model.Region → model.Region) (r : model.Region) (t : Actors) → region_with n t.actors ≡ Some r → (change r).cache ≡ r.cache → (change r).offset + (change r).pages ≤ r.offset + r.pages
+      → (change r).start ≡ r.start → AreRight sizes t → AreRight sizes (record t { actors = replace_in n (λ r. change r ∷ []) t.actors })
+  one_right n change r t found same less starts k =
+      replaced_right n (λ r. change r ∷ []) r t found
+      (λ p. All-cons (HasItsPages sizes) (change r) [] (one_placed r (change r) same less p) (All-nil (HasItsPages sizes)))
+      (λ e. All-cons (IsAligned t.page_bytes) (change r) [] (ap (λ n. n % t.page_bytes) starts ∙ e) (All-nil (IsAligned t.page_bytes))) k
 
   pub right_with_allowed : (n : ℕ) (prot : Prot) (t : Actors) → is_some (region_with n t.actors) ≡ true → AreRight sizes t → AreRight sizes (with_allowed n prot t)
   right_with_allowed n prot t some k = go (region_with n t.actors) refl some
     where
       go : (o : Option model.Region) → region_with n t.actors ≡ o → is_some o ≡ true → AreRight sizes (with_allowed n prot t)
       go None found e = absurd (cc e)
-      go (Some r) found e = one_right n (λ r. record r { may_write = prot.write }) r t found refl (omega arith) k
+      go (Some r) found e = one_right n (λ r. record r { may_write = prot.write }) r t found refl (omega arith) refl k
 
   pub right_with_locked : (n : ℕ) (b : Bool) (r : model.Region) (t : Actors) → region_with n t.actors ≡ Some r → AreRight sizes t → AreRight sizes (with_locked n b t)
-  right_with_locked n b r t found k = one_right n (λ r. record r { locked = b }) r t found refl (omega arith) k
+  right_with_locked n b r t found k = one_right n (λ r. record r { locked = b }) r t found refl (omega arith) refl k
 
-  pub right_split : (t : Actors) (n pages : ℕ) → IsCut t n pages → AreRight sizes t → AreRight sizes (with_split t n pages)
+  -- both parts of a region that is cut behind so many pages lie where it lay
+  both_placed : (page_bytes pages number : ℕ) (r : model.Region) → pages < r.pages → HasItsPages sizes r → All (HasItsPages sizes) (split_at page_bytes pages number r)
+  both_placed page_bytes pages number r fewer p =
+      All-cons (HasItsPages sizes) (record r { pages = pages }) (back_of page_bytes pages number r ∷ []) (one_placed r (record r { pages = pages }) refl (omega (arith, fewer)) p)
+      (All-cons (HasItsPages sizes) (back_of page_bytes pages number r) [] (one_placed r (back_of page_bytes pages number r) refl (omega (arith, fewer)) p) (All-nil (HasItsPages sizes)))
+
+  both_aligned : (page_bytes pages number : ℕ) (r : model.Region) → IsAligned page_bytes r → All (IsAligned page_bytes) (split_at page_bytes pages number r)
+  both_aligned page_bytes pages number r e =
+      All-cons (IsAligned page_bytes) (record r { pages = pages }) (back_of page_bytes pages number r ∷ []) e
+      (All-cons (IsAligned page_bytes) (back_of page_bytes pages number r) [] (add-mul-mod_self_left r.start page_bytes pages ∙ e) (All-nil (IsAligned page_bytes)))
+
+  right_split : (t : Actors) (n pages : ℕ) → IsCut t n pages → AreRight sizes t → AreRight sizes (with_split t n pages)
   right_split t n pages c k =
       let e = c.fewer in
       let fewer : pages < c.region.pages = grind (arith, nat_tests) in
-      let r = replaced_right n (split_at t.page_bytes pages (t.regions_made + 1)) c.region t c.found (λ p.
-      All-cons (HasItsPages sizes) (record c.region { pages = pages }) (back_of t.page_bytes pages (t.regions_made + 1) c.region ∷ []) (one_placed c.region (record c.region { pages = pages }) refl (omega (arith, fewer)) p)
-      (All-cons (HasItsPages sizes) (back_of t.page_bytes pages (t.regions_made + 1) c.region) [] (one_placed c.region (back_of t.page_bytes pages (t.regions_made + 1) c.region) refl (omega (arith, fewer)) p) (All-nil (HasItsPages sizes)))) k in
-      record { some = r.some; placed = r.placed }
+      let fresh = t.regions_made + 1 in
+      let r = replaced_right n (split_at t.page_bytes pages fresh) c.region t c.found (both_placed t.page_bytes pages fresh c.region fewer) (both_aligned t.page_bytes pages fresh c.region) k in
+      record { some = r.some; placed = r.placed; aligned = r.aligned }
 
   -- a region that is cut, or isn't
   pub right_cut : (t u : Actors) (region : RegionId) (pages : ℕ) (o : Option Refusal) (result : Result RegionId Trouble) → split_refusal t region.0 pages ≡ o → IfSome o (λ r. result ≡ Err (troubles.Refused r))
@@ -116,6 +158,17 @@ module _ (sizes : ℕ → Option ℕ) where
   right_cut t u region pages None (Ok fresh) is refused ok err k = subst (AreRight sizes) (sym ok) (right_split t region.0 pages (is_cut t region.0 pages is) k)
   right_cut t u region pages (Some r) (Ok fresh) is refused ok err k = absurd (cc refused)
   right_cut t u region pages o (Err e) is refused ok err k = subst (AreRight sizes) (sym err) k
+
+-- regions lie where they lay, where as many pages of the same caches are told
+pub right_weaker : (f g : ℕ → Option ℕ) (t : Actors) → ((n count : ℕ) → f n ≡ Some count → g n ≡ Some count) → AreRight f t → AreRight g t
+right_weaker f g t there k = record { some = k.some; placed = All-weaker (ArePlaced f) (ArePlaced g) actor t.actors k.placed; aligned = k.aligned }
+  where
+    region : (r : model.Region) → HasItsPages f r → HasItsPages g r
+    region r p = record { count = p.count; there = there r.cache p.count p.there; within = p.within }
+
+    actor : (o : Option model.Actor) → ArePlaced f o → ArePlaced g o
+    actor None p = tt
+    actor (Some rs) p = All-weaker (HasItsPages f) (HasItsPages g) region rs p
 
 -- what is so of the actors before a call that may fail, and of those that it makes, is so after it
 pub after_either : {T E : Type 0} (P : Actors → Type 0) (t u v : Actors) (result : Result T E) → OnOk result (u ≡ v) → OnErr result (u ≡ t) → P v → P t → P u
