@@ -36,10 +36,10 @@ module _ (s : Store) (span : Span) (S : IsSpanned s span) where
   abbrev part : ℕ → List Page
   part i = map touched (source_of s span i)
 
-  from_here : (i : ℕ) → source_of s span i ≡ take i (drop span.from_page.0 S.source.pages)
+  pub from_here : (i : ℕ) → source_of s span i ≡ take i (drop span.from_page.0 S.source.pages)
   from_here i = ap (λ (o : Option Cache). take i (drop span.from_page.0 (pages_of o))) S.from
 
-  part_length : (i : ℕ) → i ≤ span.pages → length (part i) ≡ i
+  pub part_length : (i : ℕ) → i ≤ span.pages → length (part i) ≡ i
   part_length i few = omega (
     arith,
     few,
