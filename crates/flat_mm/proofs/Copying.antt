@@ -95,23 +95,23 @@ module _ (s : Store) (span : Span) (S : IsSpanned s span) where
   blanks_in : span.from_page.0 + length blank ≤ length S.source.pages
   blanks_in = omega (arith, length-replicate span.pages (touched (zeros s.page_bytes)), S.inside)
 
-  abbrev pub source_still : IsStill (copied s span span.pages).caches span.from.0 S.source
-  source_still = still s span.to.0 S.destination S.to span.to_page.0 filled fills span.from.0 S.source S.from
-
-  pub spanned_still : IsSpanned (copied s span span.pages) span
+  -- the pages are there still
+  pub spanned_still : (T : IsSpanned (copied s span span.pages) span) × (T.source.segment ≡ S.source.segment)
   spanned_still =
       let from = still s span.to.0 S.destination S.to span.to_page.0 filled fills span.from.0 S.source S.from in
-      let to = still s span.to.0 S.destination S.to span.to_page.0 filled fills span.to.0 S.destination S.to in
-      record {
-        source = from.cache;
-        destination = to.cache;
-        from = from.alive;
-        to = to.alive;
-        inside = omega (arith, from.many, S.inside);
-        within = omega (arith, to.many, S.within);
-        small = omega (arith, from.many, S.small);
-        few = omega (arith, to.many, S.few);
-      }
+      let to = still s span.to.0 S.destination S.to span.to_page.0 filled fills span.to.0 S.destination S.to in (
+        record {
+          source = from.cache;
+          destination = to.cache;
+          from = from.alive;
+          to = to.alive;
+          inside = omega (arith, from.many, S.inside);
+          within = omega (arith, to.many, S.within);
+          small = omega (arith, from.many, S.small);
+          few = omega (arith, to.many, S.few);
+        },
+        from.segment,
+      )
 
   pub live_copied : live_in (copied s span span.pages).caches ≡ live_in s.caches
   live_copied = live_puts s span.to.0 S.destination S.to span.to_page.0 filled fills
@@ -124,6 +124,9 @@ module _ (s : Store) (span : Span) (S : IsSpanned s span) where
 
   pub sound_cleared : (t : Actors) (m : ℕ) (u : Store) → IsManagerSound s t m → AreWhole u → u ≡ cleared s span span.pages → IsManagerSound u t m
   sound_cleared t m u k whole is = sound_puts s span.from.0 S.source S.from span.from_page.0 blank blanks_in t m u k whole (ap (λ (x : Store). x.loose) is ∙ k.settled) (ap (λ (x : Store). x.page_bytes) is) (ap (λ (x : Store). x.caches) is)
+
+  pub filled_spanned : (v : Store) → v ≡ copied s span span.pages → IsSpanned v span
+  filled_spanned v is = subst (λ (x : Store). IsSpanned x span) (sym is) spanned_still.0
 
   -- The machine then
 

@@ -35,6 +35,10 @@ cache_sized s n count e = go (numbered s.caches n) refl e
     go None there e = absurd (cc e)
     go (Some c) there e = (c, there, (let many : length c.pages ≡ count = cc e in many))
 
+pub none_is : {A : Type 0} (o : Option A) → is_some o ≡ false → o ≡ None
+none_is None e = refl
+none_is (Some x) e = absurd (cc e)
+
 -- Both are refused
 
 pub record AreRefused (m : Machine) (span : Span) (r : Refusal) : Type 0 where
@@ -100,6 +104,10 @@ module _ (p : Manager) (span : Span) where
           let x = cache_sized p.store span.from.0 from has in
           let y = cache_sized p.store span.to.0 to had in
           record { source = x.0; destination = y.0; from = x.1; to = y.1; inside = omega (arith, x.2, inside); within = omega (arith, y.2, within); small = omega (arith, x.2, small); few = omega (arith, y.2, few) }
+
+  -- the segment that names the source, if one does
+  pub source_named : (S : IsSpanned p.store span) (o : Option SegId) → o ≡ option_and_then (λ (c : Cache). c.segment) (numbered p.store.caches span.from.0) → S.source.segment ≡ o
+  source_named S o e = sym (e ∙ ap (option_and_then (λ (c : Cache). c.segment)) S.from)
 
   -- One of both is refused
 

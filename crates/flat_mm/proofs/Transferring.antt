@@ -9,6 +9,7 @@ use Rattle.vm_ids.specs.declared.command.Command.{Command}
 use Rattle.vm_ids.specs.declared.command.Command.TheVariants as commands
 use Rattle.vm_ids.specs.declared.command.Span.{Span}
 use Rattle.vm_ids.specs.declared.numbers.PageNo.{PageNo}
+use Rattle.vm_ids.specs.declared.numbers.SegId.{SegId}
 use Rattle.vm_ids.specs.declared.refusal.Refusal.{Refusal}
 use Rattle.vm_ids.specs.declared.refusal.Refusal.TheVariants as refusals
 use Rattle.vm_ids.specs.declared.reply.FaultAt.TheVariants as faults
@@ -34,7 +35,7 @@ use Rattle.flat_mm.specs.Spans.{CanCopy, CanMove, IsSpanned}
 use Rattle.flat_mm.specs.Store.{AreWhole, Cache, Page, Store, cleared, copied, live_in}
 use Rattle.flat_mm.proofs.Acting.{NeedsMade, fits_less, whole_machine}
 use Rattle.flat_mm.proofs.Calls.{flat_call}
-use Rattle.flat_mm.proofs.Copying.{cleared_machine, copied_machine, kept_cleared, kept_copied, live_cleared, live_copied, plain_there, sound_cleared, sound_copied, spanned_still, still}
+use Rattle.flat_mm.proofs.Copying.{cleared_machine, copied_machine, filled_spanned, kept_cleared, kept_copied, live_cleared, live_copied, plain_there, sound_cleared, sound_copied, spanned_still}
 use Rattle.flat_mm.proofs.Making.{plain_live}
 
 -- A command that fills the pages of a span leads the machine here, unless the mapper denies one.
@@ -78,7 +79,7 @@ module _ (p : Manager) (span : Span) where
       record {
         row = λ h. move_unless m span h (plain S.source) (plain S.destination) (plain_there p.store span.from.0 S.source S.from) (plain_there p.store span.to.0 S.destination S.to)
             (inside_end span.from_page.0 span.pages (plain S.source) (plain_end S.source span.from_page.0 span.pages S.inside)) (inside_end span.to_page.0 span.pages (plain S.destination) (plain_end S.destination span.to_page.0 span.pages S.within))
-            (ap (option_map (λ s. s.0)) C.temporary) C.copy.apart C.left C.copy.unlocked;
+            (ap (option_map (λ (x : SegId). x.0)) C.temporary) C.copy.apart C.left C.copy.unlocked;
         denied = λ h. refl;
         fault = λ h page rises named first. (named, first);
         reaches = λ rises. tt;
@@ -137,3 +138,44 @@ module _ {X : Type 0} (M : GhostsOfMapper X) (before : X) (p : Manager) (command
         flat_call M before after p q command a (fits_less p q command a F.needs same)
         (subst (λ (o : Option Held). IfSome o (λ h. AreKept (segments_in h) u.caches)) (sym asked.held) kept)
         (granted_call M before after (machine_in p) command r asked valid.ready (F.reaches asked.reached.rises) (machine_in q) a (whole_machine u p.actors page whole) f (F.denied (segments_for (M.held before)) ∙ free) (F.said (segments_of (M.held after)) a)).call
+
+-- After the pages were filled, and the source was cleared
+
+module _ {X E : Type 0} (M : GhostsOfMapper X) (before after : X) (r : Result Bool E) (p : Manager) (n : ℕ) (k : IsManagerSound p.store p.actors n) (span : Span) (asked : Asked M before after r) (valid : IsValid p (M.held before)) (some : 1 ≤ span.pages) (may : Bool) (t : may ≡ true)
+    (answer : IfSome (M.held before) (λ h. may ≡ not (list_any (is_denied_page (machine_in p) (segments_in h) span.to.0) (range_with_len span.to_page.0 span.pages)))) where
+  free : list_any (is_denied_page (machine_in p) (segments_for (M.held before)) span.to.0) (range_with_len span.to_page.0 span.pages) ≡ false
+  free = range_allowed (machine_in p) span.to.0 span.to_page.0 span.pages (M.held before) may t answer
+
+  abbrev with_store : Store → Machine
+  with_store s = machine_with (caches_in s) s.frames p.actors
+
+  -- what the caches hold agrees with the mapper
+  abbrev Agree : Store → Type 0
+  Agree s = IfSome (M.held before) (λ h. AreKept (segments_in h) s.caches)
+
+  pub copy_done : (C : CanCopy p span) (u : Store) → u ≡ copied p.store span span.pages → AreWhole u
+      → MapperCall M flat before p (commands.Copy span) (Ok replies.Done) after (record { store = u; actors = p.actors })
+  copy_done C u is whole =
+      let S = C.spanned in
+      granted_fill M before p (commands.Copy span) after r span _ (copy_fills p span C) asked valid some u
+      (ap with_store is ∙ copied_machine p.store span S p.actors)
+      (ap (λ (s : Store). live_in s.caches) is ∙ live_copied p.store span S)
+      (k.page ∙ sym (ap (λ (s : Store). s.page_bytes) is)) whole free
+      (subst Agree (sym is) (kept_copied p.store span S (M.held before) (machine_in p) refl free valid.kept))
+
+  pub move_done : (C : CanMove p span) (v u : Store) → v ≡ copied p.store span span.pages → u ≡ cleared v span span.pages → AreWhole u
+      → MapperCall M flat before p (commands.Move span) (Ok replies.Done) after (record { store = u; actors = p.actors })
+  move_done C v u filled is whole =
+      let S = C.copy.spanned in
+      let full = copied p.store span span.pages in
+      let T = spanned_still p.store span S in
+      let all : u ≡ cleared full span span.pages = is ∙ ap (λ (s : Store). cleared s span span.pages) filled in
+      granted_fill M before p (commands.Move span) after r span _ (move_fills p span C) asked valid some u
+      (ap with_store all ∙ cleared_machine full span T.0 p.actors k.page ∙ ap (λ (m : Machine). zero_source m span) (copied_machine p.store span S p.actors))
+      (ap (λ (s : Store). live_in s.caches) all ∙ live_cleared full span T.0 ∙ live_copied p.store span S)
+      (k.page ∙ sym (ap (λ (s : Store). s.page_bytes) all)) whole free
+      (subst Agree (sym all) (kept_cleared full span T.0 (M.held before) (T.1 ∙ C.temporary) (kept_copied p.store span S (M.held before) (machine_in p) refl free valid.kept)))
+
+-- the manager stays sound
+pub sound_moved : (s : Store) (span : Span) (S : IsSpanned s span) (t : Actors) (n : ℕ) (v u : Store) → IsManagerSound s t n → AreWhole v → v ≡ copied s span span.pages → AreWhole u → u ≡ cleared v span span.pages → IsManagerSound u t n
+sound_moved s span S t n v u k filled is whole done = sound_cleared v span (filled_spanned s span S v is) t n u (sound_copied s span S t n v k filled is) whole done
