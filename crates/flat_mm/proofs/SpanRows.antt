@@ -1,5 +1,5 @@
 -- Which copies and moves are refused.
-use Rattle.std.proofs.Common.{◌≡◌, ℕ, ◌+◌, ◌<◌, ◌≤◌, ◌^◌, Bool, true, false, length, Option, Some, None, refl, sym, ap, ◌∙◌, arith}
+use Rattle.std.proofs.Common.{◌≡◌, ℕ, ◌+◌, ◌<◌, ◌≤◌, Bool, true, false, length, Option, Some, None, refl, sym, ap, ◌∙◌, arith}
 use Rattle.std.specs.Prelude.{◌||◌, is_some, nat_lt, option_and_then, option_map}
 use Rattle.std.proofs.lemmas.Bool.Decides.{nat_tests}
 use Rattle.std.proofs.lemmas.List.{length-map}
@@ -7,13 +7,12 @@ use Rattle.vm_ids.specs.Held.{Segments}
 use Rattle.vm_ids.specs.declared.command.Span.{Span}
 use Rattle.vm_ids.specs.declared.numbers.SegId.{SegId}
 use Rattle.vm_ids.specs.declared.refusal.Refusal.{Refusal}
-use Rattle.vm_ids.specs.declared.refusal.Refusal.TheVariants.{Locked, NoCache, NotTemp, OutOfCache, Overlap}
+use Rattle.vm_ids.specs.declared.refusal.Refusal.TheVariants.{Locked, NotTemp, OutOfCache, Overlap}
 use Rattle.vm_model.specs.Answering.{copy_of, is_any_locked, move_of, overlaps_itself, passes_end, refuse, unless, with_some}
 use Rattle.vm_model.specs.Machine as model
 use Rattle.vm_model.specs.Machine.{Machine, cache_of, numbered}
 use Rattle.vm_model.proofs.Machines.Awaiting.{copy_locked, copy_overlaps, inside_end, move_locked, move_named, move_overlaps}
-use Rattle.vm_model.proofs.Parts.Lists.{numbered-map}
-use Rattle.flat_mm.specs.Manager.{Manager, caches_in, machine_in, plain, sizes_in}
+use Rattle.flat_mm.specs.Manager.{Manager, machine_in, plain, sizes_in}
 use Rattle.flat_mm.specs.Spans.{IsSpanned}
 use Rattle.flat_mm.specs.Store.{Cache, Page, Store}
 use Rattle.flat_mm.proofs.Copying.{plain_there}
@@ -21,14 +20,7 @@ use Rattle.flat_mm.proofs.Transferring.{plain_end}
 
 -- Caches and how many pages they have
 
-pub none_sized : (s : Store) (n : ℕ) → sizes_in s n ≡ None → numbered (caches_in s) n ≡ None
-none_sized s n e = numbered-map plain s.caches n ∙ go (numbered s.caches n) e
-  where
-    go : (o : Option Cache) → option_map (λ (c : Cache). length c.pages) o ≡ None → option_map plain o ≡ None
-    go None e = refl
-    go (Some c) e = absurd (cc e)
-
-pub cache_sized : (s : Store) (n count : ℕ) → sizes_in s n ≡ Some count → (c : Cache) × (numbered s.caches n ≡ Some c) × (length c.pages ≡ count)
+cache_sized : (s : Store) (n count : ℕ) → sizes_in s n ≡ Some count → (c : Cache) × (numbered s.caches n ≡ Some c) × (length c.pages ≡ count)
 cache_sized s n count e = go (numbered s.caches n) refl e
   where
     go : (o : Option Cache) → numbered s.caches n ≡ o → option_map (λ (c : Cache). length c.pages) o ≡ Some count → (c : Cache) × (numbered s.caches n ≡ Some c) × (length c.pages ≡ count)
@@ -45,26 +37,10 @@ pub record AreRefused (m : Machine) (span : Span) (r : Refusal) : Type 0 where
   pub copy : (h : Segments) → copy_of m span h ≡ refuse m r
   pub move : (h : Segments) → move_of m span h ≡ refuse m r
 
-module _ (m : Machine) (span : Span) where
-  pub no_source : cache_of m span.from.0 ≡ None → AreRefused m span NoCache
-  unfolding copy_of move_of with_some
-  no_source from = record { copy = λ h. rw from refl; move = λ h. rw from refl }
-
-  module _ (source : model.Cache) (from : cache_of m span.from.0 ≡ Some source) where
-    pub no_destination : cache_of m span.to.0 ≡ None → AreRefused m span NoCache
-    unfolding copy_of move_of with_some
-    no_destination to = record { copy = λ h. rw (from, to) refl; move = λ h. rw (from, to) refl }
-
-    module _ (destination : model.Cache) (to : cache_of m span.to.0 ≡ Some destination) where
-      pub source_ends : passes_end source span.from_page.0 span.pages ≡ true → AreRefused m span OutOfCache
-      unfolding copy_of move_of with_some unless
-      source_ends past = record { copy = λ h. rw (from, to, past) refl; move = λ h. rw (from, to, past) refl }
-
-      pub destination_ends : passes_end source span.from_page.0 span.pages ≡ false → passes_end destination span.to_page.0 span.pages ≡ true → AreRefused m span OutOfCache
-      unfolding copy_of move_of with_some unless
-      destination_ends inside past = record { copy = λ h. rw (from, to, inside, past) refl; move = λ h. rw (from, to, inside, past) refl }
-
--- as the manager finds them
+destination_ends : (m : Machine) (span : Span) (source destination : model.Cache) → cache_of m span.from.0 ≡ Some source → cache_of m span.to.0 ≡ Some destination
+    → passes_end source span.from_page.0 span.pages ≡ false → passes_end destination span.to_page.0 span.pages ≡ true → AreRefused m span OutOfCache
+unfolding copy_of move_of with_some unless
+destination_ends m span source destination from to inside past = record { copy = λ h. rw (from, to, inside, past) refl; move = λ h. rw (from, to, inside, past) refl }
 
 past_end : (c : Cache) (first pages count : ℕ) → length c.pages ≡ count → count < first + pages → passes_end (plain c) first pages ≡ true
 past_end c first pages count many past =
@@ -76,34 +52,12 @@ not_past : (c : Cache) (first pages count : ℕ) → length c.pages ≡ count �
 not_past c first pages count many within = inside_end first pages (plain c) (plain_end c first pages (omega (arith, many, within)))
 
 module _ (p : Manager) (span : Span) where
-  pub unsized_source : sizes_in p.store span.from.0 ≡ None → AreRefused (machine_in p) span NoCache
-  unsized_source e = no_source (machine_in p) span (none_sized p.store span.from.0 e)
-
-  module _ (from : ℕ) (has : sizes_in p.store span.from.0 ≡ Some from) where
-    pub unsized_destination : sizes_in p.store span.to.0 ≡ None → AreRefused (machine_in p) span NoCache
-    unsized_destination e =
-        let x = cache_sized p.store span.from.0 from has in
-        no_destination (machine_in p) span (plain x.0) (plain_there p.store span.from.0 x.0 x.1) (none_sized p.store span.to.0 e)
-
-    module _ (to : ℕ) (had : sizes_in p.store span.to.0 ≡ Some to) where
-      pub passes_source : from < span.from_page.0 + span.pages → AreRefused (machine_in p) span OutOfCache
-      passes_source past =
-          let x = cache_sized p.store span.from.0 from has in
-          let y = cache_sized p.store span.to.0 to had in
-          source_ends (machine_in p) span (plain x.0) (plain_there p.store span.from.0 x.0 x.1) (plain y.0) (plain_there p.store span.to.0 y.0 y.1) (past_end x.0 span.from_page.0 span.pages from x.2 past)
-
-      pub passes_destination : span.from_page.0 + span.pages ≤ from → to < span.to_page.0 + span.pages → AreRefused (machine_in p) span OutOfCache
-      passes_destination inside past =
-          let x = cache_sized p.store span.from.0 from has in
-          let y = cache_sized p.store span.to.0 to had in
-          destination_ends (machine_in p) span (plain x.0) (plain_there p.store span.from.0 x.0 x.1) (plain y.0) (plain_there p.store span.to.0 y.0 y.1) (not_past x.0 span.from_page.0 span.pages from x.2 inside) (past_end y.0 span.to_page.0 span.pages to y.2 past)
-
-      -- the pages are there
-      pub spanned : from ≤ 2 ^ 16 → to ≤ 2 ^ 16 → span.from_page.0 + span.pages ≤ from → span.to_page.0 + span.pages ≤ to → IsSpanned p.store span
-      spanned small few inside within =
-          let x = cache_sized p.store span.from.0 from has in
-          let y = cache_sized p.store span.to.0 to had in
-          record { source = x.0; destination = y.0; from = x.1; to = y.1; inside = omega (arith, x.2, inside); within = omega (arith, y.2, within); small = omega (arith, x.2, small); few = omega (arith, y.2, few) }
+  -- the pages pass the end of the destination
+  pub passes_destination : (from to : ℕ) → sizes_in p.store span.from.0 ≡ Some from → sizes_in p.store span.to.0 ≡ Some to → span.from_page.0 + span.pages ≤ from → to < span.to_page.0 + span.pages → AreRefused (machine_in p) span OutOfCache
+  passes_destination from to has had inside past =
+      let x = cache_sized p.store span.from.0 from has in
+      let y = cache_sized p.store span.to.0 to had in
+      destination_ends (machine_in p) span (plain x.0) (plain y.0) (plain_there p.store span.from.0 x.0 x.1) (plain_there p.store span.to.0 y.0 y.1) (not_past x.0 span.from_page.0 span.pages from x.2 inside) (past_end y.0 span.to_page.0 span.pages to y.2 past)
 
   -- the segment that names the source, if one does
   pub source_named : (S : IsSpanned p.store span) (o : Option SegId) → o ≡ option_and_then (λ (c : Cache). c.segment) (numbered p.store.caches span.from.0) → S.source.segment ≡ o

@@ -20,7 +20,7 @@ rep_more x (suc n) zero e = absurd (omega (arith, e))
 rep_more x (suc n) (suc m) e = ap (λ xs. x ∷ xs) (rep_more x n m (omega (arith, e)))
 
 is_some_at : {A : Type 0} (o : Option A) (x : A) → o ≡ Some x → IsSome o
-is_some_at o x e = subst IsSome (sym e) tt
+is_some_at o x e = subst IsSome (sym e) refl
 
 -- a page that was put, or is still to be put, is there
 there_still : (s : Store) (n : ℕ) (c : Cache) (alive : numbered s.caches n ≡ Some c) (first : ℕ) (part : List Page) (k : ℕ) → first + length part ≤ length c.pages → k < length c.pages → IsSome (page_at (puts s n first part).caches n k)
