@@ -4,7 +4,7 @@ use Rattle.std.specs.Prelude.{IfSome, option_and_then, option_map, slice_get}
 use Rattle.std.specs.Option.{option_map_or}
 use Rattle.std.specs.List.{list_any, range_with_len}
 use Rattle.std.proofs.lemmas.Bool.{cases_eq}
-use Rattle.std.proofs.lemmas.List.{drop-map, length-map, length-replicate, take-map}
+use Rattle.std.proofs.lemmas.List.{drop-map, length-replicate, take-map}
 use Rattle.std.proofs.lemmas.List.FromFn.{get_or-range_with_len, length-range_with_len}
 use Rattle.std.proofs.lemmas.List.Folds.{list_any_at}
 use Rattle.std.proofs.lemmas.Option.{slice_get_within}
@@ -19,7 +19,7 @@ use Rattle.vm_model.specs.Machine.{Machine, numbered, segment_of, zero_page}
 use Rattle.vm_model.proofs.Parts.Lists.{at_number, length-overwrite, numbered-map, sum_by_same}
 use Rattle.contexts.specs.Actors.{Actors}
 use Rattle.gmi_calls.proofs.Accessing.{segments_for}
-use Rattle.flat_mm.specs.Manager.{AreKept, IsKept, IsManagerSound, Manager, caches_in, machine_in, machine_with, plain}
+use Rattle.flat_mm.specs.Manager.{AreKept, IsManagerSound, caches_in, machine_with, plain}
 use Rattle.flat_mm.specs.Spans.{IsSpanned}
 use Rattle.flat_mm.specs.Store.{AreWhole, Cache, Page, Store, cleared, copied, live_in, size_of, source_of, touched, zeros}
 use Rattle.flat_mm.proofs.Accesses.{segment_plain}

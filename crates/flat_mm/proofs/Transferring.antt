@@ -1,6 +1,6 @@
 -- A copy or a move, after the mapper was asked.
-use Rattle.std.proofs.Common.{◌≡◌, ℕ, ◌+◌, ◌<◌, ◌≤◌, Bool, true, false, List, length, Option, Some, None, refl, sym, ap, subst, ◌∙◌, arith}
-use Rattle.std.specs.Prelude.{IfSome, Ok, Err, Result, is_some, not, option_map, ◌||◌}
+use Rattle.std.proofs.Common.{◌≡◌, ℕ, ◌+◌, ◌<◌, ◌≤◌, Bool, true, false, length, Option, None, refl, sym, ap, subst, ◌∙◌, arith}
+use Rattle.std.specs.Prelude.{IfSome, Ok, Err, Result, not, option_map}
 use Rattle.std.specs.List.{list_any, range_with_len}
 use Rattle.std.proofs.lemmas.List.{length-map}
 use Rattle.vm_ids.specs.Counting.{MapperCounts, no_counts}
@@ -20,7 +20,7 @@ use Rattle.vm_model.specs.Answering.{Answer, answer_of, is_any_denied, is_denied
 use Rattle.vm_model.specs.Asking.{ReachesMapper}
 use Rattle.vm_model.specs.Machine as model
 use Rattle.vm_model.specs.Machine.{Machine, live_pages, numbered, pages_in}
-use Rattle.vm_model.specs.Outcome.{IsFirstAsked, IsNamed, MayFault, PlainOutcome}
+use Rattle.vm_model.specs.Outcome.{IsFirstAsked, IsNamed, MayFault}
 use Rattle.vm_model.specs.PageForest.{plain_forest}
 use Rattle.vm_model.specs.Synchronised.{IsSynchronised}
 use Rattle.vm_model.proofs.Machines.Awaiting.{awaits, copy_unless, inside_end, move_unless, unless_false}

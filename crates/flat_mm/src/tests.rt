@@ -90,7 +90,10 @@ fn four_frames(rt: HostRuntime) -> Result<(), Fail> {
     assert_eq!(rt; ask(&store(0x10000, 1)?), Shown::Done);
     assert_eq!(rt; ask(&copy(1, 2, 1)), Shown::Done);
     assert_eq!(rt; ask(&store(0x10000, 2)?), Shown::Done);
-    assert_eq!(rt; ask(&map(extent(2, 0, 1), 0x20000, false)), Shown::Region(2));
+    assert_eq!(rt;
+        ask(&map(extent(2, 0, 1), 0x20000, false)),
+        Shown::Region(2)
+    );
     assert_eq!(rt; ask(&load(0x20000)), Shown::Byte(1));
     assert_eq!(rt; ask(&Command::Unmap(RegionId(1))), Shown::Done);
     assert_eq!(rt; ask(&Command::Destroy(CacheId(1))), Shown::Done);
@@ -115,11 +118,17 @@ fn twelve_frames(rt: HostRuntime) -> Result<(), Fail> {
     assert_eq!(rt; ask(&map(extent(2, 5, 1), 0x30000, true)), Shown::Region(3));
     assert_eq!(rt; ask(&Command::Lock(RegionId(2))), Shown::Done);
     assert_eq!(rt; ask(&Command::Lock(RegionId(3))), Shown::Done);
-    assert_eq!(rt; ask(&Command::Lock(RegionId(2))), Shown::Refused(Refusal::Locked));
+    assert_eq!(rt;
+        ask(&Command::Lock(RegionId(2))),
+        Shown::Refused(Refusal::Locked)
+    );
     assert_eq!(rt; ask(&Command::Unlock(RegionId(3))), Shown::Done);
     assert_eq!(rt; ask(&store(0x20000, 2)?), Shown::Done);
     assert_eq!(rt; ask(&load(0x10000)), Shown::Byte(1));
-    assert_eq!(rt; ask(&Command::Unmap(RegionId(2))), Shown::Refused(Refusal::Locked));
+    assert_eq!(rt;
+        ask(&Command::Unmap(RegionId(2))),
+        Shown::Refused(Refusal::Locked)
+    );
     assert_eq!(rt; ask(&copy(1, 2, 1)), Shown::Refused(Refusal::Locked));
     assert_eq!(rt; ask(&Command::Unlock(RegionId(2))), Shown::Done);
     assert_eq!(rt; ask(&Command::Lock(RegionId(3))), Shown::Done);

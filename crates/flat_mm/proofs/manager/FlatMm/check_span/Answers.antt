@@ -1,4 +1,4 @@
-use Rattle.std.proofs.Common.{◌+◌, ◌<◌, ◌≤◌, ap, arith, sym, ◌∙◌}
+use Rattle.std.proofs.Common.{ap, arith, sym, ◌∙◌}
 use Rattle.vm_ids.specs.declared.refusal.Refusal.TheVariants.{OutOfCache}
 use Rattle.flat_mm.specs.Manager.{Manager, machine_in, sizes_in}
 use Rattle.flat_mm.proofs.SpanRows.{AreRefused, passes_destination}

@@ -1,4 +1,4 @@
-use Rattle.std.proofs.Common.{◌≡◌, ◌+◌, ◌≤◌, Ok, arith, not, refl, subst, sym}
+use Rattle.std.proofs.Common.{◌≡◌, Ok, arith, not, refl, subst, sym}
 use Rattle.std.specs.Prelude.{IfSome}
 use Rattle.std.specs.List.{list_any, range_with_len}
 use Rattle.vm_ids.specs.Held.{segments_in}
