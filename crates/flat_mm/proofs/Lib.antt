@@ -26,5 +26,8 @@ pub mod Handed
 pub mod Rooms
 -- Pages are copied and moved.
 pub mod Spanning
+pub mod Copying
+pub mod Transferring
+pub mod SpanRows
 -- The law of two managers.
 pub mod TwoManagers
