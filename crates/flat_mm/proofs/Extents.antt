@@ -45,6 +45,9 @@ pub not_alive : (o : Option Cache) → option_map (λ (c : Cache). length c.page
 not_alive None e = refl
 not_alive (Some c) e = absurd (cc e)
 
+pub segment_there : (o : Option Cache) (c : Cache) → o ≡ Some c → c.segment ≡ option_and_then (λ (x : Cache). x.segment) o
+segment_there o c e = ap (option_and_then (λ (x : Cache). x.segment)) (sym e)
+
 pub segment_number : (o : Option SegId) (seg : SegId) → option_map (λ (s : SegId). s.0) o ≡ Some seg.0 → o ≡ Some seg
 segment_number None seg e = absurd (cc e)
 segment_number (Some s) seg e = let same : s.0 ≡ seg.0 = cc e in (λ i. Some (record { 0 = same i }))

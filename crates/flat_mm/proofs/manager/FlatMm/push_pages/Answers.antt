@@ -1,4 +1,4 @@
-use Rattle.std.proofs.Common.{◌≡◌, Option, Ok, Err, refl, sym, ap, subst, ◌∙◌, ◌+◌, ◌<◌, ℕ, arith}
+use Rattle.std.proofs.Common.{◌≡◌, Option, Some, Ok, Err, refl, sym, ap, subst, ◌∙◌, ◌+◌, ◌<◌, ℕ, arith}
 use Rattle.std.specs.Prelude.{Result}
 use Rattle.vm_ids.specs.Held.{segments_of}
 use Rattle.vm_ids.specs.declared.numbers.PageNo.{PageNo}
@@ -15,7 +15,7 @@ pub loop-i-init : goal.loop-i-init
 loop-i-init g c = (none_pushed g.M.Mapper c.args.mapper.now c.args.self.now tt c.requires.valid, there_none (machine_in c.args.self.now) _ _ _ _ (omega arith))
 
 pub push_page-requires-clause-named : goal.push_page-requires-clause-named
-push_page-requires-clause-named g c = subst (λ (m : Machine). segment_of m c.args.extent.now.cache.0 ≡ _) (sym c.loop-i.invariant.0.machine) c.requires.named
+push_page-requires-clause-named g c = subst (λ (m : Machine). segment_of m c.args.extent.now.cache.0 ≡ Some c.args.seg.0) (sym c.loop-i.invariant.0.machine) c.requires.named
 
 pub push_page-requires-clause-within : goal.push_page-requires-clause-within
 push_page-requires-clause-within g c =
