@@ -16,6 +16,19 @@ pub mod WriteAccess
 -- Pages are put into a cache.
 pub mod Putting
 pub mod Storing
+-- Pages go to segments.
+pub mod Extents
+pub mod Pushes
+-- Calls that reached the mapper.
+pub mod Reached
+-- Pages come from segments.
+pub mod Filling
+-- A cache is taken away.
+pub mod Destroying
+-- A cache that a segment names is made.
+pub mod Opening
+-- Pages are taken from a segment again.
+pub mod Invalidating
 -- Which pages are locked.
 pub mod Locked
 -- Chains and counts.

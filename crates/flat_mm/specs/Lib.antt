@@ -1,4 +1,5 @@
 pub mod Accessing
+pub mod Extents
 pub mod FramedAnswers
 pub mod Frames
 pub mod Layout

@@ -7,10 +7,9 @@ ghost use Rattle.flat_mm.specs.Manager.{IsValid, flat, machine_in, room_of};
 
 use crate::FlatMm;
 use crate::pulling::pull_loose;
-use crate::pushing::push_pages;
 use vm_ids::{
-    CacheId, ChainItem, ChainList, Command, Counts, Extent, FaultAt, NoMemory, NodeName, PageNo,
-    Refusal, Reply, SegId, Trouble,
+    CacheId, ChainList, Command, Counts, FaultAt, NoMemory, PageNo, Refusal, Reply, SegId,
+    Trouble,
 };
 use vm_model::{LIVE_PAGES, MOST_MADE};
 use vm_port::Mapper;
@@ -121,20 +120,14 @@ impl FlatMm {
         if self.contexts.maps(cache) {
             return Err(Trouble::Refused(Refusal::InUse));
         }
-        if let Some(seg) = self.store.segment(cache) {
-            let extent = Extent {
-                cache,
-                first: PageNo(0),
-                pages,
-            };
-            match push_pages(&mut self.store, &extent, seg, mapper) {
-                Ok(()) => {}
-                Err(page) => return Err(Trouble::Mapper(FaultAt::Page(page))),
+        match self.push_cache(cache, pages, mapper) {
+            Ok(()) => {
+                self.store.release(cache);
+                self.store.drop_loose();
+                Ok(())
             }
+            Err(page) => Err(Trouble::Mapper(FaultAt::Page(page))),
         }
-        self.store.release(cache);
-        self.store.drop_loose();
-        Ok(())
     }
 
     /// The node of a page, which owns itself. Refused as `NoCache` or `OutOfCache`, in this order.

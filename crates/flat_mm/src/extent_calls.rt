@@ -1,18 +1,23 @@
 // Pages of caches that segments name are pushed and taken again; regions are locked.
-ghost use Rattle.std.specs.Prelude.{◌≡◌, ◌≤◌};
+ghost use Rattle.std.specs.Prelude.{◌≡◌, ◌≤◌, false, IfErr, IfOk, OnOk};
+ghost use Rattle.vm_model.specs.Answering.{is_any_locked};
 ghost use Rattle.gmi_calls.specs.Calling.{Fits, MapperCall, done_by};
+ghost use Rattle.flat_mm.specs.Extents.{IsExtent, RefusesFlush, RefusesSync};
 ghost use Rattle.flat_mm.specs.Manager.{IsValid, flat, machine_in};
 
 use crate::FlatMm;
 use crate::pulling::pull_loose;
-use crate::pushing::push_pages;
 use vm_ids::{Command, Extent, FaultAt, NoMemory, Refusal, RegionId, SegId, Trouble};
 use vm_port::Mapper;
 
 impl FlatMm {
     // The segment that names the cache of these pages. Refused as `NoCache`, `NotNamed` or
     // `OutOfCache`, in this order.
-    fn check_extent(&self, extent: &Extent) -> Result<SegId, Refusal> {
+    fn check_extent(&self, extent: &Extent) -> Result<SegId, Refusal>
+        ensures refused { IfErr result (λ refusal.
+            RefusesSync (machine_in self.now) extent.now refusal) }
+        ensures extent { IfOk result (λ seg. IsExtent self.now.store extent.now seg) }
+    {
         let Some(size) = self.store.size(extent.cache) else {
             return Err(Refusal::NoCache);
         };
@@ -26,8 +31,17 @@ impl FlatMm {
     }
 
     // The same where no page may be locked: refused as `Locked` last.
-    fn check_unlocked(&self, extent: &Extent) -> Result<SegId, Refusal> {
-        let seg = self.check_extent(extent)?;
+    fn check_unlocked(&self, extent: &Extent) -> Result<SegId, Refusal>
+        ensures refused { IfErr result (λ refusal.
+            RefusesFlush (machine_in self.now) extent.now refusal) }
+        ensures extent { IfOk result (λ seg. IsExtent self.now.store extent.now seg) }
+        ensures unlocked { OnOk result (is_any_locked (machine_in self.now) extent.now.cache
+            extent.now.first.0 extent.now.pages ≡ false) }
+    {
+        let seg = match self.check_extent(extent) {
+            Ok(seg) => seg,
+            Err(refusal) => return Err(refusal),
+        };
         if self.is_any_locked(extent.cache, extent.first, extent.pages) {
             return Err(Refusal::Locked);
         }
@@ -47,7 +61,7 @@ impl FlatMm {
             Ok(seg) => seg,
             Err(refusal) => return Err(Trouble::Refused(refusal)),
         };
-        match push_pages(&mut self.store, &extent, seg, mapper) {
+        match self.push_pages(&extent, seg, mapper) {
             Ok(()) => Ok(()),
             Err(page) => Err(Trouble::Mapper(FaultAt::Page(page))),
         }
@@ -66,7 +80,7 @@ impl FlatMm {
             Ok(seg) => seg,
             Err(refusal) => return Err(Trouble::Refused(refusal)),
         };
-        match push_pages(&mut self.store, &extent, seg, mapper) {
+        match self.push_pages(&extent, seg, mapper) {
             Ok(()) => Ok(()),
             Err(page) => Err(Trouble::Mapper(FaultAt::Page(page))),
         }
@@ -92,14 +106,16 @@ impl FlatMm {
         if let Err(NoMemory) = self.store.take_loose(extent.pages) {
             return Err(Trouble::Memory);
         }
-        let pulled = pull_loose(&mut self.store, seg, extent.first, mapper);
-        if pulled.is_ok() {
-            self.store.exchange(extent.cache, extent.first);
-        }
-        self.store.drop_loose();
-        match pulled {
-            Ok(()) => Ok(()),
-            Err(_) => Err(Trouble::Mapper(FaultAt::Save(0))),
+        match pull_loose(&mut self.store, seg, extent.first, mapper) {
+            Ok(()) => {
+                self.store.exchange(extent.cache, extent.first);
+                self.store.drop_loose();
+                Ok(())
+            }
+            Err(_) => {
+                self.store.drop_loose();
+                Err(Trouble::Mapper(FaultAt::Save(0)))
+            }
         }
     }
 
