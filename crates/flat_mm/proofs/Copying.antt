@@ -17,9 +17,9 @@ use Rattle.vm_model.specs.Answering.{is_denied_page, put_span, zero_source}
 use Rattle.vm_model.specs.Machine as model
 use Rattle.vm_model.specs.Machine.{Machine, numbered, segment_of, zero_page}
 use Rattle.vm_model.proofs.Parts.Lists.{at_number, length-overwrite, numbered-map, sum_by_same}
-use Rattle.contexts.specs.Actors.{Actors}
+use Rattle.contexts.specs.Actors.{Actors, machine_with}
 use Rattle.gmi_calls.proofs.Accessing.{segments_for}
-use Rattle.flat_mm.specs.Manager.{AreKept, IsManagerSound, caches_in, machine_with, plain}
+use Rattle.flat_mm.specs.Manager.{AreKept, IsManagerSound, caches_in, plain}
 use Rattle.flat_mm.specs.Spans.{IsSpanned}
 use Rattle.flat_mm.specs.Store.{AreWhole, Cache, Page, Store, cleared, copied, live_in, size_of, source_of, touched, zeros}
 use Rattle.flat_mm.proofs.Accesses.{segment_plain}

@@ -22,16 +22,16 @@ use Rattle.vm_model.specs.Synchronised.{ArePushed}
 use Rattle.vm_model.proofs.Parts.Lists.{at_number, numbered-map, numbered_place, sum_by_less}
 use Rattle.vm_model.proofs.Parts.ListParts.{numbered_set, numbered_set_other}
 use Rattle.vm_port.specs.declared.traits.mapper.Mapper.{Ghosts as GhostsOfMapper}
-use Rattle.contexts.specs.Actors.{Actors}
+use Rattle.contexts.specs.Actors.{Actors, machine_with}
 use Rattle.gmi_calls.specs.Backing.{IsReady, eager}
 use Rattle.gmi_calls.specs.Calling.{MapperCall}
 use Rattle.gmi_calls.proofs.Called.{call_is, eager_call, fault_for, plain_for, ready_plain}
 use Rattle.flat_mm.specs.Extents.{IsPushed}
-use Rattle.flat_mm.specs.Manager.{AreKept, IsManagerSound, IsValid, Manager, caches_in, flat, machine_in, machine_with, plain, sizes_in}
+use Rattle.flat_mm.specs.Manager.{AreKept, IsManagerSound, IsValid, Manager, caches_in, flat, machine_in, plain, sizes_in}
 use Rattle.flat_mm.specs.Store.{AreWhole, Cache, HasWholePages, Page, Store}
 use Rattle.flat_mm.proofs.Acting.{fits_less, whole_machine}
 use Rattle.flat_mm.proofs.Calls.{flat_call}
-use Rattle.flat_mm.proofs.Placing.{placed_actors}
+use Rattle.contexts.proofs.Placing.{placed_actors}
 
 -- The rows
 

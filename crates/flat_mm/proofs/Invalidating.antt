@@ -24,8 +24,9 @@ use Rattle.gmi_calls.specs.Reaching.{Asked, Reached}
 use Rattle.gmi_calls.proofs.Called.{OutcomeFor, every_segments, fault_for, no_segments}
 use Rattle.gmi_calls.proofs.Opening.{taken_for}
 use Rattle.gmi_calls.proofs.Rising.{asked_none, quiet_none, reached_none}
+use Rattle.contexts.specs.Actors.{machine_with}
 use Rattle.flat_mm.specs.Extents.{ArePulled, IsExtent}
-use Rattle.flat_mm.specs.Manager.{AreKept, IsKept, IsManagerSound, IsValid, Manager, caches_in, flat, machine_in, machine_with}
+use Rattle.flat_mm.specs.Manager.{AreKept, IsKept, IsManagerSound, IsValid, Manager, caches_in, flat, machine_in}
 use Rattle.flat_mm.specs.Store.{AreWhole, Cache, Page, Store, put_pages, with_cache}
 use Rattle.flat_mm.proofs.Acting.{whole_machine}
 use Rattle.flat_mm.proofs.Extents.{extent_named, extent_within, invalidate_row, with_pages}

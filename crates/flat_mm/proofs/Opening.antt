@@ -23,14 +23,14 @@ use Rattle.vm_model.specs.Machine as model
 use Rattle.vm_model.specs.Machine.{Machine, cache_named, is_named_by, live_pages, pages_in}
 use Rattle.vm_model.specs.Outcome.{IsNotRefused, NotRefusedButFor, seen_at}
 use Rattle.vm_port.specs.declared.traits.mapper.Mapper.{Ghosts as GhostsOfMapper}
-use Rattle.contexts.specs.Actors.{Actors}
+use Rattle.contexts.specs.Actors.{Actors, machine_with}
 use Rattle.gmi_calls.specs.Calling.{MapperCall}
 use Rattle.gmi_calls.specs.Reaching.{ArePagesOf, Asked, Reached}
 use Rattle.gmi_calls.proofs.Called.{OutcomeFor, every_segments}
 use Rattle.gmi_calls.proofs.Opening.{opened_for, sized_for}
 use Rattle.gmi_calls.proofs.Still.{asks_quiet}
 use Rattle.flat_mm.specs.Extents.{ArePulled}
-use Rattle.flat_mm.specs.Manager.{AreKept, IsManagerSound, IsValid, Manager, caches_in, flat, machine_in, machine_with, plain}
+use Rattle.flat_mm.specs.Manager.{AreKept, IsManagerSound, IsValid, Manager, caches_in, flat, machine_in, plain}
 use Rattle.flat_mm.specs.Store.{AreWhole, Cache, Page, Store, is_of}
 use Rattle.flat_mm.proofs.Acting.{whole_machine}
 use Rattle.flat_mm.proofs.Calls.{seen_live}

@@ -17,13 +17,13 @@ use Rattle.vm_model.specs.PageForest.{page_in}
 use Rattle.vm_model.specs.Synchronised.{ArePushed}
 use Rattle.vm_model.proofs.Parts.Lists.{get_set_other, numbered-map, numbered_place}
 use Rattle.vm_port.specs.declared.traits.mapper.Mapper.{Ghosts as GhostsOfMapper}
-use Rattle.contexts.specs.Actors.{Actors}
+use Rattle.contexts.specs.Actors.{Actors, machine_with}
 use Rattle.gmi_calls.specs.Backing.{AreBacked, IsReady}
 use Rattle.gmi_calls.specs.Reaching.{Pushed}
 use Rattle.gmi_calls.proofs.Pushing.{IsGranted, IsNamedPage, page_is as named_page_is, page_kept, page_pushed, page_ready, page_there as page_there_now, pushed_by, pushed_start, pushed_then, there_one}
 use Rattle.gmi_calls.proofs.Rising.{counted}
 use Rattle.flat_mm.specs.Extents.{IsPushed}
-use Rattle.flat_mm.specs.Manager.{AreKept, IsKept, IsManagerSound, IsValid, Manager, caches_in, machine_in, machine_with, plain}
+use Rattle.flat_mm.specs.Manager.{AreKept, IsKept, IsManagerSound, IsValid, Manager, caches_in, machine_in, plain}
 use Rattle.flat_mm.specs.Store as store
 use Rattle.flat_mm.specs.Store.{AreWhole, Cache, Page, Store}
 use Rattle.flat_mm.proofs.Accesses.{IsPageAt, cache_plain, kept_put, page_is, page_plain, page_some, page_there, put_plain, segment_plain}

@@ -25,12 +25,12 @@ use Rattle.vm_model.specs.PageForest.{plain_forest}
 use Rattle.vm_model.specs.Synchronised.{IsSynchronised}
 use Rattle.vm_model.proofs.Machines.Awaiting.{awaits, copy_unless, inside_end, move_unless, unless_false}
 use Rattle.vm_port.specs.declared.traits.mapper.Mapper.{Ghosts as GhostsOfMapper}
-use Rattle.contexts.specs.Actors.{Actors}
+use Rattle.contexts.specs.Actors.{Actors, machine_with}
 use Rattle.gmi_calls.specs.Calling.{MapperCall}
 use Rattle.gmi_calls.specs.Reaching.{Asked}
 use Rattle.gmi_calls.proofs.Accessing.{denied_call, failed_call, granted_call, none_before, range_allowed, range_denied, segments_for}
 use Rattle.gmi_calls.proofs.Called.{eager_left}
-use Rattle.flat_mm.specs.Manager.{AreKept, IsManagerSound, IsValid, Manager, caches_in, flat, machine_in, machine_with, plain}
+use Rattle.flat_mm.specs.Manager.{AreKept, IsManagerSound, IsValid, Manager, caches_in, flat, machine_in, plain}
 use Rattle.flat_mm.specs.Spans.{CanCopy, CanMove, IsSpanned}
 use Rattle.flat_mm.specs.Store.{AreWhole, Cache, Page, Store, cleared, copied, live_in}
 use Rattle.flat_mm.proofs.Acting.{NeedsMade, fits_less, whole_machine}

@@ -7,7 +7,7 @@ use Rattle.vm_model.specs.declared.limits.TheConstants.{MOST_MADE}
 use Rattle.vm_model.specs.Machine as model
 use Rattle.vm_model.specs.Machine.{Machine, numbered}
 use Rattle.vm_model.specs.Outcome.{seen_at}
-use Rattle.contexts.specs.Actors.{Actors}
+use Rattle.contexts.specs.Actors.{Actors, machine_with}
 use Rattle.contexts.specs.Placed.{AreRight}
 use Rattle.gmi_calls.specs.Backing.{IsReady}
 use Rattle.gmi_calls.specs.Calling.{Meanings, meanings}

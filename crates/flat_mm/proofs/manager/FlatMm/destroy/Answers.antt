@@ -10,7 +10,7 @@ use Rattle.flat_mm.specs.Manager.{Manager, caches_in, machine_in, sizes_in}
 use Rattle.flat_mm.proofs.Acting.{pages_sized, sizes_plain}
 use Rattle.flat_mm.proofs.Destroying.{destroy_none, destroy_used}
 use Rattle.flat_mm.proofs.Extents.{refused_call}
-use Rattle.flat_mm.proofs.RegionRows.{sized, unsized}
+use Rattle.contexts.proofs.RegionRows.{sized, unsized}
 use Rattle.flat_mm.proofs.manager.FlatMm.destroy.Given.{Over}
 use Rattle.flat_mm.proofs.manager.FlatMm.destroy.Goals.{In-Some}
 use Rattle.flat_mm.proofs.manager.FlatMm.destroy.Goals as goal
