@@ -3,7 +3,8 @@ use Rattle.std.proofs.Common.{◌≡◌, ◌≢◌, ℕ, ◌+◌, ◌-◌, ◌<�
 use Rattle.std.specs.Prelude.{IfSome, Result, Ok, Err, option_and_then, option_map}
 use Rattle.std.specs.List.{list_any}
 use Rattle.std.proofs.lemmas.Bool.{cases_eq}
-use Rattle.std.proofs.lemmas.List.{length-map, length-set, map-set}
+use Rattle.std.proofs.lemmas.List.{length-set, map-set}
+use Rattle.std.proofs.lemmas.List.Elements.{All-nil}
 use Rattle.vm_ids.specs.Held.{Held, Segments, segments_in, segments_of}
 use Rattle.vm_ids.specs.declared.command.Command.{Command}
 use Rattle.vm_ids.specs.declared.command.Command.TheVariants as commands
@@ -27,8 +28,13 @@ use Rattle.gmi_calls.specs.Backing.{IsReady, eager}
 use Rattle.gmi_calls.specs.Calling.{MapperCall}
 use Rattle.gmi_calls.proofs.Called.{call_is, eager_call, fault_for, plain_for, ready_plain}
 use Rattle.flat_mm.specs.Extents.{IsPushed}
+<<<<<<< HEAD
 use Rattle.flat_mm.specs.Manager.{AreKept, IsManagerSound, IsValid, Manager, caches_in, flat, machine_in, plain, sizes_in}
 use Rattle.flat_mm.specs.Store.{AreWhole, Cache, HasWholePages, Page, Store}
+=======
+use Rattle.flat_mm.specs.Manager.{AreKept, IsManagerSound, IsValid, Manager, caches_in, flat, machine_in, machine_with, plain, sizes_in}
+use Rattle.flat_mm.specs.Store.{AreWhole, Cache, IsWhole, Store}
+>>>>>>> bed00d9cbf214b54fbe64cf0e4377f5ae0d07590
 use Rattle.flat_mm.proofs.Acting.{fits_less, whole_machine}
 use Rattle.flat_mm.proofs.Calls.{flat_call}
 use Rattle.contexts.proofs.Placing.{placed_actors}
@@ -56,20 +62,20 @@ module _ (m : Machine) (n : ℕ) where
 
 -- The manager without it
 
-module _ (s : Store) (n : ℕ) (c : Cache) (alive : numbered s.caches n ≡ Some c) where
-  abbrev left : List (Option Cache)
-  left = set s.caches (n - 1) None
+abbrev pub left : Store → ℕ → List (Option Cache)
+left s n = set s.caches (n - 1) None
 
-  gone : numbered left n ≡ None
+module _ (s : Store) (n : ℕ) (c : Cache) (alive : numbered s.caches n ≡ Some c) where
+  gone : numbered (left s n) n ≡ None
   gone = numbered_set s.caches n c None alive
 
-  others : (j : ℕ) → j ≢ n → numbered left j ≡ numbered s.caches j
+  others : (j : ℕ) → j ≢ n → numbered (left s n) j ≡ numbered s.caches j
   others j other = numbered_set_other s.caches n j None (numbered_place s.caches n c alive).0 other
 
-  pub left_machine : map (option_map plain) left ≡ set (caches_in s) (n - 1) None
+  pub left_machine : map (option_map plain) (left s n) ≡ set (caches_in s) (n - 1) None
   left_machine = map-set (option_map plain) s.caches (n - 1) None
 
-  pub left_sound : (t : Actors) (k : ℕ) (u : Store) → IsManagerSound s t k → list_any (maps_in n) t.actors ≡ false → AreWhole u → u.loose ≡ [] → u.page_bytes ≡ s.page_bytes → u.caches ≡ left → IsManagerSound u t k
+  pub left_sound : (t : Actors) (k : ℕ) (u : Store) → IsManagerSound s t k → list_any (maps_in n) t.actors ≡ false → AreWhole u → u.loose ≡ [] → u.page_bytes ≡ s.page_bytes → u.caches ≡ left s n → IsManagerSound u t k
   left_sound t k u S unused whole settled page is = record {
     whole = whole;
     settled = settled;
@@ -82,11 +88,24 @@ module _ (s : Store) (n : ℕ) (c : Cache) (alive : numbered s.caches n ≡ Some
     };
   }
 
-  pub left_kept : (h : Segments) → AreKept h s.caches → AreKept h left
+  pub left_kept : (h : Segments) → AreKept h s.caches → AreKept h (left s n)
   left_kept h kept = λ number page d seg p there named at. elim (cases_eq number n) [
-    | inl same ↦ absurd (let no : None ≡ Some d = sym gone ∙ ap (numbered left) (sym same) ∙ there in cc no)
+    | inl same ↦ absurd (let no : None ≡ Some d = sym gone ∙ ap (numbered (left s n)) (sym same) ∙ there in cc no)
     | inr other ↦ kept number page d seg p (sym (others number other) ∙ there) named at
   ]
+
+  pub told_left : (told : Option Held) → IfSome told (λ h. AreKept (segments_in h) s.caches) → IfSome told (λ h. AreKept (segments_in h) (left s n))
+  told_left None kept = tt
+  told_left (Some h) kept = left_kept (segments_in h) kept
+
+-- the store's cache, of which the machine's is told
+pub plain_alive : (o : Option Cache) (x : model.Cache) → option_map plain o ≡ Some x → (c : Cache) × (o ≡ Some c)
+plain_alive None x e = absurd (cc e)
+plain_alive (Some c) x e = (c, refl)
+
+-- pages that were loose are given up
+pub dropped_whole : (s u : Store) → AreWhole s → u ≡ record s { free = s.free + length s.loose; loose = [] } → AreWhole u
+dropped_whole s u w is = subst AreWhole (sym is) (record { caches = w.caches; loose = All-nil (IsWhole s.page_bytes) })
 
 -- where no segment names it, nothing is to be pushed
 pub none_named : (m : Machine) (h : Option Segments) (n past : ℕ) → segment_of m n ≡ None → ArePushed m h n 0 past
@@ -106,9 +125,9 @@ module _ {X : Type 0} (M : GhostsOfMapper X) (before after : X) (p q : Manager) 
   still r P = subst (λ (x : Machine). IsReady x (M.held after)) P.machine P.valid.ready
 
   pub destroyed_call : {T E : Type 0} (r : Result T E) → IsPushed M before p after q r → ArePushed (machine_in p) (segments_of (M.held after)) cache.0 0 (pages_in (cache_of (machine_in p) cache.0))
-      → (u : Store) → caches_in u ≡ set (caches_in q.store) (cache.0 - 1) None → u.frames ≡ q.store.frames → IsManagerSound u q.actors (length q.actors.actors) → IfSome (M.held after) (λ h. AreKept (segments_in h) u.caches)
+      → (u : Store) → caches_in u ≡ set (caches_in q.store) (cache.0 - 1) None → u.frames ≡ q.store.frames → (count : ℕ) → IsManagerSound u q.actors count → IfSome (M.held after) (λ h. AreKept (segments_in h) u.caches)
       → MapperCall M flat before p (commands.Destroy cache) (Ok replies.Done) after (record { store = u; actors = q.actors })
-  destroyed_call r P pushed u caches frames sound kept =
+  destroyed_call r P pushed u caches frames count sound kept =
       let new : Manager = record { store = u; actors = q.actors } in
       let m = machine_in p in
       let next = without m cache.0 in

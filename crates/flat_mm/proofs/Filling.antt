@@ -35,7 +35,7 @@ reloosed old now next i p R is whole = record {
 
 pub pulling_more : (told : Option Held) (seg first i : ℕ) (old now next : Store) (w : List ℕ) → IsPulling told seg first i old now → i < length now.loose → next ≡ with_loose (set now.loose i (record { bytes = w; changed = false })) now → AreWhole next
     → IfSome told (λ h. page_of h seg (first + i) ≡ Some w) → IsPulling told seg first (i + 1) old next
-pulling_more told seg first i old now next w N less is whole same = record {
+pulling_more told seg first i old now next w N less is whole same = let new : Page = record { bytes = w; changed = false } in record {
   pulled = λ j q small at.
       let here : slice_get (set now.loose i new) j ≡ Some q = ap (λ (s : Store). slice_get s.loose j) (sym is) ∙ at in
       elim (cases_eq j i) [
@@ -47,9 +47,6 @@ pulling_more told seg first i old now next w N less is whole same = record {
       ];
   rest = reloosed old now next i new N.rest is whole;
 }
-  where
-    abbrev new : Page
-    new = record { bytes = w; changed = false }
 
 pub pulled_all : (told : Option Held) (seg first filled : ℕ) (old now : Store) → length now.loose ≤ filled → IsPulling told seg first filled old now → ArePulled told seg first now.loose
 pulled_all told seg first filled old now past N = λ i p at. N.pulled i p (omega (arith, slice_get_within now.loose i p at, past)) at

@@ -41,17 +41,13 @@ part_of s n first pages = take pages (drop first (option_map_or (λ (c : Cache).
 pub exchanged : (s b c d : Store) (n first pages : ℕ) (x : Cache) → numbered s.caches n ≡ Some x → first + pages ≤ length x.pages → pages ≤ s.free → s.loose ≡ [] → length b.loose ≡ pages → b ≡ record s { free = s.free - pages; loose = b.loose }
     → c ≡ record b { caches = with_cache n (put_pages first b.loose) b.caches; loose = part_of b n first (length b.loose) } → d ≡ record c { free = c.free + length c.loose; loose = [] } → d ≡ puts s n first b.loose
 exchanged s b c d n first pages x alive within room settled many filled changed dropped =
+    let give_up : Store → Store = λ y. record y { free = y.free + length y.loose; loose = [] } in
+    let change : Store → Store = λ y. record y { caches = with_cache n (put_pages first b.loose) y.caches; loose = part_of y n first (length b.loose) } in
     let pages_left : length (part_of s n first (length b.loose)) ≡ pages =
     ap (λ (o : Option Cache). length (take (length b.loose) (drop first (option_map_or (λ (c : Cache). c.pages) o [])))) alive
     ∙ length-take-le (length b.loose) (drop first x.pages) (omega (arith, many, within, length-drop first x.pages)) ∙ many in
     dropped ∙ ap give_up changed ∙ ap (λ (y : Store). give_up (change y)) filled
     ∙ (λ i. let y : Store = record s { free = (let e : s.free - pages + length (part_of s n first (length b.loose)) ≡ s.free = omega (arith, room, pages_left) in e) i; caches = with_cache n (put_pages first b.loose) s.caches; loose = sym settled i } in y)
-  where
-    give_up : Store → Store
-    give_up y = record y { free = y.free + length y.loose; loose = [] }
-
-    change : Store → Store
-    change y = record y { caches = with_cache n (put_pages first b.loose) y.caches; loose = part_of y n first (length b.loose) }
 
 module _ {X : Type 0} (M : GhostsOfMapper X) (before after : X) (p : Manager) (e : Extent) (seg : SegId) (at : IsExtent p.store e seg) (unlocked : is_any_locked (machine_in p) e.cache e.first.0 e.pages ≡ false) (valid : IsValid p (M.held before)) where
   -- what it would come to

@@ -91,8 +91,9 @@ impl FlatMm {
         if self.lacks_room(size) {
             return Err(Trouble::Refused(Refusal::Full));
         }
-        if let Err(NoMemory) = self.store.take_loose(size) {
-            return Err(Trouble::Memory);
+        match self.store.take_loose(size) {
+            Ok(()) => {}
+            Err(NoMemory) => return Err(Trouble::Memory),
         }
         match pull_loose(&mut self.store, seg, PageNo(0), mapper) {
             Ok(()) => match self.store.adopt(Some(seg)) {

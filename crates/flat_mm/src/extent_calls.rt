@@ -103,8 +103,9 @@ impl FlatMm {
         if self.lacks_room(extent.pages) {
             return Err(Trouble::Refused(Refusal::Full));
         }
-        if let Err(NoMemory) = self.store.take_loose(extent.pages) {
-            return Err(Trouble::Memory);
+        match self.store.take_loose(extent.pages) {
+            Ok(()) => {}
+            Err(NoMemory) => return Err(Trouble::Memory),
         }
         match pull_loose(&mut self.store, seg, extent.first, mapper) {
             Ok(()) => {
