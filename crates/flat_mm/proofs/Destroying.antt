@@ -28,13 +28,8 @@ use Rattle.gmi_calls.specs.Backing.{IsReady, eager}
 use Rattle.gmi_calls.specs.Calling.{MapperCall}
 use Rattle.gmi_calls.proofs.Called.{call_is, eager_call, fault_for, plain_for, ready_plain}
 use Rattle.flat_mm.specs.Extents.{IsPushed}
-<<<<<<< HEAD
 use Rattle.flat_mm.specs.Manager.{AreKept, IsManagerSound, IsValid, Manager, caches_in, flat, machine_in, plain, sizes_in}
-use Rattle.flat_mm.specs.Store.{AreWhole, Cache, HasWholePages, Page, Store}
-=======
-use Rattle.flat_mm.specs.Manager.{AreKept, IsManagerSound, IsValid, Manager, caches_in, flat, machine_in, machine_with, plain, sizes_in}
 use Rattle.flat_mm.specs.Store.{AreWhole, Cache, IsWhole, Store}
->>>>>>> bed00d9cbf214b54fbe64cf0e4377f5ae0d07590
 use Rattle.flat_mm.proofs.Acting.{fits_less, whole_machine}
 use Rattle.flat_mm.proofs.Calls.{flat_call}
 use Rattle.contexts.proofs.Placing.{placed_actors}
