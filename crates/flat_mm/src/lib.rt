@@ -27,8 +27,6 @@ mod pushing;
 mod region_calls;
 mod span_calls;
 mod store;
-#[cfg(test)]
-mod tests;
 mod write_access;
 
 pub use manager::FlatMm;
