@@ -35,7 +35,7 @@ use Rattle.flat_mm.proofs.Putting.{kept_puts, plain_puts, puts, sound_puts}
 use Rattle.flat_mm.proofs.Reached.{full_call, left_call, reached_call}
 
 -- pages were exchanged for those that were filled, and given up
-abbrev part_of : Store → ℕ → ℕ → ℕ → List Page
+abbrev pub part_of : Store → ℕ → ℕ → ℕ → List Page
 part_of s n first pages = take pages (drop first (option_map_or (λ (c : Cache). c.pages) (numbered s.caches n) []))
 
 pub exchanged : (s b c d : Store) (n first pages : ℕ) (x : Cache) → numbered s.caches n ≡ Some x → first + pages ≤ length x.pages → pages ≤ s.free → s.loose ≡ [] → length b.loose ≡ pages → b ≡ record s { free = s.free - pages; loose = b.loose }

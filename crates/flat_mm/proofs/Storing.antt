@@ -43,7 +43,7 @@ put_live s n k p q P =
     ∙ sum_by_same size_of s.caches (n - 1) (Some P.cache) (Some (store.put_page k q P.cache)) (at_number s.caches n P.cache P.alive) (length-set P.cache.pages k q)
 
 -- what the mapper holds stays
-kept_still : (told now : Option Held) (caches : List (Option Cache)) → now ≡ told → IfSome told (λ h. AreKept (segments_in h) caches) → IfSome now (λ h. AreKept (segments_in h) caches)
+pub kept_still : (told now : Option Held) (caches : List (Option Cache)) → now ≡ told → IfSome told (λ h. AreKept (segments_in h) caches) → IfSome now (λ h. AreKept (segments_in h) caches)
 kept_still told now caches same kept = subst (λ (o : Option Held). IfSome o (λ h. AreKept (segments_in h) caches)) (sym same) kept
 
 module _ {X : Type 0} (M : GhostsOfMapper X) (actor : ActorId) (address : ℕ) (piece : List ℕ) where

@@ -20,7 +20,7 @@ loop-i-preserved g c =
     let E = c.in-Ok.ensures in
     let N = c.loop-i.invariant.0 in
     let told = g.M.Mapper.held c.args.mapper.now in (
-      pulling_more told c.args.seg.0 c.args.first.0 c.loop-i.i c.args.store.now c.loop-i.store c.pull.new.self E.filled.0 N (omega (arith, N.rest.many, c.loose.ensures.loose, c.loop-i-test.true)) E.filled.1 E.whole
+      pulling_more told c.args.seg.0 c.args.first.0 c.loop-i.i c.args.store.now c.loop-i.store c.pull.new.self E.filled.0 N (omega (arith, N.rest.many, c.loose-i-end.ensures.loose, c.loop-i-test.true)) E.filled.1 E.whole
           (subst (λ (o : Option Held). IfSome o (λ h. page_of h c.args.seg.0 (c.args.first.0 + c.loop-i.i) ≡ Some E.filled.0)) c.loop-i.invariant.1 E.filled.2),
       E.held ∙ c.loop-i.invariant.1,
       reached_then _ _ _ _ r c.loop-i.invariant.2 (one_call 1 0 r) (counted 1 0 _ _ r E.counts) tt,
@@ -30,4 +30,4 @@ loop-i-preserved g c =
 pub returns-clause-pulled : goal.returns-clause-pulled
 returns-clause-pulled g c =
     let N = c.loop-i.invariant.0 in
-    pulled_all (g.M.Mapper.held c.args.mapper.now) c.args.seg.0 c.args.first.0 c.loop-i.i c.args.store.now c.loop-i.store (omega (arith, N.rest.many, c.loose.ensures.loose, c.loop-i-test.false)) N
+    pulled_all (g.M.Mapper.held c.args.mapper.now) c.args.seg.0 c.args.first.0 c.loop-i.i c.args.store.now c.loop-i.store (omega (arith, N.rest.many, c.loose-i-end.ensures.loose, c.loop-i-test.false)) N

@@ -1,0 +1,141 @@
+use Rattle.std.proofs.Common.{◌≡◌, ◌+◌, ◌∙◌, ◌<◌, ◌≤◌, [], Err, List, Ok, Option, Some, ap, arith, false, length, refl, subst, sym, ℕ}
+use Rattle.std.proofs.lemmas.List.{length-replicate}
+use Rattle.std.specs.Prelude.{IfSome, Result, nat_lt}
+use Rattle.vm_port.specs.declared.traits.failed.Failed.{Failed}
+use Rattle.std.proofs.lemmas.Bool.Decides.{nat_tests}
+use Rattle.vm_ids.specs.declared.command.Command.TheVariants as commands
+use Rattle.vm_ids.specs.declared.refusal.Refusal.TheVariants as refusals
+use Rattle.vm_ids.specs.declared.reply.FaultAt.TheVariants as faults
+use Rattle.vm_ids.specs.declared.reply.Reply.TheVariants as replies
+use Rattle.vm_ids.specs.declared.reply.Trouble.TheVariants as troubles
+use Rattle.vm_model.specs.Answering.{held_for, is_any_locked}
+use Rattle.vm_model.specs.Machine.{numbered}
+use Rattle.gmi_calls.specs.Calling.{Fits, MapperCall}
+use Rattle.gmi_calls.proofs.Accessing.{asked_pages}
+use Rattle.flat_mm.specs.Extents.{IsExtent}
+use Rattle.flat_mm.specs.Manager.{IsManagerSound, IsValid, Manager, flat, machine_in}
+use Rattle.flat_mm.specs.Store.{AreWhole, Store, put_pages, with_cache, zeros}
+use Rattle.flat_mm.proofs.Destroying.{dropped_whole}
+use Rattle.flat_mm.proofs.Extents.{extent_named, extent_within, refused_call}
+use Rattle.flat_mm.proofs.Filling.{IsReloosed, filled, filled_many, given_up}
+use Rattle.flat_mm.proofs.Invalidating.{exchanged, invalidate_call, invalidate_failed, invalidate_full, invalidate_lacks, invalidate_sound, part_of}
+use Rattle.flat_mm.proofs.Putting.{puts}
+use Rattle.flat_mm.proofs.manager.FlatMm.invalidate.Given.{Over}
+use Rattle.flat_mm.proofs.manager.FlatMm.invalidate.Goals.{In-Err-pull_loose, In-Ok, In-Ok-pull_loose, In-Ok-take_loose}
+use Rattle.flat_mm.proofs.manager.FlatMm.invalidate.Goals as goal
+
+-- what was found of the pages, of the manager as it was
+record IsFound (g : Over) (c : In-Ok g) : Type 0 where
+  extent : IsExtent c.self.inside.store c.args.extent c.in-Ok.seg
+  unlocked : is_any_locked (machine_in (record { store = c.self.inside.store; actors = c.self.inside.contexts })) c.args.extent.cache c.args.extent.first.0 c.args.extent.pages ≡ false
+  valid : IsValid (record { store = c.self.inside.store; actors = c.self.inside.contexts }) (g.M.Mapper.held c.args.mapper.now)
+
+found : (g : Over) (c : In-Ok g) → IsFound g c
+found g c = record {
+  extent = subst (λ (p : Manager). IsExtent p.store c.args.extent c.in-Ok.seg) (sym c.self.view_is) c.in-Ok.ensures.extent;
+  unlocked = subst (λ (p : Manager). is_any_locked (machine_in p) c.args.extent.cache c.args.extent.first.0 c.args.extent.pages ≡ false) (sym c.self.view_is) c.in-Ok.ensures.unlocked;
+  valid = subst (λ (p : Manager). IsValid p (g.M.Mapper.held c.args.mapper.now)) (sym c.self.view_is) c.requires.valid;
+}
+
+pub returns-in-Err : goal.returns-in-Err
+returns-in-Err g c =
+    let p = c.args.self.now in
+    refused_call g.M.Mapper c.args.mapper.now p (commands.Invalidate c.args.extent) c.in-Err.refusal c.requires.valid (λ h. c.in-Err.ensures.refused.invalidate (held_for (machine_in p) h c.args.extent.cache.0)) tt tt
+
+pub returns-then-lacks_room : goal.returns-then-lacks_room
+returns-then-lacks_room g c =
+    let less : c.args.self.now.store.free < c.args.extent.pages = (let e = c.if-lacks_room.ensures in grind (arith, nat_tests)) in
+    invalidate_full g.M.Mapper c.args.mapper.now c.args.mapper.now c.args.self.now c.args.extent c.in-Ok.seg c.in-Ok.ensures.extent c.in-Ok.ensures.unlocked c.requires.valid less
+
+pub returns-in-Err-take_loose : goal.returns-in-Err-take_loose
+returns-in-Err-take_loose g c =
+    let i = c.self.inside in
+    let p = c.args.self.now in
+    let e = c.args.extent in
+    let same : (let q : Manager = record { store = c.take_loose.new.self; actors = i.contexts } in q) ≡ p = ap (λ (s : Store). let q : Manager = record { store = s; actors = i.contexts } in q) c.in-Err-take_loose.ensures.err ∙ c.self.view_is in
+    subst (λ (q : Manager). MapperCall g.M.Mapper flat c.args.mapper.now p (commands.Invalidate e) (Err troubles.Memory) c.args.mapper.now q) (sym same)
+    (invalidate_lacks g.M.Mapper c.args.mapper.now c.args.mapper.now p e c.in-Ok.seg c.in-Ok.ensures.extent c.in-Ok.ensures.unlocked c.requires.valid)
+
+-- as many frames were taken as pages are asked for
+taken_many : (g : Over) (c : In-Ok-take_loose g) → length c.take_loose.new.self.loose ≡ c.args.extent.pages
+taken_many g c = ap (λ (s : Store). length s.loose) c.in-Ok-take_loose.ensures.ok ∙ length-replicate c.args.extent.pages (zeros c.self.inside.store.page_bytes)
+
+room : (g : Over) (c : In-Ok-take_loose g) → c.args.extent.pages ≤ c.self.inside.store.free
+room g c =
+    let less : c.args.extent.pages ≤ c.args.self.now.store.free = (let e = c.if-lacks_room.ensures in grind (arith, nat_tests)) in
+    omega (arith, less, ap (λ (p : Manager). p.store.free) c.self.view_is)
+
+pub pull_loose-requires-clause-there : goal.pull_loose-requires-clause-there
+pull_loose-requires-clause-there g c =
+    let p = c.args.self.now in
+    let e = c.args.extent in
+    let E = c.in-Ok.ensures.extent in
+    let many = taken_many g (goal.at.pull_loose-requires-clause-there g c).In-Ok-take_loose in
+    asked_pages (machine_in p) e.cache.0 c.in-Ok.seg.0 e.first.0 (length c.take_loose.new.self.loose) (g.M.Mapper.held c.args.mapper.now) (extent_named p e c.in-Ok.seg E) (omega (arith, extent_within p e c.in-Ok.seg E, many)) c.requires.valid.ready
+
+module _ (g : Over) where
+  -- what stands after the pages were exchanged and given up
+  taken_all : (c : In-Ok-pull_loose g) (exchanged_to dropped_to : Store)
+      → exchanged_to ≡ record c.pull_loose.new.store { caches = with_cache c.args.extent.cache.0 (put_pages c.args.extent.first.0 c.pull_loose.new.store.loose) c.pull_loose.new.store.caches; loose = part_of c.pull_loose.new.store c.args.extent.cache.0 c.args.extent.first.0 (length c.pull_loose.new.store.loose) }
+      → dropped_to ≡ record exchanged_to { free = exchanged_to.free + length exchanged_to.loose; loose = [] }
+      → dropped_to ≡ puts c.self.inside.store c.args.extent.cache.0 c.args.extent.first.0 c.pull_loose.new.store.loose
+  taken_all c exchanged_to dropped_to is drops =
+      let i = c.self.inside in
+      let e = c.args.extent in
+      let F = found g (goal.at.In-Ok-pull_loose g c).In-Ok in
+      let taken = (goal.at.In-Ok-pull_loose g c).In-Ok-take_loose in
+      let E = c.in-Ok-pull_loose.ensures in
+      let R : IsReloosed c.take_loose.new.self c.pull_loose.new.store = record { many = E.many; loose = E.loose; whole = E.whole } in
+      exchanged i.store c.pull_loose.new.store exchanged_to dropped_to e.cache.0 e.first.0 e.pages F.extent.cache F.extent.alive F.extent.within (room g taken) c.self.invariant.settled (E.many ∙ taken_many g taken)
+      (filled i.store c.take_loose.new.self c.pull_loose.new.store e.pages (room g taken) c.self.invariant.settled c.in-Ok-take_loose.ensures.ok R) is drops
+
+pub invariant_of-self-in-Ok-pull_loose : goal.invariant_of-self-in-Ok-pull_loose
+invariant_of-self-in-Ok-pull_loose g c =
+    let i = c.self.inside in
+    let at = goal.at.invariant_of-self-in-Ok-pull_loose g c in
+    let F = found g at.In-Ok in
+    let E = c.in-Ok-pull_loose.ensures in
+    let is = taken_all g at.In-Ok-pull_loose c.exchange.new.self c.drop_loose.new.self c.exchange.ensures.exchanged c.drop_loose.ensures in
+    invalidate_sound g.M.Mapper c.args.mapper.now c.pull_loose.new.mapper (record { store = i.store; actors = i.contexts }) c.args.extent c.in-Ok.seg F.extent F.unlocked F.valid (let r : Result (Unit {0}) Failed = Ok tt in r) E.held E.reached E.page
+    i.actors c.self.invariant (room g at.In-Ok-take_loose) c.pull_loose.new.store.loose (E.many ∙ taken_many g at.In-Ok-take_loose) E.pulled c.drop_loose.new.self is
+    (dropped_whole c.exchange.new.self c.drop_loose.new.self c.exchange.ensures.whole c.drop_loose.ensures)
+
+pub returns-in-Ok-pull_loose : goal.returns-in-Ok-pull_loose
+returns-in-Ok-pull_loose g c =
+    let i = c.self.inside in
+    let at = goal.at.returns-in-Ok-pull_loose g c in
+    let F = found g at.In-Ok in
+    let E = c.in-Ok-pull_loose.ensures in
+    let is = taken_all g at.In-Ok-pull_loose c.exchange.new.self c.drop_loose.new.self c.exchange.ensures.exchanged c.drop_loose.ensures in
+    subst (λ (p : Manager). MapperCall g.M.Mapper flat c.args.mapper.now p (commands.Invalidate c.args.extent) (Ok replies.Done) c.pull_loose.new.mapper (record { store = c.drop_loose.new.self; actors = i.contexts })) c.self.view_is
+    (invalidate_call g.M.Mapper c.args.mapper.now c.pull_loose.new.mapper (record { store = i.store; actors = i.contexts }) c.args.extent c.in-Ok.seg F.extent F.unlocked F.valid (let r : Result (Unit {0}) Failed = Ok tt in r) E.held E.reached E.page
+    i.actors c.self.invariant (room g at.In-Ok-take_loose) c.pull_loose.new.store.loose (E.many ∙ taken_many g at.In-Ok-take_loose) E.pulled c.drop_loose.new.self is
+    (dropped_whole c.exchange.new.self c.drop_loose.new.self c.exchange.ensures.whole c.drop_loose.ensures))
+
+-- where the mapper failed all is as before
+failed_back : (g : Over) (c : In-Err-pull_loose g) (dropped_to : Store) → dropped_to ≡ record c.pull_loose.new.store { free = c.pull_loose.new.store.free + length c.pull_loose.new.store.loose; loose = [] } → dropped_to ≡ c.self.inside.store
+failed_back g c dropped_to drops =
+    let i = c.self.inside in
+    let taken = (goal.at.In-Err-pull_loose g c).In-Ok-take_loose in
+    let E = c.in-Err-pull_loose.ensures in
+    let R : IsReloosed c.take_loose.new.self c.pull_loose.new.store = record { many = E.many; loose = E.loose; whole = E.whole } in
+    given_up i.store c.take_loose.new.self c.pull_loose.new.store c.args.extent.pages (room g taken) c.self.invariant.settled c.in-Ok-take_loose.ensures.ok R dropped_to drops
+
+pub invariant_of-self-in-Err-pull_loose : goal.invariant_of-self-in-Err-pull_loose
+invariant_of-self-in-Err-pull_loose g c =
+    let i = c.self.inside in
+    let at = goal.at.invariant_of-self-in-Err-pull_loose g c in
+    subst (λ (s : Store). IsManagerSound s i.contexts i.actors) (sym (failed_back g at.In-Err-pull_loose c.drop_loose-in-Err-pull_loose.new.self c.drop_loose-in-Err-pull_loose.ensures)) c.self.invariant
+
+pub returns-in-Err-pull_loose : goal.returns-in-Err-pull_loose
+returns-in-Err-pull_loose g c =
+    let i = c.self.inside in
+    let p = c.args.self.now in
+    let e = c.args.extent in
+    let at = goal.at.returns-in-Err-pull_loose g c in
+    let E = c.in-Err-pull_loose.ensures in
+    let back = failed_back g at.In-Err-pull_loose c.drop_loose-in-Err-pull_loose.new.self c.drop_loose-in-Err-pull_loose.ensures in
+    let same : (let q : Manager = record { store = c.drop_loose-in-Err-pull_loose.new.self; actors = i.contexts } in q) ≡ p = ap (λ (s : Store). let q : Manager = record { store = s; actors = i.contexts } in q) back ∙ c.self.view_is in
+    let r : Result (Unit {0}) Failed = Err c.in-Err-pull_loose.field-0 in
+    subst (λ (q : Manager). MapperCall g.M.Mapper flat c.args.mapper.now p (commands.Invalidate e) (Err (troubles.Mapper (faults.Save 0))) c.pull_loose.new.mapper q) (sym same)
+    (invalidate_failed g.M.Mapper c.args.mapper.now c.pull_loose.new.mapper p e c.in-Ok.seg c.in-Ok.ensures.extent c.in-Ok.ensures.unlocked c.requires.valid r E.held E.reached E.page E.reached.failed)
