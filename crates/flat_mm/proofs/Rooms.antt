@@ -7,14 +7,11 @@ use Rattle.flat_mm.specs.Manager.{Manager, machine_in, room_of}
 use Rattle.flat_mm.specs.TwoManagers.{frames_left}
 use Rattle.flat_mm.proofs.Calls.{seen_live}
 
-abbrev left_in : Machine → ℕ
-left_in m = frames_left m.frames m
-
-same_left : (told : Option Held) (m : Machine) → left_in m ≡ left_in (seen_at told m)
+same_left : (told : Option Held) (m : Machine) → frames_left m ≡ frames_left (seen_at told m)
 same_left None m = ap (λ n. m.frames - n) (sym (seen_live None m))
 same_left (Some h) m = refl
 
-pub frames_are_room : (p : Manager) (told : Option Held) → (let room : Option ℕ = Some (room_of p) in room) ≡ Some (left_in (seen_at told (machine_in p)))
+pub frames_are_room : (p : Manager) (told : Option Held) → (let room : Option ℕ = Some (room_of p) in room) ≡ Some (frames_left (seen_at told (machine_in p)))
 frames_are_room p told = ap (λ n. Some n) (same_left told (machine_in p))
 
 pub seen_start : (told : Option Held) (frames page_bytes : ℕ) → seen_at told (start frames page_bytes) ≡ start frames page_bytes

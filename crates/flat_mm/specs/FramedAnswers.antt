@@ -1,5 +1,5 @@
--- What a manager of so many frames answers, computed: what one whose room isn't limited would, or
--- Full. And worked scripts.
+-- What a manager answers in which each live page has a frame, computed: what one whose room isn't
+-- limited would, or Full. And worked scripts.
 use Rattle.std.specs.Prelude.{◌≡◌, ◌&&◌, ℕ, nat_lt, false, is_ok, List, [], ◌∷◌, Some, if◌then◌else◌}
 use Rattle.vm_ids.specs.Counting.{MapperCounts}
 use Rattle.vm_ids.specs.Held.{Segments}
@@ -20,19 +20,18 @@ abbrev pub within_room : ℕ → Machine → Command → Answered → Answered
 within_room room m command a =
     if is_ok a.answer && nat_lt room (pages_needed m command a.next) then refuse m Full else a
 
-abbrev pub framed_answer : ℕ → Machine → PageForest → Command → Segments → Answered
-framed_answer frames m f command h =
-    within_room (frames_left frames m) m command (answer_of m f command h)
+abbrev pub framed_answer : Machine → PageForest → Command → Segments → Answered
+framed_answer m f command h = within_room (frames_left m) m command (answer_of m f command h)
 
--- Where segments are told and nothing fails, a manager of so many frames answers this.
+-- Where segments are told and nothing fails, a manager in which each live page has a frame answers
+-- this.
 abbrev pub FramesTellAnswers : Type 0
 FramesTellAnswers =
-    (frames : ℕ) (before after : State) (h : Segments) (command : Command) (answer : Answer)
+    (before after : State) (h : Segments) (command : Command) (answer : Answer)
     (pushes : List (ℕ × ℕ)) (rises : MapperCounts)
     → after.segments ≡ Some h → is_failure answer ≡ false
-    → AnswerWithin (Some (frames_left frames before.machine)) before command answer pushes rises
-    after
-    → framed_answer frames before.machine (forest_shown before.forest before.machine) command h
+    → AnswerWithin (Some (frames_left before.machine)) before command answer pushes rises after
+    → framed_answer before.machine (forest_shown before.forest before.machine) command h
     ≡ record { answer = answer; next = after.machine }
 
 -- Worked scripts, of pages of two bytes, over no segments
@@ -52,7 +51,7 @@ answers_of frames cs = answers_from (λ m c. answer_of m no_forest c no_segments
 -- the answers of one in which each live page has one of so many frames
 abbrev pub framed_answers_of : ℕ → List Command → List Answer
 framed_answers_of frames cs =
-    answers_from (λ m c. framed_answer frames m no_forest c no_segments) cs (start frames 2)
+    answers_from (λ m c. framed_answer m no_forest c no_segments) cs (start frames 2)
 
 -- Of four frames three are taken, and two more pages find no room until a cache goes. A copy holds
 -- what its source held then.

@@ -35,7 +35,7 @@ machine_in p = machine_with (caches_in p.store) p.store.frames p.actors
 
 -- for so many pages more there are frames
 abbrev pub room_of : Manager → ℕ
-room_of p = frames_left p.store.frames (machine_in p)
+room_of p = frames_left (machine_in p)
 
 -- how many pages a cache has, where it is alive
 abbrev pub sizes_in : Store → ℕ → Option ℕ

@@ -15,25 +15,25 @@ use Rattle.vm_model.specs.Steps.{Chain, Semantics, Step, lines_answered}
 use Rattle.vm_model.specs.Run.{NothingRead, Read, State, command_semantics}
 use Rattle.gmi_calls.specs.Room.{AnswerWithin}
 
--- how many of so many frames are left where each live page has one
-abbrev pub frames_left : ℕ → Machine → ℕ
-frames_left frames m = frames - live_pages m
+-- how many frames are left where each live page has one
+abbrev pub frames_left : Machine → ℕ
+frames_left m = m.frames - live_pages m
 
 -- a line is answered where there is room for as many pages as frames are left
-abbrev pub StepWithin : ℕ → State → Read → Answer → List (ℕ × ℕ) → MapperCounts → State → Type 0
-StepWithin frames before (Err r) answer pushes rises after =
+abbrev pub StepWithin : State → Read → Answer → List (ℕ × ℕ) → MapperCounts → State → Type 0
+StepWithin before (Err r) answer pushes rises after =
     NothingRead before r answer pushes rises after
-StepWithin frames before (Ok command) answer pushes rises after =
-    AnswerWithin (Some (frames_left frames before.machine)) before command answer pushes rises
-    after
+StepWithin before (Ok command) answer pushes rises after =
+    AnswerWithin (Some (frames_left before.machine)) before command answer pushes rises after
 
-abbrev pub IsAnsweredWithin : ℕ → State → Read → Answer → MapperCounts → State → Type 0
-IsAnsweredWithin frames before read answer rises after =
-    (pushes : List (ℕ × ℕ)) × StepWithin frames before read answer pushes rises after
+-- what is pushed meanwhile is free
+abbrev pub IsAnsweredWithin : State → Read → Answer → MapperCounts → State → Type 0
+IsAnsweredWithin before read answer rises after =
+    (pushes : List (ℕ × ℕ)) × StepWithin before read answer pushes rises after
 
--- what the commands of a script mean to a manager of so many frames
-abbrev pub framed_semantics : ℕ → Semantics
-framed_semantics frames = record command_semantics { StepIs = IsAnsweredWithin frames }
+-- what the commands of a script mean to a manager in which each live page has a frame
+abbrev pub framed_semantics : Semantics
+framed_semantics = record command_semantics { StepIs = IsAnsweredWithin }
 
 -- how a run over these segments begins, where a manager tells this forest or none
 abbrev pub start_over : ℕ → ℕ → Segments → Option PageForest → State
@@ -82,7 +82,7 @@ pub record AreSame (frames : ℕ) (first second : Answer) (unlimited limited : S
 -- out.
 abbrev pub AreSameUntilFull : (frames : ℕ) (first second : List (Step Read))
     (s t after last : State) → Chain command_semantics s first after
-    → Chain (framed_semantics frames) t second last → Type 0
+    → Chain framed_semantics t second last → Type 0
 AreSameUntilFull frames [] [] s t after last chain other = Unit {0}
 AreSameUntilFull frames (x ∷ first) (y ∷ second) s t after last chain other =
     RunsOut frames y.answer chain.0
@@ -98,6 +98,6 @@ AgreeUntilFull =
     (frames page_bytes : ℕ) (h : Segments) (f g : Option PageForest)
     (first second : List (Step Read)) (after last : State)
     (chain : Chain command_semantics (start_over frames page_bytes h f) first after)
-    (other : Chain (framed_semantics frames) (start_over frames page_bytes h g) second last)
+    (other : Chain framed_semantics (start_over frames page_bytes h g) second last)
     → AreOfOneScript first second
     → AreSameUntilFull frames first second _ _ after last chain other

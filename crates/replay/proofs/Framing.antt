@@ -11,7 +11,8 @@ use Rattle.gmi_calls.specs.Room.{CallWithin, LimitedCall}
 use Rattle.gmi_calls.specs.declared.gmi.Gmi.{Ghosts as GhostsOfGmi}
 use Rattle.gmi_calls.proofs.Ready.{fits_after, live_after, made_after}
 use Rattle.line_service.specs.Serving.{AnswersBy, AnyRise, answer_budget}
-use Rattle.replay.specs.Framed.{framed_meaning, framed_semantics, room_in}
+use Rattle.flat_mm.specs.TwoManagers.{frames_left}
+use Rattle.replay.specs.Framed.{framed_meaning, framed_semantics}
 use Rattle.replay.specs.Managing.{CanCallFramed}
 use Rattle.replay.proofs.Answered.{answered}
 
@@ -27,7 +28,7 @@ module _ {Manager Mapper Chooser : Type 0} (G : GhostsOfGmi Manager Mapper Choos
 
   pub framed_answered : AnswersBy framed_semantics AnyRise (M.counts before) (M.counts after) state_before (Ok command) a state_after
   framed_answered =
-      let within = limited (G.room old) (room_in (G.machine old (M.held before))) (M.counts before) (M.counts after) state_before state_after command a (able.room old (M.held before) able.valid) call.answers in
+      let within = limited (G.room old) (frames_left (G.machine old (M.held before))) (M.counts before) (M.counts after) state_before state_after command a (able.room old (M.held before) able.valid) call.answers in
       answered framed_meaning command (M.counts before) (M.counts after) within.rises state_before a state_after within.rose (within.pushes, within.is)
 
   pub framed_able : CanCallFramed G new (M.held after) (M.page_bytes after)

@@ -1,16 +1,12 @@
 -- What the lines of a script mean to a manager in which each live page has a page frame.
-use Rattle.std.specs.Prelude.{ℕ, Bool, true, false, List, Some, Ok, Err, if◌then◌else◌}
-use Rattle.vm_ids.specs.Counting.{MapperCounts}
+use Rattle.std.specs.Prelude.{ℕ, Bool, true, false, List, Ok, Err, if◌then◌else◌}
 use Rattle.vm_ids.specs.declared.command.Command.{Command}
 use Rattle.vm_ids.specs.declared.command.Command.TheVariants as commands
 use Rattle.vm_ids.specs.declared.refusal.Refusal.TheVariants.{BadLine}
-use Rattle.vm_model.specs.Answering.{Answer}
-use Rattle.vm_model.specs.Machine.{Machine}
 use Rattle.vm_model.specs.Run.{Read, State}
 use Rattle.vm_model.specs.Steps.{Semantics}
 use Rattle.actor_script.specs.Forms.{command_of}
-use Rattle.flat_mm.specs.TwoManagers.{frames_left}
-use Rattle.gmi_calls.specs.Room.{AnswerWithin}
+use Rattle.flat_mm.specs.TwoManagers.{IsAnsweredWithin}
 use Rattle.replay.specs.AtOnce.{Meaning, at_once}
 
 -- the command asks for a page forest, which such a manager doesn't keep
@@ -27,20 +23,14 @@ without_forest (Ok command) = if asks_forest command then Err BadLine else Ok co
 abbrev pub framed_command_of : List ℕ → Read
 framed_command_of line = without_forest (command_of line)
 
--- for so many pages more there are frames
-abbrev pub room_in : Machine → ℕ
-room_in m = frames_left m.frames m
-
--- The answer is the machine's, or Full exactly where more pages are asked than there are frames
--- left. What is pushed meanwhile is free.
-abbrev pub FramedAnswer : State → Command → Answer → MapperCounts → State → Type 0
-FramedAnswer before command answer rises after =
-    (pushes : List (ℕ × ℕ))
-    × AnswerWithin (Some (room_in before.machine)) before command answer pushes rises after
-
--- what its commands mean
+-- What its commands mean: the answer is the machine's, or Full exactly where more pages are asked
+-- than frames are left.
 abbrev pub framed_meaning : Meaning Command
-framed_meaning = record { State = State; Is = FramedAnswer }
+framed_meaning = record {
+  State = State;
+  Is = λ before command answer rises after.
+      IsAnsweredWithin before (Ok command) answer rises after;
+}
 
 abbrev pub framed_semantics : Semantics
 framed_semantics = at_once framed_meaning

@@ -4,12 +4,12 @@ use Rattle.vm_ids.specs.Held.{Held}
 use Rattle.vm_model.specs.Machine.{live_pages, living_actors}
 use Rattle.vm_model.specs.declared.limits.TheConstants.{LIVE_PAGES, LIVING_ACTORS}
 use Rattle.vm_model.specs.Run.{state_of}
+use Rattle.flat_mm.specs.TwoManagers.{frames_left}
 use Rattle.gmi_calls.specs.Calling.{Fits}
 use Rattle.gmi_calls.specs.declared.gmi.Gmi.{Ghosts as GhostsOfGmi}
 use Rattle.line_service.specs.Ending.{Told}
 use Rattle.vm_port.specs.declared.traits.mapper.Mapper.{Ghosts as GhostsOfMapper}
 use Rattle.replay.specs.Ending.{CommandScene}
-use Rattle.replay.specs.Framed.{room_in}
 
 -- What it takes to call a manager: it is valid beside what its mapper holds, its room isn't
 -- limited, the mapper takes pages of the manager's size, and no more pages are live and no more
@@ -28,7 +28,7 @@ pub record CanCallFramed {Manager Mapper Chooser : Type 0} (G : GhostsOfGmi Mana
     (gmi : Manager) (held : Option Held) (page_bytes : Option ℕ) : Type 0 where
   pub valid : G.valid gmi held
   pub room : (now : Manager) (told : Option Held) → G.valid now told
-      → G.room now ≡ Some (room_in (G.machine now told))
+      → G.room now ≡ Some (frames_left (G.machine now told))
   pub fits : Fits page_bytes (G.machine gmi held)
   pub live : live_pages (G.machine gmi held) ≤ LIVE_PAGES
 

@@ -29,20 +29,20 @@ lacks_room : (room : ℕ) (m next : Machine) (command : Command) (r : Reply) →
 lacks_room room m next command r more = ap (λ (b : Bool). cond b (refuse m refusals.Full) (record { answer = Ok r; next = next })) (let e : nat_lt room (pages_needed m command next) ≡ true = grind (arith, nat_tests) in e)
 
 pub frames_tell_answers : FramesTellAnswers
-frames_tell_answers frames s u h command answer pushes rises told e w = by answer e w
+frames_tell_answers s u h command answer pushes rises told e w = by answer e w
   where
     at : (b : Answer) (next : Machine) (rises : MapperCounts) → OutcomeAt u.segments s.machine s.forest command b next rises → OutcomeAt (Some h) s.machine s.forest command b next rises
     at b next rises o = subst (λ (t : Option Segments). OutcomeAt t s.machine s.forest command b next rises) told o
 
-    by : (b : Answer) → is_failure b ≡ false → AnswerWithin (Some (frames_left frames s.machine)) s command b pushes rises u → framed_answer frames s.machine (forest_shown s.forest s.machine) command h ≡ record { answer = b; next = u.machine }
+    by : (b : Answer) → is_failure b ≡ false → AnswerWithin (Some (frames_left s.machine)) s command b pushes rises u → framed_answer s.machine (forest_shown s.forest s.machine) command h ≡ record { answer = b; next = u.machine }
     by (Ok r) e w =
-        ap (within_room (frames_left frames s.machine) s.machine command) (at (Ok r) u.machine rises w.0.outcome)
-        ∙ has_room (frames_left frames s.machine) s.machine command (record { answer = Ok r; next = u.machine }) w.1
+        ap (within_room (frames_left s.machine) s.machine command) (at (Ok r) u.machine rises w.0.outcome)
+        ∙ has_room (frames_left s.machine) s.machine command (record { answer = Ok r; next = u.machine }) w.1
     by (Err (troubles.Refused refusals.Full)) e w =
-        ap (within_room (frames_left frames s.machine) s.machine command) (at (Ok w.reply) w.next no_counts w.outcome)
-        ∙ lacks_room (frames_left frames s.machine) s.machine w.next command w.reply w.more
+        ap (within_room (frames_left s.machine) s.machine command) (at (Ok w.reply) w.next no_counts w.outcome)
+        ∙ lacks_room (frames_left s.machine) s.machine w.next command w.reply w.more
         ∙ ap (λ (x : State). refuse x.machine refusals.Full) (sym w.same)
-    by (Err (troubles.Refused r)) e w = ap (within_room (frames_left frames s.machine) s.machine command) (at (Err (troubles.Refused r)) u.machine rises w.outcome)
+    by (Err (troubles.Refused r)) e w = ap (within_room (frames_left s.machine) s.machine command) (at (Err (troubles.Refused r)) u.machine rises w.outcome)
     by (Err (troubles.Mapper p)) e w = absurd (cc e)
     by (Err troubles.Memory) e w = absurd (cc e)
 

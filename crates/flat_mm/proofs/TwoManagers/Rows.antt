@@ -70,20 +70,21 @@ abbrev pub TakesAway : Command → Answer → ℕ → Type 0
 TakesAway (commands.Destroy cache) (Ok r) number = number ≡ cache.0
 TakesAway command answer number = ⊥
 
--- A cache that a segment names is still there, or was taken away; where the command is refused all
--- stays.
+-- A cache that a segment names is still there, or was taken away; frames stay as many; where the
+-- command is refused all stays.
 pub record RowIs (m : Machine) (command : Command) (a : Answered) : Type 0 where
   pub named : (number seg : ℕ) → segment_of m number ≡ Some seg
       → (segment_of a.next number ≡ Some seg) ⊎ TakesAway command a.answer number
+  pub frames : a.next.frames ≡ m.frames
   pub refused : OnErr a.answer (a.next ≡ m)
 
 module _ (m : Machine) where
   -- refused, and carried out
   no_row : (command : Command) (r : Refusal) → RowIs m command (refuse m r)
-  no_row command r = record { named = λ n seg e. inl e; refused = refl }
+  no_row command r = record { named = λ n seg e. inl e; frames = refl; refused = refl }
 
-  row : (command : Command) (r : Reply) (next : Machine) → ((number seg : ℕ) → segment_of m number ≡ Some seg → segment_of next number ≡ Some seg) → RowIs m command (reply r next)
-  row command r next named = record { named = λ n seg e. inl (named n seg e); refused = tt }
+  row : (command : Command) (r : Reply) (next : Machine) → next.frames ≡ m.frames → ((number seg : ℕ) → segment_of m number ≡ Some seg → segment_of next number ≡ Some seg) → RowIs m command (reply r next)
+  row command r next frames named = record { named = λ n seg e. inl (named n seg e); frames = frames; refused = tt }
 
   -- a cache is changed, but not its segment
   put_stays : (n : ℕ) (c d : Cache) → cache_of m n ≡ Some c → d.segment ≡ c.segment → (number seg : ℕ) → segment_of m number ≡ Some seg → segment_of (put_cache m n d) number ≡ Some seg
@@ -98,6 +99,10 @@ module _ (m : Machine) where
   changed_stays : (n : ℕ) (change : Cache → Cache) → ((c : Cache) → (change c).segment ≡ c.segment) → (number seg : ℕ) → segment_of m number ≡ Some seg → (o : Option Cache) → cache_of m n ≡ o → segment_of (option_map_or (λ c. put_cache m n (change c)) o m) number ≡ Some seg
   changed_stays n change kept number seg e None there = e
   changed_stays n change kept number seg e (Some c) there = put_stays n c (change c) there (kept c) number seg e
+
+  changed_frames : (n : ℕ) (change : Cache → Cache) (o : Option Cache) → (option_map_or (λ c. put_cache m n (change c)) o m).frames ≡ m.frames
+  changed_frames n change None = refl
+  changed_frames n change (Some c) = refl
 
   -- a cache is added
   more_stays : (c : Cache) (number seg : ℕ) → segment_of m number ≡ Some seg → segment_of (record m { caches = m.caches ++ Some c ∷ [] }) number ≡ Some seg
@@ -124,41 +129,41 @@ module _ (m : Machine) where
   ok_row {A} {command} {o} {go} goes = each_ok (RowIs m command) o m go (no_row m command) goes
 
   -- the caches stay
-  still : {command : Command} {r : Reply} {next : Machine} → next.caches ≡ m.caches → RowIs m command (reply r next)
-  still {command} {r} {next} same = row m command r next (λ n seg e. ap (λ (cs : List (Option Cache)). option_and_then (λ (c : Cache). c.segment) (numbered cs n)) same ∙ e)
+  still : {command : Command} {r : Reply} {next : Machine} → next.caches ≡ m.caches → next.frames ≡ m.frames → RowIs m command (reply r next)
+  still {command} {r} {next} same frames = row m command r next frames (λ n seg e. ap (λ (cs : List (Option Cache)). option_and_then (λ (c : Cache). c.segment) (numbered cs n)) same ∙ e)
 
   -- Every row, whatever the segments hold.
   pub each_row : (f : PageForest) (command : Command) (h : Segments) → RowIs m command (answer_of m f command h)
   unfolding make_actor_of exit_actor_of make_temp_of open_of destroy_of copy_of move_of map_of split_of protect_of lock_of unlock_of unmap_of status_of find_of load_of store_of sync_of flush_of invalidate_of chain_answer
-  each_row f commands.MakeActor h = unless_row _ (λ fewer. still refl)
-  each_row f (commands.ExitActor actor) h = some_row _ (λ regions here. still refl)
-  each_row f (commands.MakeTemp pages) h = unless_row _ (λ fewer. row m _ _ _ (more_stays m _))
-  each_row f (commands.OpenSegment seg) h = unless_row _ (λ free. unless_row _ (λ fewer. some_row _ (λ pages holds. unless_row _ (λ room. row m _ _ _ (more_stays m _)))))
-  each_row f (commands.Destroy cache) h = some_row _ (λ c there. unless_row _ (λ free. record { named = gone_stays m cache.0 c there; refused = tt }))
+  each_row f commands.MakeActor h = unless_row _ (λ fewer. still refl refl)
+  each_row f (commands.ExitActor actor) h = some_row _ (λ regions here. still refl refl)
+  each_row f (commands.MakeTemp pages) h = unless_row _ (λ fewer. row m _ _ _ refl (more_stays m _))
+  each_row f (commands.OpenSegment seg) h = unless_row _ (λ free. unless_row _ (λ fewer. some_row _ (λ pages holds. unless_row _ (λ room. row m _ _ _ refl (more_stays m _)))))
+  each_row f (commands.Destroy cache) h = some_row _ (λ c there. unless_row _ (λ free. record { named = gone_stays m cache.0 c there; frames = refl; refused = tt }))
   each_row f (commands.Copy span) h =
       some_row _ (λ source from. some_row _ (λ destination to. unless_row _ (λ inside. unless_row _ (λ apart. unless_row _ (λ unlocked. unless_row _ (λ allowed.
-      row m _ _ _ (put_stays m span.to.0 destination _ to refl)))))))
+      row m _ _ _ refl (put_stays m span.to.0 destination _ to refl)))))))
   each_row f (commands.Move span) h =
       some_row _ (λ source from. some_row _ (λ destination to. unless_row _ (λ inside. unless_row _ (λ temporary. unless_row _ (λ apart. unless_row _ (λ unlocked. unless_row _ (λ allowed.
       let next = put_span m span source destination in
-      row m _ _ _ (λ n seg e. changed_stays next span.from.0 _ (λ c. refl) n seg (put_stays m span.to.0 destination _ to refl n seg e) (cache_of next span.from.0) refl))))))))
+      row m _ _ _ (changed_frames next span.from.0 _ (cache_of next span.from.0)) (λ n seg e. changed_stays next span.from.0 _ (λ c. refl) n seg (put_stays m span.to.0 destination _ to refl n seg e) (cache_of next span.from.0) refl))))))))
   each_row f (commands.Map actor mapping) h =
-      some_row _ (λ regions here. some_row _ (λ cache there. unless_row _ (λ aligned. unless_row _ (λ below. unless_row _ (λ inside. unless_row _ (λ apart. unless_row _ (λ fewer. still refl)))))))
-  each_row f (commands.Split region pages) h = some_row _ (λ r there. unless_row _ (λ inside. unless_row _ (λ fewer. still refl)))
-  each_row f (commands.Protect region prot) h = some_row _ (λ r there. still refl)
-  each_row f (commands.Lock region) h = some_row _ (λ r there. unless_row _ (λ unlocked. unless_row _ (λ few. still refl)))
-  each_row f (commands.Unlock region) h = some_row _ (λ r there. unless_row _ (λ locked. still refl))
-  each_row f (commands.Unmap region) h = some_row _ (λ r there. unless_row _ (λ unlocked. still refl))
-  each_row f (commands.Status region) h = some_row _ (λ status there. still refl)
-  each_row f (commands.Find actor address) h = some_row _ (λ regions here. some_row _ (λ r there. still refl))
-  each_row f (commands.Load actor address length) h = ok_row (λ at found. still refl)
+      some_row _ (λ regions here. some_row _ (λ cache there. unless_row _ (λ aligned. unless_row _ (λ below. unless_row _ (λ inside. unless_row _ (λ apart. unless_row _ (λ fewer. still refl refl)))))))
+  each_row f (commands.Split region pages) h = some_row _ (λ r there. unless_row _ (λ inside. unless_row _ (λ fewer. still refl refl)))
+  each_row f (commands.Protect region prot) h = some_row _ (λ r there. still refl refl)
+  each_row f (commands.Lock region) h = some_row _ (λ r there. unless_row _ (λ unlocked. unless_row _ (λ few. still refl refl)))
+  each_row f (commands.Unlock region) h = some_row _ (λ r there. unless_row _ (λ locked. still refl refl))
+  each_row f (commands.Unmap region) h = some_row _ (λ r there. unless_row _ (λ unlocked. still refl refl))
+  each_row f (commands.Status region) h = some_row _ (λ status there. still refl refl)
+  each_row f (commands.Find actor address) h = some_row _ (λ regions here. some_row _ (λ r there. still refl refl))
+  each_row f (commands.Load actor address length) h = ok_row (λ at found. still refl refl)
   each_row f (commands.Store actor address piece) h =
       ok_row (λ at found. unless_row _ (λ writes. unless_row _ (λ allowed.
-      row m _ _ _ (λ n seg e. changed_stays m at.region.cache _ (λ c. refl) n seg e (cache_of m at.region.cache) refl))))
-  each_row f (commands.Sync extent) h = some_row _ (λ c there. some_row _ (λ seg named. unless_row _ (λ inside. still refl)))
-  each_row f (commands.Flush extent) h = some_row _ (λ c there. some_row _ (λ seg named. unless_row _ (λ inside. unless_row _ (λ unlocked. still refl))))
+      row m _ _ _ (changed_frames m at.region.cache _ (cache_of m at.region.cache)) (λ n seg e. changed_stays m at.region.cache _ (λ c. refl) n seg e (cache_of m at.region.cache) refl))))
+  each_row f (commands.Sync extent) h = some_row _ (λ c there. some_row _ (λ seg named. unless_row _ (λ inside. still refl refl)))
+  each_row f (commands.Flush extent) h = some_row _ (λ c there. some_row _ (λ seg named. unless_row _ (λ inside. unless_row _ (λ unlocked. still refl refl))))
   each_row f (commands.Invalidate extent) h =
-      some_row _ (λ c there. some_row _ (λ seg named. unless_row _ (λ inside. unless_row _ (λ unlocked. row m _ _ _ (put_stays m extent.cache.0 c _ there refl)))))
-  each_row f (commands.PageOut count) h = still refl
-  each_row f (commands.Chain cache page) h = some_row _ (λ c there. unless_row _ (λ within. still refl))
-  each_row f commands.Stat h = still refl
+      some_row _ (λ c there. some_row _ (λ seg named. unless_row _ (λ inside. unless_row _ (λ unlocked. row m _ _ _ refl (put_stays m extent.cache.0 c _ there refl)))))
+  each_row f (commands.PageOut count) h = still refl refl
+  each_row f (commands.Chain cache page) h = some_row _ (λ c there. unless_row _ (λ within. still refl refl))
+  each_row f commands.Stat h = still refl refl

@@ -87,6 +87,7 @@ record Alike (frames : ℕ) (s t : State) : Type 0 where
   backed : AreBacked s.machine.caches held
   backed_too : AreBacked s.machine.caches held_too
   same : SameElsewhere s.machine held held_too
+  frames_are : s.machine.frames ≡ frames
   enough : live_pages s.machine ≤ frames
 
 module _ (m : Machine) (h g : Segments) (c : Command) (a b : Answer) (s t : State) (S : SameElsewhere m h g) (P : GivenAnswer m h c a s) (Q : GivenAnswer m g c b t) (plain : asks_manager (Ok c) ≡ false) where
@@ -120,8 +121,9 @@ module _ (m : Machine) (h g : Segments) (c : Command) (a b : Answer) (s t : Stat
                 ∙ sym (taken_held m P.pushed.now c a n.0 seg x takes P.pushed.backed n.1 n.2 P.synchronised)
           ]
 
-  still_alike : (frames : ℕ) → live_pages s.machine ≤ frames → Alike frames s t
-  still_alike frames enough = record {
+  still_alike : (frames : ℕ) → m.frames ≡ frames → live_pages s.machine ≤ frames → Alike frames s t
+  still_alike frames are enough = record {
+    frames_are = row_is.frames ∙ are;
     held = P.pushed.now;
     held_too = Q.pushed.now;
     told = P.pushed.told;
@@ -155,14 +157,14 @@ within room t u c (Err e) pushes rises w = inr (w, tt)
 
 module _ (frames : ℕ) (s t v u : State) (c : Command) (a b : Answer) (A : Alike frames s t) (plain : asks_manager (Ok c) ≡ false) (P : GivenAnswer s.machine A.held c a v) where
   abbrev room : ℕ
-  room = frames_left frames s.machine
+  room = frames_left s.machine
 
   after_row : RowIs s.machine c (record { answer = a; next = v.machine })
   after_row = subst (RowIs s.machine c) P.gives (each_row s.machine P.forest c P.pushed.now)
 
   -- refused for want of room
   runs_out : (pushes : List (ℕ × ℕ)) → b ≡ Err (troubles.Refused refusals.Full) → IsFull room (record t { machine = s.machine }) c pushes u → RunsOut frames b v
-  runs_out pushes full F = record { full = full; more = subst (λ (x : Machine). frames < live_pages x) is (too_few_frames frames (live_pages s.machine) (live_pages F.next) more) }
+  runs_out pushes full F = record { full = full; more = subst (λ (x : Machine). frames < live_pages x) is (omega (arith, A.frames_are, too_few_frames s.machine.frames (live_pages s.machine) (live_pages F.next) more)) }
     where
       told : u.segments ≡ Some A.held_too
       told = ap (λ (x : State). x.segments) F.same ∙ A.told_too
@@ -184,13 +186,13 @@ module _ (frames : ℕ) (s t v u : State) (c : Command) (a b : Answer) (A : Alik
 
   -- a frame for each page that is alive after the answer
   enough_after : (d : Answer) → d ≡ a → OnOk d (pages_needed s.machine c v.machine ≤ room) → OnErr d (v.machine ≡ s.machine) → live_pages v.machine ≤ frames
-  enough_after (Ok r) is needs stays = enough_frames frames (live_pages s.machine) (live_pages v.machine) A.enough (subst (λ (n : ℕ). n ≤ room) (needed_is s.machine c v.machine plain) needs)
+  enough_after (Ok r) is needs stays = omega (arith, A.frames_are, enough_frames s.machine.frames (live_pages s.machine) (live_pages v.machine) (omega (arith, A.enough, A.frames_are)) (subst (λ (n : ℕ). n ≤ room) (needed_is s.machine c v.machine plain) needs))
   enough_after (Err e) is needs stays = subst (λ (x : Machine). live_pages x ≤ frames) (sym stays) A.enough
 
   answers_same : (pushes : List (ℕ × ℕ)) (rises : MapperCounts) → is_failure b ≡ false → AnswerIs (record t { machine = s.machine }) c b pushes rises u → OnOk b (pages_needed s.machine c u.machine ≤ room)
       → AreSame frames a b v u × Alike frames v u
   answers_same pushes rises done is needs =
-      (record { answer = same; machine = machine; enough = enough }, still_alike s.machine A.held A.held_too c a b v u A.same P Q plain frames enough)
+      (record { answer = same; machine = machine; enough = enough }, still_alike s.machine A.held A.held_too c a b v u A.same P Q plain frames A.frames_are enough)
     where
       Q : GivenAnswer s.machine A.held_too c b u
       Q = answer_given (record t { machine = s.machine }) u A.held_too c b pushes rises A.told_too A.backed_too done is
@@ -206,13 +208,13 @@ module _ (frames : ℕ) (s t v u : State) (c : Command) (a b : Answer) (A : Alik
 
 -- One line in both runs
 
-at_line : (frames : ℕ) (s t v u : State) (read : Read) (a b : Answer) (rises others : MapperCounts) → Alike frames s t → asks_manager read ≡ false → is_failure a ≡ false → is_failure b ≡ false → IsAnswered s read a rises v → IsAnsweredWithin frames t read b others u
+at_line : (frames : ℕ) (s t v u : State) (read : Read) (a b : Answer) (rises others : MapperCounts) → Alike frames s t → asks_manager read ≡ false → is_failure a ≡ false → is_failure b ≡ false → IsAnswered s read a rises v → IsAnsweredWithin t read b others u
     → RunsOut frames b v ⊎ (AreSame frames a b v u × Alike frames v u)
 at_line frames s t v u (Err r) a b rises others A plain done done_too x y =
     let still : Alike frames v u = subst (λ (z : State). Alike frames z u) (sym x.1.same) (subst (Alike frames s) (sym y.1.same) A) in
     inr (record { answer = y.1.refused ∙ sym x.1.refused; machine = still.machine; enough = still.enough }, still)
 at_line frames s t v u (Ok c) a b rises others A plain done done_too x y =
-    elim (within (frames_left frames s.machine) (record t { machine = s.machine }) u c b y.0 others here) [
+    elim (within (frames_left s.machine) (record t { machine = s.machine }) u c b y.0 others here) [
       | inl full ↦ inl (runs_out frames s t v u c a b A plain P y.0 full.0 full.1)
       | inr is ↦ inr (answers_same frames s t v u c a b A plain P y.0 others done_too is.0 is.1)
     ]
@@ -220,15 +222,15 @@ at_line frames s t v u (Ok c) a b rises others A plain done done_too x y =
     P : GivenAnswer s.machine A.held c a v
     P = answer_given s v A.held c a x.0 rises A.told A.backed done x.1
 
-    here : AnswerWithin (Some (frames_left frames s.machine)) (record t { machine = s.machine }) c b y.0 others u
-    here = subst (λ (m : Machine). AnswerWithin (Some (frames_left frames m)) (record t { machine = m }) c b y.0 others u) A.machine y.1
+    here : AnswerWithin (Some (frames_left s.machine)) (record t { machine = s.machine }) c b y.0 others u
+    here = subst (λ (m : Machine). AnswerWithin (Some (frames_left m)) (record t { machine = m }) c b y.0 others u) A.machine y.1
 
-go_on : (frames : ℕ) (first second : List (Step Read)) (s t after last : State) (chain : Chain command_semantics s first after) (other : Chain (framed_semantics frames) t second last) → Alike frames s t → AreOfOneScript first second → AreSameUntilFull frames first second s t after last chain other
+go_on : (frames : ℕ) (first second : List (Step Read)) (s t after last : State) (chain : Chain command_semantics s first after) (other : Chain framed_semantics t second last) → Alike frames s t → AreOfOneScript first second → AreSameUntilFull frames first second s t after last chain other
 go_on frames [] [] s t after last chain other A R = tt
 go_on frames [] (y ∷ second) s t after last chain other A R = absurd (let e = R.lines in cc e)
 go_on frames (x ∷ first) [] s t after last chain other A R = absurd (let e = R.lines in cc e)
 go_on frames (x ∷ first) (y ∷ second) s t after last chain other A R =
-    elim (at_line frames s t chain.0 other.0 x.read x.answer y.answer x.rises y.rises A R.plain.0 R.no_failure.0 R.no_failure_too.0 chain.1 (subst (λ (read : Read). IsAnsweredWithin frames t read y.answer y.rises other.0) read_same other.1)) [
+    elim (at_line frames s t chain.0 other.0 x.read x.answer y.answer x.rises y.rises A R.plain.0 R.no_failure.0 R.no_failure_too.0 chain.1 (subst (λ (read : Read). IsAnsweredWithin t read y.answer y.rises other.0) read_same other.1)) [
       | inl out ↦ inl out
       | inr same ↦ inr (same.0, go_on frames first second chain.0 other.0 after last chain.2 other.2 same.1 rest)
     ]
@@ -253,6 +255,7 @@ started frames page_bytes h f g = record {
   backed = none;
   backed_too = none;
   same = record { denied = refl; others = λ seg free. refl };
+  frames_are = refl;
   enough = omega arith;
 }
   where
