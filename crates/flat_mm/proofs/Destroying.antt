@@ -80,6 +80,7 @@ module _ (s : Store) (n : ℕ) (c : Cache) (alive : numbered s.caches n ≡ Some
     placed = record {
       some = S.placed.some;
       placed = placed_actors n (sizes_in s) (sizes_in u) (λ j other. ap (option_map (λ (x : Cache). length x.pages)) (ap (λ (cs : List (Option Cache)). numbered cs j) is ∙ others j other)) t.actors unused S.placed.placed;
+      aligned = S.placed.aligned;
     };
   }
 

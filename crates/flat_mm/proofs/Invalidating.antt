@@ -26,7 +26,7 @@ use Rattle.gmi_calls.proofs.Opening.{taken_for}
 use Rattle.gmi_calls.proofs.Rising.{asked_none, quiet_none, reached_none}
 use Rattle.contexts.specs.Actors.{machine_with}
 use Rattle.flat_mm.specs.Extents.{ArePulled, IsExtent}
-use Rattle.flat_mm.specs.Manager.{AreKept, IsKept, IsManagerSound, IsValid, Manager, caches_in, flat, machine_in}
+use Rattle.flat_mm.specs.Manager.{AreKept, IsKept, IsManagerSound, IsValid, Manager, caches_in, flat, machine_in, room_of}
 use Rattle.flat_mm.specs.Store.{AreWhole, Cache, Page, Store, put_pages, with_cache}
 use Rattle.flat_mm.proofs.Acting.{whole_machine}
 use Rattle.flat_mm.proofs.Extents.{extent_named, extent_within, invalidate_row, with_pages}
@@ -66,7 +66,7 @@ module _ {X : Type 0} (M : GhostsOfMapper X) (before after : X) (p : Manager) (e
       (every_segments (M.held before) m m (commands.Invalidate e) (Err troubles.Memory) no_counts (λ s. (refl, tt, unrefused s))) tt (quiet_none (M.counts before))
 
   -- or no room
-  pub invalidate_full : p.store.free < e.pages → MapperCall M flat before p (commands.Invalidate e) (Err (troubles.Refused refusals.Full)) before p
+  pub invalidate_full : room_of p < e.pages → MapperCall M flat before p (commands.Invalidate e) (Err (troubles.Refused refusals.Full)) before p
   invalidate_full less =
       let ok : Result (Unit {0}) (Unit {0}) = Ok tt in
       full_call M before before p (commands.Invalidate e) valid ok (asked_none M before tt) replies.Done (next (M.held before)) refl (outcome (M.held before)) less
@@ -88,7 +88,7 @@ module _ {X : Type 0} (M : GhostsOfMapper X) (before after : X) (p : Manager) (e
         left_call M before after p c valid r same R page tt (troubles.Mapper (faults.Save 0))
         (fault_for (M.held before) m c (faults.Save 0) R.rises failed (λ s. (segment_names m e.cache.0 seg.0 (extent_named p e seg at), refl)) unrefused) tt tt
 
-    module _ (count : ℕ) (sound : IsManagerSound p.store p.actors count) (room : e.pages ≤ p.store.free) (pages : List Page) (many : length pages ≡ e.pages) (pulled : ArePulled (M.held before) seg.0 e.first.0 pages)
+    module _ (count : ℕ) (sound : IsManagerSound p.store p.actors count) (room : e.pages ≤ room_of p) (pages : List Page) (many : length pages ≡ e.pages) (pulled : ArePulled (M.held before) seg.0 e.first.0 pages)
         (u : Store) (is : u ≡ puts p.store e.cache.0 e.first.0 pages) (whole : AreWhole u) where
       fits : e.first.0 + length pages ≤ length at.cache.pages
       fits = omega (arith, many, at.within)

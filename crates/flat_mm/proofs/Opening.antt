@@ -30,7 +30,7 @@ use Rattle.gmi_calls.proofs.Called.{OutcomeFor, every_segments}
 use Rattle.gmi_calls.proofs.Opening.{opened_for, sized_for}
 use Rattle.gmi_calls.proofs.Still.{asks_quiet}
 use Rattle.flat_mm.specs.Extents.{ArePulled}
-use Rattle.flat_mm.specs.Manager.{AreKept, IsManagerSound, IsValid, Manager, caches_in, flat, machine_in, plain}
+use Rattle.flat_mm.specs.Manager.{AreKept, IsManagerSound, IsValid, Manager, caches_in, flat, machine_in, plain, room_of}
 use Rattle.flat_mm.specs.Store.{AreWhole, Cache, Page, Store, is_of}
 use Rattle.flat_mm.proofs.Acting.{whole_machine}
 use Rattle.flat_mm.proofs.Calls.{seen_live}
@@ -167,7 +167,7 @@ module _ {X T E : Type 0} (M : GhostsOfMapper X) (before after : X) (p : Manager
             (λ s e. let S = sized_some (get s.pages seg.0) n (e ∙ is) in (refl, tt, subst (λ (y : Answered). IsNotRefused y.answer) (sym (row_of s S.0 S.1 S.2)) tt))) tt tt
 
         -- or no room
-        pub open_full : p.store.free < n → MapperCall M flat before p (commands.OpenSegment seg) (Err (troubles.Refused refusals.Full)) after p
+        pub open_full : room_of p < n → MapperCall M flat before p (commands.OpenSegment seg) (Err (troubles.Refused refusals.Full)) after p
         open_full less =
             let m = machine_in p in
             let told = M.held before in
@@ -181,7 +181,7 @@ module _ {X T E : Type 0} (M : GhostsOfMapper X) (before after : X) (p : Manager
 -- The cache that is made of the pages that were pulled
 
 module _ {X T E : Type 0} (M : GhostsOfMapper X) (before after : X) (p : Manager) (seg : SegId) (valid : IsValid p (M.held before)) (free : is_some (cache_named (machine_in p).caches seg.0) ≡ false) (few : nat_le MOST_MADE (length (machine_in p).caches) ≡ false) (count : ℕ) (sound : IsManagerSound p.store p.actors count)
-    (size : Option ℕ) (sized : IfSome (M.held before) (λ h. size ≡ option_map length (get h.segments seg.0))) (n : ℕ) (is : size ≡ Some n) (small : nat_lt LIVE_PAGES (live_pages (machine_in p) + n) ≡ false) (room : n ≤ p.store.free)
+    (size : Option ℕ) (sized : IfSome (M.held before) (λ h. size ≡ option_map length (get h.segments seg.0))) (n : ℕ) (is : size ≡ Some n) (small : nat_lt LIVE_PAGES (live_pages (machine_in p) + n) ≡ false) (room : n ≤ room_of p)
     (r : Result T E) (same : M.held after ≡ M.held before) (R : Reached (M.counts before) (M.counts after) r) (page : M.page_bytes after ≡ M.page_bytes before) (pages : List Page) (many : length pages ≡ n) (pulled : ArePulled (M.held before) seg.0 0 pages) where
   bytes : List model.Page
   bytes = map (λ (x : Page). x.bytes) pages

@@ -20,7 +20,7 @@ use Rattle.gmi_calls.specs.Reaching.{Asked, Reached}
 use Rattle.gmi_calls.specs.Room.{pages_needed}
 use Rattle.gmi_calls.proofs.Called.{OutcomeFor, call_reached, eager_call, ready_after}
 use Rattle.gmi_calls.proofs.Still.{made_still}
-use Rattle.flat_mm.specs.Manager.{AreKept, IsValid, Manager, flat, machine_in}
+use Rattle.flat_mm.specs.Manager.{AreKept, IsValid, Manager, flat, machine_in, room_of}
 use Rattle.flat_mm.proofs.Calls.{FitsCall, flat_call}
 use Rattle.flat_mm.proofs.Storing.{kept_still}
 
@@ -43,7 +43,7 @@ module _ {X T E : Type 0} (M : GhostsOfMapper X) (before after : X) (p : Manager
 
   -- one for which there is no room
   pub full_call : Asked M before after r → (reply : Reply) (next : Machine) → IsAlike (Ok reply) (Ok reply) → OutcomeFor (M.held before) (machine_in p) command (Ok reply) next no_counts
-      → p.store.free < pages_needed (seen_at (M.held before) (machine_in p)) command (seen_at (M.held before) next) → MapperCall M flat before p command (Err (troubles.Refused refusals.Full)) after p
+      → room_of p < pages_needed (seen_at (M.held before) (machine_in p)) command (seen_at (M.held before) next) → MapperCall M flat before p command (Err (troubles.Refused refusals.Full)) after p
   full_call asked reply next alike outcome more = record {
     valid = subst (IsValid p) (sym asked.held) valid;
     answers = record {

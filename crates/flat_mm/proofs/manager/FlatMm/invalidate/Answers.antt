@@ -13,7 +13,7 @@ use Rattle.vm_model.specs.Machine.{numbered}
 use Rattle.gmi_calls.specs.Calling.{Fits, MapperCall}
 use Rattle.gmi_calls.proofs.Accessing.{asked_pages}
 use Rattle.flat_mm.specs.Extents.{IsExtent}
-use Rattle.flat_mm.specs.Manager.{IsManagerSound, IsValid, Manager, flat, machine_in}
+use Rattle.flat_mm.specs.Manager.{IsManagerSound, IsValid, Manager, flat, machine_in, room_of}
 use Rattle.flat_mm.specs.Store.{AreWhole, Store, put_pages, with_cache, zeros}
 use Rattle.flat_mm.proofs.Destroying.{dropped_whole}
 use Rattle.flat_mm.proofs.Extents.{extent_named, extent_within, refused_call}
@@ -44,7 +44,7 @@ returns-in-Err g c =
 
 pub returns-then-lacks_room : goal.returns-then-lacks_room
 returns-then-lacks_room g c =
-    let less : c.args.self.now.store.free < c.args.extent.pages = (let e = c.if-lacks_room.ensures in grind (arith, nat_tests)) in
+    let less : room_of c.args.self.now < c.args.extent.pages = (let e = c.if-lacks_room.ensures.room in grind (arith, nat_tests)) in
     invalidate_full g.M.Mapper c.args.mapper.now c.args.mapper.now c.args.self.now c.args.extent c.in-Ok.seg c.in-Ok.ensures.extent c.in-Ok.ensures.unlocked c.requires.valid less
 
 pub returns-in-Err-take_loose : goal.returns-in-Err-take_loose
@@ -62,8 +62,13 @@ taken_many g c = ap (λ (s : Store). length s.loose) c.in-Ok-take_loose.ensures.
 
 room : (g : Over) (c : In-Ok-take_loose g) → c.args.extent.pages ≤ c.self.inside.store.free
 room g c =
-    let less : c.args.extent.pages ≤ c.args.self.now.store.free = (let e = c.if-lacks_room.ensures in grind (arith, nat_tests)) in
+    let less : c.args.extent.pages ≤ c.args.self.now.store.free = (let e = c.if-lacks_room.ensures.free in grind (arith, nat_tests)) in
     omega (arith, less, ap (λ (p : Manager). p.store.free) c.self.view_is)
+
+enough : (g : Over) (c : In-Ok-take_loose g) → c.args.extent.pages ≤ room_of (record { store = c.self.inside.store; actors = c.self.inside.contexts })
+enough g c =
+    let less : c.args.extent.pages ≤ room_of c.args.self.now = (let e = c.if-lacks_room.ensures.room in grind (arith, nat_tests)) in
+    omega (arith, less, ap room_of c.self.view_is)
 
 pub pull_loose-requires-clause-there : goal.pull_loose-requires-clause-there
 pull_loose-requires-clause-there g c =
@@ -97,7 +102,7 @@ invariant_of-self-in-Ok-pull_loose g c =
     let E = c.in-Ok-pull_loose.ensures in
     let is = taken_all g at.In-Ok-pull_loose c.exchange.new.self c.drop_loose.new.self c.exchange.ensures.exchanged c.drop_loose.ensures in
     invalidate_sound g.M.Mapper c.args.mapper.now c.pull_loose.new.mapper (record { store = i.store; actors = i.contexts }) c.args.extent c.in-Ok.seg F.extent F.unlocked F.valid (let r : Result (Unit {0}) Failed = Ok tt in r) E.held E.reached E.page
-    i.actors c.self.invariant (room g at.In-Ok-take_loose) c.pull_loose.new.store.loose (E.many ∙ taken_many g at.In-Ok-take_loose) E.pulled c.drop_loose.new.self is
+    i.actors c.self.invariant (enough g at.In-Ok-take_loose) c.pull_loose.new.store.loose (E.many ∙ taken_many g at.In-Ok-take_loose) E.pulled c.drop_loose.new.self is
     (dropped_whole c.exchange.new.self c.drop_loose.new.self c.exchange.ensures.whole c.drop_loose.ensures)
 
 pub returns-in-Ok-pull_loose : goal.returns-in-Ok-pull_loose
@@ -109,7 +114,7 @@ returns-in-Ok-pull_loose g c =
     let is = taken_all g at.In-Ok-pull_loose c.exchange.new.self c.drop_loose.new.self c.exchange.ensures.exchanged c.drop_loose.ensures in
     subst (λ (p : Manager). MapperCall g.M.Mapper flat c.args.mapper.now p (commands.Invalidate c.args.extent) (Ok replies.Done) c.pull_loose.new.mapper (record { store = c.drop_loose.new.self; actors = i.contexts })) c.self.view_is
     (invalidate_call g.M.Mapper c.args.mapper.now c.pull_loose.new.mapper (record { store = i.store; actors = i.contexts }) c.args.extent c.in-Ok.seg F.extent F.unlocked F.valid (let r : Result (Unit {0}) Failed = Ok tt in r) E.held E.reached E.page
-    i.actors c.self.invariant (room g at.In-Ok-take_loose) c.pull_loose.new.store.loose (E.many ∙ taken_many g at.In-Ok-take_loose) E.pulled c.drop_loose.new.self is
+    i.actors c.self.invariant (enough g at.In-Ok-take_loose) c.pull_loose.new.store.loose (E.many ∙ taken_many g at.In-Ok-take_loose) E.pulled c.drop_loose.new.self is
     (dropped_whole c.exchange.new.self c.drop_loose.new.self c.exchange.ensures.whole c.drop_loose.ensures))
 
 -- where the mapper failed all is as before

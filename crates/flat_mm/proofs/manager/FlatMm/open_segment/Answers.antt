@@ -22,7 +22,7 @@ use Rattle.gmi_calls.specs.Reaching.{Asked, Reached}
 use Rattle.gmi_calls.proofs.Opening.{sized_pages}
 use Rattle.gmi_calls.proofs.Rising.{asked_none, asked_then, fault_counted, one_failed, reached_one, reached_then}
 use Rattle.flat_mm.specs.Extents.{ArePulled}
-use Rattle.flat_mm.specs.Manager.{IsManagerSound, IsValid, Manager, flat, machine_in}
+use Rattle.flat_mm.specs.Manager.{IsManagerSound, IsValid, Manager, flat, machine_in, room_of}
 use Rattle.flat_mm.specs.Store.{Cache, Page, Store, is_of, zeros}
 use Rattle.flat_mm.proofs.Extents.{refused_call}
 use Rattle.flat_mm.proofs.Filling.{IsReloosed, filled, given_up}
@@ -76,7 +76,7 @@ returns-then-passes_live_pages g c =
 pub returns-then-lacks_room : goal.returns-then-lacks_room
 returns-then-lacks_room g c =
     let p = c.args.self.now in
-    let less : p.store.free < c.in-Some.size = (let e = c.if-lacks_room.ensures in grind (arith, nat_tests)) in
+    let less : room_of p < c.in-Some.size = (let e = c.if-lacks_room.ensures.room in grind (arith, nat_tests)) in
     open_full g.M.Mapper c.args.mapper.now c.size.new.self p c.args.seg c.requires.valid (named_is _ p c.self.view_is c.args.seg false c.if-has.ensures) (sym c.if-has_made_all.ensures)
     c.in-Ok.size c.in-Ok.ensures.pages c.size.result (asked g (goal.at.returns-then-lacks_room g c).In-Ok) c.in-Some.size c.in-Some.is (sym c.if-passes_live_pages.ensures) less
 
@@ -95,8 +95,13 @@ taken_many g c = ap (λ (s : Store). length s.loose) c.in-Ok-take_loose.ensures.
 
 room : (g : Over) (c : In-Ok-take_loose g) → c.in-Some.size ≤ c.self.inside.store.free
 room g c =
-    let less : c.in-Some.size ≤ c.args.self.now.store.free = (let e = c.if-lacks_room.ensures in grind (arith, nat_tests)) in
+    let less : c.in-Some.size ≤ c.args.self.now.store.free = (let e = c.if-lacks_room.ensures.free in grind (arith, nat_tests)) in
     omega (arith, less, ap (λ (p : Manager). p.store.free) c.self.view_is)
+
+enough : (g : Over) (c : In-Ok-take_loose g) → c.in-Some.size ≤ room_of (record { store = c.self.inside.store; actors = c.self.inside.contexts })
+enough g c =
+    let less : c.in-Some.size ≤ room_of c.args.self.now = (let e = c.if-lacks_room.ensures.room in grind (arith, nat_tests)) in
+    omega (arith, less, ap room_of c.self.view_is)
 
 pub pull_loose-requires-clause-there : goal.pull_loose-requires-clause-there
 pull_loose-requires-clause-there g c =
@@ -159,7 +164,7 @@ invariant_of-self-in-Ok-pull_loose g c =
       | in-Ok-adopt w ↦ (
           let is = w.in-Ok-adopt.ensures.ok in
           adopt_sound g.M.Mapper c.args.mapper.now c.pull_loose.new.mapper (record { store = i.store; actors = i.contexts }) c.args.seg F.valid F.free F.few i.actors c.self.invariant
-          c.in-Ok.size c.in-Ok.ensures.pages c.in-Some.size c.in-Some.is F.small (room g taken) r (E.held ∙ c.size.ensures.held) F.reached (E.page ∙ c.size.ensures.page) c.pull_loose.new.store.loose F.many F.pulled
+          c.in-Ok.size c.in-Ok.ensures.pages c.in-Some.size c.in-Some.is F.small (enough g taken) r (E.held ∙ c.size.ensures.held) F.reached (E.page ∙ c.size.ensures.page) c.pull_loose.new.store.loose F.many F.pulled
           c.adopt.new.self (adopted_caches g x c.adopt.new.self is) (ap (λ (s : Store). s.frames) is ∙ ap (λ (s : Store). s.frames) F.store) (ap (λ (s : Store). s.page_bytes) is ∙ ap (λ (s : Store). s.page_bytes) F.store) (ap (λ (s : Store). s.loose) is) w.in-Ok-adopt.ensures.whole)
       | in-Err-adopt w ↦ subst (λ (s : Store). IsManagerSound s i.contexts i.actors) (sym (adopted_back g x c.adopt.new.self w.in-Err-adopt.ensures.err)) c.self.invariant
     ]
@@ -183,7 +188,7 @@ returns-after-adopt g c =
           subst at (sym w.result-is)
           (subst (λ (q : Manager). MapperCall g.M.Mapper flat c.args.mapper.now q (commands.OpenSegment c.args.seg) (Ok (replies.Cache cache)) c.pull_loose.new.mapper new) c.self.view_is
           (adopt_call g.M.Mapper c.args.mapper.now c.pull_loose.new.mapper old c.args.seg F.valid F.free F.few i.actors c.self.invariant
-          c.in-Ok.size c.in-Ok.ensures.pages c.in-Some.size c.in-Some.is F.small (room g taken) r (E.held ∙ c.size.ensures.held) F.reached (E.page ∙ c.size.ensures.page) c.pull_loose.new.store.loose F.many F.pulled
+          c.in-Ok.size c.in-Ok.ensures.pages c.in-Some.size c.in-Some.is F.small (enough g taken) r (E.held ∙ c.size.ensures.held) F.reached (E.page ∙ c.size.ensures.page) c.pull_loose.new.store.loose F.many F.pulled
           c.adopt.new.self (adopted_caches g x c.adopt.new.self is) (ap (λ (s : Store). s.frames) is ∙ ap (λ (s : Store). s.frames) F.store) (ap (λ (s : Store). s.page_bytes) is ∙ ap (λ (s : Store). s.page_bytes) F.store) (ap (λ (s : Store). s.loose) is) w.in-Ok-adopt.ensures.whole
           cache (w.in-Ok-adopt.ensures.number ∙ ap (λ (s : Store). length s.caches + 1) F.store))))
       | in-Err-adopt w ↦ (
@@ -192,7 +197,7 @@ returns-after-adopt g c =
           (subst (λ (s : Store). MapperCall g.M.Mapper flat c.args.mapper.now p (commands.OpenSegment c.args.seg) (Err troubles.Memory) c.pull_loose.new.mapper (record { store = s; actors = i.contexts })) (sym back)
           (subst (λ (q : Manager). MapperCall g.M.Mapper flat c.args.mapper.now q (commands.OpenSegment c.args.seg) (Err troubles.Memory) c.pull_loose.new.mapper old) c.self.view_is
           (adopt_lacks g.M.Mapper c.args.mapper.now c.pull_loose.new.mapper old c.args.seg F.valid F.free F.few i.actors c.self.invariant
-          c.in-Ok.size c.in-Ok.ensures.pages c.in-Some.size c.in-Some.is F.small (room g taken) r (E.held ∙ c.size.ensures.held) F.reached (E.page ∙ c.size.ensures.page) c.pull_loose.new.store.loose F.many F.pulled))))
+          c.in-Ok.size c.in-Ok.ensures.pages c.in-Some.size c.in-Some.is F.small (enough g taken) r (E.held ∙ c.size.ensures.held) F.reached (E.page ∙ c.size.ensures.page) c.pull_loose.new.store.loose F.many F.pulled))))
     ]
 
 -- where the mapper failed all is as before
