@@ -81,7 +81,7 @@ module _ (b d : Arena) (s u : Store) (t : Actors) (live : ℕ) (i : IsManagerSou
     few = i.few;
     loose = subst (λ (ps : List Bool). count_by (λ p. p) ps + 3 ≤ length ps) (sym gives.pins) i.loose;
     locked = held;
-    actors = right_weaker (size_of b) (size_of d) (λ n k e. same.sizes n ∙ e) t i.actors;
+    actors = right_weaker (size_of b) (size_of d) t (λ n k e. same.sizes n ∙ e) i.actors;
     page = i.page ∙ sym gives.page;
   }
 

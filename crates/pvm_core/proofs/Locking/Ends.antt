@@ -100,7 +100,7 @@ module _ (a b : Arena) (s u : Store) (h g : Option Held) (i j : Option ℕ) (c d
     few = sound.few;
     loose = omega (arith, held.pins, held.few, alike.right.tied.fitted.pinned_frames);
     locked = held;
-    actors = right_weaker (size_of a) (size_of b) (λ n k e. alike.same.sizes n ∙ e) x right;
+    actors = right_weaker (size_of a) (size_of b) x (λ n k e. alike.same.sizes n ∙ e) right;
     page = page ∙ sound.page ∙ sym alike.page;
   }
 

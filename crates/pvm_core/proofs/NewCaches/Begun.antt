@@ -185,7 +185,7 @@ module _ (b d : Arena) (u : Store) (t : Actors) (live n : ℕ) (cache : CacheId)
     loose = i.loose;
     locked = held_made b d u t.actors cache None Zero nodes made stays i.nodes.sound.kept.listed sound.kept.listed i.locked;
     actors = subst (λ (ts : List (Option Table)). AreRight (λ k. option_map (λ (t : Table). length t.pages) (table_at ts k)) t) (sym made.caches)
-        (right_weaker (size_of b) (λ k. option_map (λ (t : Table). length t.pages) (table_at (b.caches ++ Some table ∷ []) k)) (size_more b.caches (Some table)) t i.actors);
+        (right_weaker (size_of b) (λ k. option_map (λ (t : Table). length t.pages) (table_at (b.caches ++ Some table ∷ []) k)) t (size_more b.caches (Some table)) i.actors);
     page = i.page;
   }
 

@@ -94,7 +94,7 @@ module _ (b d : Arena) (u : Store) (t : Actors) (live n : ℕ) (cache : CacheId)
         loose = i.loose;
         locked = held_made b d u t.actors cache (Some seg) OnSegment nodes made stays i.nodes.sound.kept.listed sound.kept.listed i.locked;
         actors = subst (λ (ts : List (Option Table)). AreRight (λ k. option_map (λ (t : Table). length t.pages) (table_at ts k)) t) (sym made.caches)
-            (right_weaker (size_of b) (λ k. option_map (λ (t : Table). length t.pages) (table_at (b.caches ++ Some (new_table (Some seg) nodes) ∷ []) k)) (size_more b.caches (Some (new_table (Some seg) nodes))) t i.actors);
+            (right_weaker (size_of b) (λ k. option_map (λ (t : Table). length t.pages) (table_at (b.caches ++ Some (new_table (Some seg) nodes) ∷ []) k)) t (size_more b.caches (Some (new_table (Some seg) nodes))) i.actors);
         page = i.page;
       }
 

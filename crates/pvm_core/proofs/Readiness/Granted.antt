@@ -120,7 +120,7 @@ module _ (a b : Arena) (s : Store) (t : Actors) (live : ℕ) (stays : KeepsNodes
     few = i.few;
     loose = i.loose;
     locked = held_by_cells a b s t.actors stays.cells stays.locks i.nodes.sound.kept.listed stays.whole.sound.kept.listed i.locked;
-    actors = right_weaker (size_of a) (size_of b) (λ n k e. stays.same.sizes n ∙ e) t i.actors;
+    actors = right_weaker (size_of a) (size_of b) t (λ n k e. stays.same.sizes n ∙ e) i.actors;
     page = i.page;
   }
 
