@@ -178,7 +178,6 @@ module _ {X T E : Type 0} (M : GhostsOfMapper X) (before after : X) (p : Manager
             (opened_for told told m next (commands.OpenSegment seg) (Ok (replies.Cache number)) seg.0 size ps.0 no_counts refl (ap (λ k. Some k) ps.1 ∙ sym is) sized ps.2 (λ s there. row_of s ps.0 there ps.1))
             (omega (arith, seen_live told next, seen_live told m, more_live m seg.0 ps.0, ps.1, less))
 
-
 -- The cache that is made of the pages that were pulled
 
 module _ {X T E : Type 0} (M : GhostsOfMapper X) (before after : X) (p : Manager) (seg : SegId) (valid : IsValid p (M.held before)) (free : is_some (cache_named (machine_in p).caches seg.0) ≡ false) (few : nat_le MOST_MADE (length (machine_in p).caches) ≡ false) (count : ℕ) (sound : IsManagerSound p.store p.actors count)

@@ -8,8 +8,7 @@ ghost use Rattle.flat_mm.specs.Manager.{IsValid, flat, machine_in};
 use crate::FlatMm;
 use crate::pulling::pull_loose;
 use vm_ids::{
-    CacheId, ChainList, Command, Counts, FaultAt, NoMemory, PageNo, Refusal, Reply, SegId,
-    Trouble,
+    CacheId, ChainList, Command, Counts, FaultAt, NoMemory, PageNo, Refusal, Reply, SegId, Trouble,
 };
 use vm_model::{LIVE_PAGES, MOST_MADE};
 use vm_port::Mapper;

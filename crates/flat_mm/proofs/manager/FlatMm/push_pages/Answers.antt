@@ -48,7 +48,7 @@ loop-i-preserved g c =
     let m = machine_in c.args.self.now in
     let now = segments_of (g.M.Mapper.held c.push_page.new.mapper) in
     let kept = subst (λ (x : Machine). ArePushed x now e.cache.0 e.first.0 (e.first.0 + c.loop-i.i)) P.machine
-        (c.in-Ok.ensures.kept e.first.0 (subst (λ (x : Machine). ArePushed x (segments_of (g.M.Mapper.held c.loop-i.mapper)) e.cache.0 e.first.0 (e.first.0 + c.loop-i.i)) (sym P.machine) c.loop-i.invariant.1)) in
+    (c.in-Ok.ensures.kept e.first.0 (subst (λ (x : Machine). ArePushed x (segments_of (g.M.Mapper.held c.loop-i.mapper)) e.cache.0 e.first.0 (e.first.0 + c.loop-i.i)) (sym P.machine) c.loop-i.invariant.1)) in
     let there = subst (λ (x : Machine). ArePushed x now e.cache.0 (e.first.0 + c.loop-i.i) (e.first.0 + c.loop-i.i + 1)) P.machine c.in-Ok.ensures.there in (
       both_pushed g.M.Mapper _ _ _ _ _ _ (let x : Result (Unit {0}) PageNo = Ok tt in x) (let y : Result (Unit {0}) PageNo = Ok tt in y) P
           (pushed_so g.M.Mapper _ _ _ _ (let r : Result (Unit {0}) Failed = Ok tt in r) (let y : Result (Unit {0}) PageNo = Ok tt in y) (λ n h. h) c.in-Ok.ensures.pushed),
