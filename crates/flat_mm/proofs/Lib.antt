@@ -40,5 +40,8 @@ pub mod Telling
 pub mod Handed
 -- Pages are copied and moved.
 pub mod Spanning
+pub mod Copying
+pub mod Transferring
+pub mod SpanRows
 -- The law of two managers.
 pub mod TwoManagers

@@ -1,20 +1,18 @@
 -- Pages are put into a cache, from one page on.
-use Rattle.std.proofs.Common.{◌≡◌, ◌≢◌, ℕ, zero, suc, ◌+◌, ◌-◌, ◌<◌, ◌≤◌, Bool, true, false, List, [], ◌∷◌, ◌++◌, length, drop, get_or, map, set, take, Option, Some, None, refl, sym, ap, subst, ◌∙◌, arith, inl, inr, append_assoc}
-use Rattle.std.specs.Prelude.{IfSome, IsSome, Ok, Err, option_and_then, option_map, slice_get}
+use Rattle.std.proofs.Common.{◌≡◌, ◌≢◌, ℕ, zero, suc, ◌+◌, ◌-◌, ◌<◌, ◌≤◌, List, [], ◌∷◌, ◌++◌, length, drop, get_or, map, set, take, Option, Some, refl, sym, ap, subst, ◌∙◌, arith, inl, inr, append_assoc}
+use Rattle.std.specs.Prelude.{option_and_then, option_map, slice_get}
 use Rattle.std.proofs.lemmas.Bool.{cases_eq, cases_lt}
-use Rattle.std.proofs.lemmas.List.{append-nil, drop_more, length-append, length-map, length-set, length-take-le, map-set, take-append-drop}
-use Rattle.std.proofs.lemmas.Option.{slice_get-get_or, slice_get_within}
+use Rattle.std.proofs.lemmas.List.{append-nil, drop_more, length-append, length-set, length-take-le, map-set, take-append-drop}
 use Rattle.vm_ids.specs.Held.{Segments}
 use Rattle.vm_ids.specs.declared.numbers.SegId.{SegId}
 use Rattle.vm_model.specs.Answering as answering
 use Rattle.vm_model.specs.Answering.{overwrite}
 use Rattle.vm_model.specs.Machine as model
 use Rattle.vm_model.specs.Machine.{numbered}
-use Rattle.vm_model.proofs.Parts.Lists.{length-overwrite, numbered-map, numbered_place}
+use Rattle.vm_model.proofs.Parts.Lists.{length-overwrite, numbered_place}
 use Rattle.vm_model.proofs.Parts.ListParts.{numbered_set, numbered_set_other, overwrite_before, overwrite_behind, overwrite_in}
 use Rattle.contexts.specs.Actors.{Actors}
 use Rattle.flat_mm.specs.Manager.{AreKept, IsKept, IsManagerSound, caches_in, plain, sizes_in}
-use Rattle.flat_mm.specs.Placed.{AreRight}
 use Rattle.flat_mm.specs.Store.{AreWhole, Cache, Page, Store, page_at, put_page, put_pages, with_cache, with_page}
 use Rattle.flat_mm.proofs.Loosening.{map-overwrite}
 use Rattle.flat_mm.proofs.Making.{right_weaker}

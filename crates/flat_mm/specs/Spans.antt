@@ -1,5 +1,5 @@
 -- When pages may be copied or moved.
-use Rattle.std.specs.Prelude.{◌≡◌, ◌+◌, ◌≤◌, ◌<◌, ◌^◌, false, None, Some, length}
+use Rattle.std.specs.Prelude.{◌≡◌, ◌+◌, ◌≤◌, ◌^◌, false, None, Some, length}
 use Rattle.vm_ids.specs.declared.command.Span.{Span}
 use Rattle.vm_model.specs.Answering.{is_any_locked, overlaps_itself}
 use Rattle.vm_model.specs.Machine.{numbered}

@@ -1,5 +1,5 @@
-// The two managers give the same answers where there are frames enough, and this one alone says
-// that it is full.
+// Where there are frames enough it answers as a manager with paging does; where there aren't, it
+// says that it is full.
 ghost use Rattle.std.specs.Prelude.{◌≡◌, ◌≤◌};
 ghost use Rattle.vm_model.specs.Asking.{IsWellFormed};
 
@@ -37,18 +37,22 @@ fn seen(answer: Answer) -> Shown {
     }
 }
 
-fn map(cache: u32, pages: u32, address: u64, write: bool) -> Command {
-    let extent = Extent {
+fn extent(cache: u32, first: u32, pages: u32) -> Extent {
+    Extent {
         cache: CacheId(cache),
-        first: PageNo(0),
+        first: PageNo(first),
         pages,
-    };
+    }
+}
+
+fn map(extent: Extent, address: u64, write: bool) -> Command {
+    let prot = Prot { write };
     Command::Map(
         ActorId(1),
         Mapping {
             extent,
             address,
-            prot: Prot { write },
+            prot,
         },
     )
 }
@@ -82,14 +86,51 @@ fn four_frames(rt: HostRuntime) -> Result<(), Fail> {
     assert_eq!(rt; ask(&Command::MakeTemp(3)), Shown::Cache(1));
     assert_eq!(rt; ask(&Command::MakeTemp(2)), Shown::Refused(Refusal::Full));
     assert_eq!(rt; ask(&Command::MakeTemp(1)), Shown::Cache(2));
-    assert_eq!(rt; ask(&map(1, 3, 0x10000, true)), Shown::Region(1));
+    assert_eq!(rt; ask(&map(extent(1, 0, 3), 0x10000, true)), Shown::Region(1));
     assert_eq!(rt; ask(&store(0x10000, 1)?), Shown::Done);
     assert_eq!(rt; ask(&copy(1, 2, 1)), Shown::Done);
     assert_eq!(rt; ask(&store(0x10000, 2)?), Shown::Done);
-    assert_eq!(rt; ask(&map(2, 1, 0x20000, false)), Shown::Region(2));
+    assert_eq!(rt;
+        ask(&map(extent(2, 0, 1), 0x20000, false)),
+        Shown::Region(2)
+    );
     assert_eq!(rt; ask(&load(0x20000)), Shown::Byte(1));
     assert_eq!(rt; ask(&Command::Unmap(RegionId(1))), Shown::Done);
     assert_eq!(rt; ask(&Command::Destroy(CacheId(1))), Shown::Done);
     assert_eq!(rt; ask(&Command::MakeTemp(2)), Shown::Cache(3));
+    Ok(())
+}
+
+// Pages of a copy are locked; at so many frames the manager with paging answers these lines too.
+#[test]
+fn twelve_frames(rt: HostRuntime) -> Result<(), Fail> {
+    let mut gmi = FlatMm::new(rt.alloc(), 12, 4096)?;
+    let mut mapper = MemoryMapper::new(rt.alloc(), &[], &[], 0, &[], 4096)?;
+    let mut chooser = Fifo::new();
+    let mut ask = |command: &Command| seen(answer(&mut gmi, command, &mut mapper, &mut chooser));
+    assert_eq!(rt; ask(&Command::MakeActor), Shown::Actor(1));
+    assert_eq!(rt; ask(&Command::MakeTemp(6)), Shown::Cache(1));
+    assert_eq!(rt; ask(&Command::MakeTemp(6)), Shown::Cache(2));
+    assert_eq!(rt; ask(&map(extent(1, 0, 6), 0x10000, true)), Shown::Region(1));
+    assert_eq!(rt; ask(&store(0x10000, 1)?), Shown::Done);
+    assert_eq!(rt; ask(&copy(1, 2, 6)), Shown::Done);
+    assert_eq!(rt; ask(&map(extent(2, 0, 5), 0x20000, true)), Shown::Region(2));
+    assert_eq!(rt; ask(&map(extent(2, 5, 1), 0x30000, true)), Shown::Region(3));
+    assert_eq!(rt; ask(&Command::Lock(RegionId(2))), Shown::Done);
+    assert_eq!(rt; ask(&Command::Lock(RegionId(3))), Shown::Done);
+    assert_eq!(rt;
+        ask(&Command::Lock(RegionId(2))),
+        Shown::Refused(Refusal::Locked)
+    );
+    assert_eq!(rt; ask(&Command::Unlock(RegionId(3))), Shown::Done);
+    assert_eq!(rt; ask(&store(0x20000, 2)?), Shown::Done);
+    assert_eq!(rt; ask(&load(0x10000)), Shown::Byte(1));
+    assert_eq!(rt;
+        ask(&Command::Unmap(RegionId(2))),
+        Shown::Refused(Refusal::Locked)
+    );
+    assert_eq!(rt; ask(&copy(1, 2, 1)), Shown::Refused(Refusal::Locked));
+    assert_eq!(rt; ask(&Command::Unlock(RegionId(2))), Shown::Done);
+    assert_eq!(rt; ask(&Command::Lock(RegionId(3))), Shown::Done);
     Ok(())
 }
