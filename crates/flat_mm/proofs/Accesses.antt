@@ -1,20 +1,18 @@
 -- Loads and stores, and the pages that they find.
-use Rattle.std.proofs.Common.{◌≡◌, ◌≢◌, ℕ, ◌+◌, ◌-◌, ◌<◌, ◌≤◌, Bool, true, false, List, [], ◌∷◌, length, drop, map, set, take, Option, Some, None, refl, sym, ap, subst, ◌∙◌, arith, inl, inr}
+use Rattle.std.proofs.Common.{◌≡◌, ℕ, ◌+◌, ◌-◌, ◌<◌, ◌≤◌, Bool, true, false, List, [], length, drop, map, set, take, Option, Some, None, refl, sym, ap, subst, ◌∙◌, arith, inl, inr}
 use Rattle.std.specs.Prelude.{◌||◌, IfErr, IfOk, IfSome, IsSome, Ok, Err, Result, not, option_and_then, option_map, slice_get, unwrap_or}
 use Rattle.std.specs.List.{list_any, range_with_len}
 use Rattle.std.specs.Option.{option_map_or}
 use Rattle.std.proofs.lemmas.Bool.{cases_eq}
 use Rattle.std.proofs.lemmas.List.{length-map, length-set, map-set}
 use Rattle.std.proofs.lemmas.Option.{slice_get-get_or, slice_get-map, slice_get_within}
-use Rattle.vm_ids.specs.Counting.{no_counts}
 use Rattle.vm_ids.specs.Denying.{denies}
 use Rattle.vm_ids.specs.Held.{Held, Segments, segments_in}
-use Rattle.vm_ids.specs.declared.command.Command.TheVariants as commands
 use Rattle.vm_ids.specs.declared.numbers.SegId.{SegId}
 use Rattle.vm_ids.specs.declared.refusal.Refusal.{Refusal}
 use Rattle.vm_ids.specs.declared.refusal.Refusal.TheVariants as refusals
 use Rattle.vm_ids.specs.declared.reply.Reply.TheVariants as replies
-use Rattle.vm_model.specs.Answering.{Answered, is_denied_page, load_of, overwrite, page_at, put_cache, put_page, refuse, reply, store_of, unless, with_ok, write_at}
+use Rattle.vm_model.specs.Answering.{is_denied_page, load_of, overwrite, page_at, put_cache, put_page, refuse, reply, store_of, unless, with_ok, write_at}
 use Rattle.vm_model.specs.Machine as model
 use Rattle.vm_model.specs.Machine.{Machine, cache_of, numbered, pages_in, segment_of}
 use Rattle.vm_model.specs.Place.{Place, place, place_of_actor}
@@ -27,7 +25,7 @@ use Rattle.contexts.specs.Placed.{AreRight}
 use Rattle.contexts.proofs.Placing.{refused_at, right_weaker, spot}
 use Rattle.gmi_calls.proofs.Accessing.{segments_for}
 use Rattle.flat_mm.specs.Accessing.{IsPlacedAt}
-use Rattle.flat_mm.specs.Manager.{AreKept, IsKept, IsManagerSound, IsValid, Manager, caches_in, machine_in, plain, sizes_in}
+use Rattle.flat_mm.specs.Manager.{AreKept, IsKept, IsManagerSound, caches_in, plain, sizes_in}
 use Rattle.flat_mm.specs.Store as store
 use Rattle.flat_mm.specs.Store.{AreWhole, Cache, Page, Store, with_cache, with_page}
 

@@ -1,13 +1,12 @@
 -- Calls that change actors alone, or nothing.
-use Rattle.std.proofs.Common.{◌≡◌, ℕ, suc, ◌≤◌, Bool, true, false, cond, List, [], ◌∷◌, length, map, Option, Some, None, refl, sym, ap, subst, ◌∙◌, arith}
-use Rattle.std.specs.Prelude.{is_some, option_map, Ok, Err, OnOk, OnErr, Result}
+use Rattle.std.proofs.Common.{◌≡◌, ℕ, suc, ◌≤◌, Bool, true, false, cond, List, [], ◌∷◌, length, Option, Some, None, refl, sym, ap, subst, ◌∙◌, arith}
+use Rattle.std.specs.Prelude.{is_some, option_map, Ok, Err}
 use Rattle.std.specs.List.{All}
 use Rattle.std.proofs.lemmas.List.{length-map}
-use Rattle.std.proofs.lemmas.List.Elements.{All-cons, All-head, All-map, All-nil, All-tail, All-weaker}
+use Rattle.std.proofs.lemmas.List.Elements.{All-map, All-weaker}
 use Rattle.vm_ids.specs.Counting.{no_counts}
-use Rattle.vm_ids.specs.Held.{Held, Segments, segments_of}
+use Rattle.vm_ids.specs.Held.{Segments}
 use Rattle.vm_ids.specs.declared.command.Command.{Command}
-use Rattle.vm_ids.specs.declared.reply.Reply.{Reply}
 use Rattle.vm_model.specs.Answering.{Answer}
 use Rattle.vm_model.specs.Asking.{ReachesMapper, pages_made}
 use Rattle.vm_model.specs.Machine as model
@@ -22,10 +21,10 @@ use Rattle.contexts.specs.Placed.{AreRight}
 use Rattle.contexts.proofs.RegionRows.{size_in}
 use Rattle.gmi_calls.specs.Calling.{AnswersWithin, CallDone}
 use Rattle.gmi_calls.specs.Room.{pages_needed}
-use Rattle.gmi_calls.proofs.Called.{answer_each, eager_done}
+use Rattle.gmi_calls.proofs.Called.{eager_done}
 use Rattle.flat_mm.specs.Manager.{IsManagerSound, Manager, caches_in, flat, machine_in, plain, room_of, sizes_in}
-use Rattle.flat_mm.specs.Store.{AreWhole, Cache, HasWholePages, IsWhole, Page, Store}
-use Rattle.flat_mm.proofs.Calls.{FitsCall, FitsRoom, flat_done, flat_tells, none_made}
+use Rattle.flat_mm.specs.Store.{AreWhole, Cache, HasWholePages, Page, Store}
+use Rattle.flat_mm.proofs.Calls.{FitsCall, FitsRoom, flat_done, none_made}
 
 -- The machine's pages
 

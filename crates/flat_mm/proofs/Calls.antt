@@ -1,24 +1,23 @@
 -- Calls of the manager, from those of the machine that it stands for.
-use Rattle.std.proofs.Common.{◌≡◌, ℕ, ◌+◌, ◌-◌, ◌≤◌, List, [], ◌∷◌, length, map, Option, Some, None, refl, sym, ap, subst, ◌∙◌, arith}
-use Rattle.std.specs.Prelude.{IfSome, Result, Ok, Err, option_map, sum_by}
+use Rattle.std.proofs.Common.{◌≡◌, ℕ, ◌+◌, ◌≤◌, List, [], ◌∷◌, map, Option, Some, None, refl, sym, ◌∙◌, arith}
+use Rattle.std.specs.Prelude.{IfSome, Ok, Err, option_map, sum_by}
 use Rattle.std.proofs.lemmas.List.{length-map}
 use Rattle.std.proofs.lemmas.List.Sums.{sum_by-cons}
 use Rattle.vm_ids.specs.Counting.{MapperCounts, no_counts}
-use Rattle.vm_ids.specs.Held.{Held, Segments, segments_in, segments_of}
+use Rattle.vm_ids.specs.Held.{Held, segments_in}
 use Rattle.vm_ids.specs.declared.command.Command.{Command}
-use Rattle.vm_ids.specs.declared.command.Command.TheVariants as commands
 use Rattle.vm_ids.specs.declared.refusal.Refusal.TheVariants as refusals
 use Rattle.vm_ids.specs.declared.reply.Trouble.TheVariants as troubles
 use Rattle.vm_model.specs.Answering.{Answer}
 use Rattle.vm_model.specs.Asking.{pages_made}
 use Rattle.vm_model.specs.Machine.{Cache, Machine, live_pages, pages_in}
-use Rattle.vm_model.specs.Outcome.{blank_cache, blank, seen_at}
-use Rattle.vm_model.specs.Run.{AnswerIs, CallIs, State, state_of}
+use Rattle.vm_model.specs.Outcome.{blank_cache, seen_at}
+use Rattle.vm_model.specs.Run.{AnswerIs, CallIs, State}
 use Rattle.vm_port.specs.declared.traits.mapper.Mapper.{Ghosts as GhostsOfMapper}
-use Rattle.gmi_calls.specs.Backing.{IsReady, eager, eager_state}
+use Rattle.gmi_calls.specs.Backing.{eager, eager_state}
 use Rattle.gmi_calls.specs.Calling.{AnswersWithin, CallDone, MapperCall}
 use Rattle.gmi_calls.specs.Parking.{AccessCall, NoPull}
-use Rattle.gmi_calls.specs.Room.{AnswerWithin, CallWithin, LimitedCall, pages_needed}
+use Rattle.gmi_calls.specs.Room.{AnswerWithin, LimitedCall, pages_needed}
 use Rattle.gmi_calls.proofs.Still.{made_still}
 use Rattle.flat_mm.proofs.NeverFull.{never_full}
 use Rattle.flat_mm.specs.Manager.{AreKept, IsValid, Manager, flat, machine_in, room_of}

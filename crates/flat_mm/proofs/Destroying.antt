@@ -1,6 +1,6 @@
 -- A cache is taken away.
-use Rattle.std.proofs.Common.{◌≡◌, ◌≢◌, ℕ, ◌+◌, ◌-◌, ◌<◌, ◌≤◌, Bool, true, false, List, [], length, map, set, Option, Some, None, refl, sym, ap, subst, ◌∙◌, arith, inl, inr}
-use Rattle.std.specs.Prelude.{IfSome, Result, Ok, Err, option_and_then, option_map}
+use Rattle.std.proofs.Common.{◌≡◌, ◌≢◌, ℕ, ◌+◌, ◌-◌, ◌≤◌, true, false, List, [], length, map, set, Option, Some, None, refl, sym, ap, subst, ◌∙◌, arith, inl, inr}
+use Rattle.std.specs.Prelude.{IfSome, Result, Ok, Err, option_map}
 use Rattle.std.specs.List.{list_any}
 use Rattle.std.proofs.lemmas.Bool.{cases_eq}
 use Rattle.std.proofs.lemmas.List.{length-set, map-set}
@@ -10,7 +10,6 @@ use Rattle.vm_ids.specs.declared.command.Command.{Command}
 use Rattle.vm_ids.specs.declared.command.Command.TheVariants as commands
 use Rattle.vm_ids.specs.declared.numbers.CacheId.{CacheId}
 use Rattle.vm_ids.specs.declared.numbers.PageNo.{PageNo}
-use Rattle.vm_ids.specs.declared.numbers.SegId.{SegId}
 use Rattle.vm_ids.specs.declared.refusal.Refusal.TheVariants as refusals
 use Rattle.vm_ids.specs.declared.reply.FaultAt.TheVariants as faults
 use Rattle.vm_ids.specs.declared.reply.Reply.TheVariants as replies
@@ -20,7 +19,7 @@ use Rattle.vm_model.specs.Machine as model
 use Rattle.vm_model.specs.Machine.{Machine, cache_of, live_pages, numbered, pages_in, segment_of}
 use Rattle.vm_model.specs.Outcome.{IsNamed, IsNotRefused, IsPageOf, PlainOutcome}
 use Rattle.vm_model.specs.Synchronised.{ArePushed}
-use Rattle.vm_model.proofs.Parts.Lists.{at_number, numbered-map, numbered_place, sum_by_less}
+use Rattle.vm_model.proofs.Parts.Lists.{at_number, numbered_place, sum_by_less}
 use Rattle.vm_model.proofs.Parts.ListParts.{numbered_set, numbered_set_other}
 use Rattle.vm_port.specs.declared.traits.mapper.Mapper.{Ghosts as GhostsOfMapper}
 use Rattle.contexts.specs.Actors.{Actors, machine_with}

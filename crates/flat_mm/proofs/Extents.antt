@@ -1,12 +1,11 @@
 -- Pages of a cache that a segment names: how a sync, a flush and an invalidation are refused, and what they come to.
-use Rattle.std.proofs.Common.{◌≡◌, ℕ, ◌+◌, ◌<◌, ◌≤◌, Bool, true, false, List, length, map, Option, Some, None, refl, sym, ap, subst, ◌∙◌, arith}
-use Rattle.std.specs.Prelude.{IfErr, Result, Ok, Err, nat_lt, option_and_then, option_map}
+use Rattle.std.proofs.Common.{◌≡◌, ℕ, ◌+◌, ◌<◌, ◌≤◌, true, false, List, length, Option, Some, None, refl, sym, ap, subst, ◌∙◌, arith}
+use Rattle.std.specs.Prelude.{Result, Ok, Err, nat_lt, option_and_then, option_map}
 use Rattle.std.proofs.lemmas.Bool.Decides.{nat_tests}
 use Rattle.std.proofs.lemmas.List.{length-map}
 use Rattle.vm_ids.specs.Counting.{MapperCounts, no_counts}
 use Rattle.vm_ids.specs.Held.{Segments, segments_of}
 use Rattle.vm_ids.specs.declared.command.Command.{Command}
-use Rattle.vm_ids.specs.declared.command.Command.TheVariants as commands
 use Rattle.vm_ids.specs.declared.command.Extent.{Extent}
 use Rattle.vm_ids.specs.declared.numbers.PageNo.{PageNo}
 use Rattle.vm_ids.specs.declared.numbers.SegId.{SegId}
@@ -27,11 +26,10 @@ use Rattle.vm_model.proofs.Parts.Lists.{numbered-map}
 use Rattle.vm_port.specs.declared.traits.mapper.Mapper.{Ghosts as GhostsOfMapper}
 use Rattle.gmi_calls.specs.Backing.{IsReady, eager}
 use Rattle.gmi_calls.specs.Calling.{MapperCall}
-use Rattle.gmi_calls.specs.Reaching.{past}
 use Rattle.gmi_calls.proofs.Called.{call_is, eager_call, eager_left, fault_for, plain_for}
 use Rattle.flat_mm.specs.Extents.{IsExtent, IsPushed, RefusesFlush, RefusesSync}
-use Rattle.flat_mm.specs.Manager.{IsValid, Manager, caches_in, flat, machine_in, plain}
-use Rattle.flat_mm.specs.Store.{Cache, Page, Store}
+use Rattle.flat_mm.specs.Manager.{IsValid, Manager, flat, machine_in, plain}
+use Rattle.flat_mm.specs.Store.{Cache, Page}
 use Rattle.flat_mm.proofs.Acting.{NeedsMade, fits_less}
 use Rattle.flat_mm.proofs.Calls.{flat_call}
 

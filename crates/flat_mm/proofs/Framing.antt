@@ -1,5 +1,5 @@
 -- How page frames stand behind the pages of caches.
-use Rattle.std.proofs.Common.{◌≡◌, ◌≢◌, ◌==◌, ℕ, zero, suc, ◌+◌, ◌-◌, ◌^◌, ◌<◌, ◌≤◌, Bool, true, false, cond, List, [], ◌∷◌, ◌++◌, length, get_or, set, map, Option, Some, None, refl, sym, ap, subst, ◌∙◌, arith, inl, inr}
+use Rattle.std.proofs.Common.{◌≡◌, ◌≢◌, ◌==◌, ℕ, zero, suc, ◌+◌, ◌-◌, ◌^◌, ◌<◌, ◌≤◌, Bool, true, false, cond, List, [], ◌∷◌, length, get_or, set, map, Option, Some, None, refl, sym, ap, subst, ◌∙◌, arith, inl, inr}
 use Rattle.std.specs.Prelude.{◌||◌, IsSome, option_and_then, option_map, slice_get, sum_by}
 use Rattle.std.specs.List.{All, list_any}
 use Rattle.std.specs.Option.{option_map_or}
@@ -8,7 +8,7 @@ use Rattle.std.proofs.lemmas.Bool.Decides.{nat_tests}
 use Rattle.std.proofs.lemmas.List.{get_or-set_same, length-map, length-set}
 use Rattle.std.proofs.lemmas.List.Elements.{All-cons, All-get_or, All-nil, All-set}
 use Rattle.std.proofs.lemmas.List.Sums.{sum_by-cons}
-use Rattle.std.proofs.lemmas.Option.{slice_get_within, slice_get-map, get_or_from_slice_get}
+use Rattle.std.proofs.lemmas.Option.{slice_get-map}
 use Rattle.vm_ids.specs.declared.numbers.FrameId.{FrameId}
 use Rattle.vm_ids.specs.declared.numbers.SegId.{SegId}
 use Rattle.vm_model.specs.Machine.{numbered}
@@ -17,7 +17,7 @@ use Rattle.std.proofs.lemmas.Grind.{common_steps}
 use Rattle.frame_pool.specs.Lending.{refill}
 use Rattle.frame_pool.specs.Pool.{Frames, bytes_of, is_held, with_bytes}
 use Rattle.flat_mm.specs.Frames.{Framed, framed_at, is_framed_of, put_framed, with_framed}
-use Rattle.flat_mm.specs.Store.{AreWhole, Cache, HasWholePages, IsWhole, Page, Store, is_of, page_at, put_page, size_of, with_page}
+use Rattle.flat_mm.specs.Store.{AreWhole, Cache, HasWholePages, IsWhole, Page, is_of, page_at, put_page, size_of, with_page}
 use Rattle.flat_mm.specs.Layout.{AreFramesSound, IsFramed, cache_shown, caches_shown, free_frames, page_shown, page_total, pages_in, store_shown, times_used, uses}
 use Rattle.flat_mm.specs.declared.framed.FramedPage.{FramedPage}
 

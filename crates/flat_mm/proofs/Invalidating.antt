@@ -1,9 +1,9 @@
 -- Pages of a cache are taken from its segment again.
-use Rattle.std.proofs.Common.{◌≡◌, ℕ, ◌+◌, ◌-◌, ◌<◌, ◌≤◌, Bool, true, false, List, [], length, length-drop, map, take, drop, Option, Some, None, refl, sym, ap, subst, ◌∙◌, arith}
-use Rattle.std.specs.Prelude.{IfSome, Result, Ok, Err, slice_get}
+use Rattle.std.proofs.Common.{◌≡◌, ℕ, ◌+◌, ◌-◌, ◌<◌, ◌≤◌, false, List, [], length, length-drop, map, take, drop, Option, Some, None, refl, sym, ap, subst, ◌∙◌, arith}
+use Rattle.std.specs.Prelude.{IfSome, Result, Ok, Err}
 use Rattle.std.specs.Option.{option_map_or}
 use Rattle.std.proofs.lemmas.List.{length-map, length-take-le}
-use Rattle.vm_ids.specs.Counting.{MapperCounts, no_counts}
+use Rattle.vm_ids.specs.Counting.{no_counts}
 use Rattle.vm_ids.specs.Held.{Held, Segments, segments_in}
 use Rattle.vm_ids.specs.declared.command.Command.TheVariants as commands
 use Rattle.vm_ids.specs.declared.command.Extent.{Extent}
@@ -12,15 +12,15 @@ use Rattle.vm_ids.specs.declared.refusal.Refusal.TheVariants as refusals
 use Rattle.vm_ids.specs.declared.reply.FaultAt.TheVariants as faults
 use Rattle.vm_ids.specs.declared.reply.Reply.TheVariants as replies
 use Rattle.vm_ids.specs.declared.reply.Trouble.TheVariants as troubles
-use Rattle.vm_model.specs.Answering.{Answered, answer_of, held_for, held_part, invalidate_of, is_any_locked, reply}
+use Rattle.vm_model.specs.Answering.{Answered, answer_of, held_for, held_part, is_any_locked, reply}
 use Rattle.vm_model.specs.Machine as model
 use Rattle.vm_model.specs.Machine.{Machine, numbered}
-use Rattle.vm_model.specs.Outcome.{IsNotRefused, Outcome}
+use Rattle.vm_model.specs.Outcome.{IsNotRefused}
 use Rattle.vm_model.specs.PageForest.{plain_forest}
 use Rattle.vm_model.proofs.Parts.Naming.{segment_names}
 use Rattle.vm_port.specs.declared.traits.mapper.Mapper.{Ghosts as GhostsOfMapper}
 use Rattle.gmi_calls.specs.Calling.{MapperCall}
-use Rattle.gmi_calls.specs.Reaching.{Asked, Reached}
+use Rattle.gmi_calls.specs.Reaching.{Reached}
 use Rattle.gmi_calls.proofs.Called.{OutcomeFor, every_segments, fault_for, no_segments}
 use Rattle.gmi_calls.proofs.Opening.{taken_for}
 use Rattle.gmi_calls.proofs.Rising.{asked_none, quiet_none, reached_none}

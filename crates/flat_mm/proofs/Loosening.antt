@@ -1,6 +1,6 @@
 -- Frames are taken and given back, and pages become loose or a cache's.
 use Rattle.std.proofs.Common.{◌≡◌, ◌≢◌, ◌==◌, ℕ, zero, suc, ◌+◌, ◌-◌, ◌<◌, ◌≤◌, Bool, true, false, cond, not, List, [], ◌∷◌, ◌++◌, length, get_or, set, take, drop, map, replicate, Option, Some, None, refl, sym, ap, subst, ◌∙◌, arith, inl, inr}
-use Rattle.std.specs.Prelude.{IsSome, option_map, slice_get, sum_by}
+use Rattle.std.specs.Prelude.{option_map, slice_get, sum_by}
 use Rattle.std.specs.List.{All}
 use Rattle.std.specs.Option.{option_map_or}
 use Rattle.std.proofs.lemmas.Bool.{cases_eq}
@@ -16,7 +16,7 @@ use Rattle.vm_model.proofs.Parts.Lists.{at_number, numbered-map, sum_by_swap}
 use Rattle.frame_pool.specs.Pool.{Frames, is_held, with_bytes}
 use Rattle.flat_mm.specs.Frames.{Framed}
 use Rattle.flat_mm.specs.Store.{Cache, Page, Store, put_pages, with_cache, zeros}
-use Rattle.flat_mm.specs.Layout.{IsFramed, cache_shown, caches_shown, free_frames, page_shown, page_total, pages_in, store_shown, times_used, uses}
+use Rattle.flat_mm.specs.Layout.{IsFramed, cache_shown, caches_shown, free_frames, page_shown, pages_in, store_shown, times_used, uses}
 use Rattle.flat_mm.specs.declared.framed.FramedPage.{FramedPage}
 use Rattle.flat_mm.proofs.Framing.{bit, bit_same, cache_uses, caches_else, pages_set, shown_else, used_within, uses_some}
 

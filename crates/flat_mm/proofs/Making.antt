@@ -1,14 +1,13 @@
 -- Caches are made.
-use Rattle.std.proofs.Common.{◌≡◌, ◌≢◌, ℕ, zero, suc, ◌+◌, ◌-◌, ◌<◌, ◌≤◌, Bool, true, false, List, [], ◌∷◌, ◌++◌, length, map, replicate, Option, Some, None, refl, sym, ap, subst, ◌∙◌, arith, inl, inr}
-use Rattle.std.specs.Prelude.{◌||◌, IfSome, OnErr, OnOk, Result, Ok, Err, nat_le, nat_lt, option_map, slice_get, sum_by}
-use Rattle.std.specs.List.{All}
+use Rattle.std.proofs.Common.{◌≡◌, ℕ, zero, suc, ◌+◌, ◌-◌, ◌<◌, ◌≤◌, true, false, List, [], ◌∷◌, ◌++◌, length, map, replicate, Option, Some, None, refl, sym, ap, subst, ◌∙◌, arith, inl, inr}
+use Rattle.std.specs.Prelude.{OnErr, OnOk, Result, Ok, Err, nat_le, nat_lt, option_map, slice_get, sum_by}
 use Rattle.std.proofs.lemmas.Bool.{cases_eq}
 use Rattle.std.proofs.lemmas.Bool.Decides.{nat_tests}
 use Rattle.std.proofs.lemmas.List.{length-append, length-map, length-replicate, map_push}
 use Rattle.std.proofs.lemmas.List.Elements.{All-append, All-cons, All-nil, All-replicate}
 use Rattle.std.proofs.lemmas.List.Sums.{sum_by-cons, sum_by_push}
 use Rattle.vm_ids.specs.Counting.{no_counts}
-use Rattle.vm_ids.specs.Held.{Held, Segments, segments_in, segments_of}
+use Rattle.vm_ids.specs.Held.{Segments, segments_in, segments_of}
 use Rattle.vm_ids.specs.declared.command.Command.{Command}
 use Rattle.vm_ids.specs.declared.command.Command.TheVariants as commands
 use Rattle.vm_ids.specs.declared.numbers.CacheId.{CacheId}
@@ -21,7 +20,7 @@ use Rattle.vm_ids.specs.declared.reply.Trouble.TheVariants as troubles
 use Rattle.vm_model.specs.declared.limits.TheConstants.{LIVE_PAGES, MOST_MADE}
 use Rattle.vm_model.specs.Answering as answering
 use Rattle.vm_model.specs.Answering.{Answered, make_temp_of, refuse, reply, unless}
-use Rattle.vm_model.specs.Asking.{ReachesMapper, pages_made}
+use Rattle.vm_model.specs.Asking.{ReachesMapper}
 use Rattle.vm_model.specs.Machine as model
 use Rattle.vm_model.specs.Machine.{Machine, live_pages, numbered, pages_in, zero_page}
 use Rattle.vm_model.specs.Outcome as outcomes
@@ -30,12 +29,10 @@ use Rattle.vm_model.specs.Synchronised.{IsSynchronised}
 use Rattle.vm_model.proofs.Parts.ListParts.{numbered_past, numbered_push, numbered_pushed}
 use Rattle.contexts.specs.Actors.{Actors, machine_with}
 use Rattle.contexts.proofs.Placing.{right_weaker}
-use Rattle.gmi_calls.specs.Backing.{IsReady, eager_state}
 use Rattle.gmi_calls.specs.Calling.{CallDone}
-use Rattle.gmi_calls.specs.Room.{IsFull, pages_needed}
 use Rattle.gmi_calls.proofs.Called.{answer_each, eager_done}
 use Rattle.gmi_calls.proofs.Still.{made_still}
-use Rattle.flat_mm.specs.Manager.{AreKept, IsKept, IsManagerSound, IsValid, Manager, caches_in, flat, machine_in, plain, room_of, sizes_in}
+use Rattle.flat_mm.specs.Manager.{AreKept, IsKept, IsManagerSound, Manager, caches_in, flat, machine_in, plain, room_of, sizes_in}
 use Rattle.flat_mm.specs.Store.{AreWhole, Cache, Page, Store, live_in, size_of, temporary, zeros}
 use Rattle.flat_mm.proofs.Acting.{NeedsMade, whole_machine}
 use Rattle.flat_mm.proofs.Calls.{flat_done, seen_live}

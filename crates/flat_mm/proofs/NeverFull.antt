@@ -1,5 +1,5 @@
 -- The machine itself refuses nothing as `Full`.
-use Rattle.std.proofs.Common.{◌≡◌, ℕ, Bool, true, false, cond, List, length, Option, Some, None, refl, sym, ap, subst, ◌∙◌}
+use Rattle.std.proofs.Common.{◌≡◌, ℕ, Bool, true, false, cond, List, length, Option, Some, None, refl, ap, subst, ◌∙◌}
 use Rattle.std.specs.Prelude.{nat_lt, Result, Ok, Err, ◌+◌, ◌%◌}
 use Rattle.std.specs.FinMap.{get}
 use Rattle.vm_ids.specs.Counting.{MapperCounts}
@@ -10,7 +10,7 @@ use Rattle.vm_ids.specs.declared.refusal.Refusal.{Refusal}
 use Rattle.vm_ids.specs.declared.refusal.Refusal.TheVariants as refusals
 use Rattle.vm_ids.specs.declared.reply.Reply.TheVariants as replies
 use Rattle.vm_ids.specs.declared.reply.Trouble.TheVariants as troubles
-use Rattle.vm_model.specs.Answering.{Answer, Answered, answer_of, chain_answer, copy_of, destroy_of, exit_actor_of, find_of, flush_of, held_for, invalidate_of, load_of, lock_of, make_actor_of, make_temp_of, map_of, move_of, open_of, protect_of, split_of, status_of, store_of, sync_of, unlock_of, unmap_of, with_ok}
+use Rattle.vm_model.specs.Answering.{Answer, Answered, answer_of, chain_answer, copy_of, destroy_of, exit_actor_of, find_of, flush_of, invalidate_of, load_of, lock_of, make_actor_of, make_temp_of, map_of, move_of, open_of, protect_of, split_of, status_of, store_of, sync_of, unlock_of, unmap_of, with_ok}
 use Rattle.vm_model.specs.Machine.{Actor, Machine, Region, actor_of}
 use Rattle.vm_model.specs.Outcome.{IsAlike, Outcome, OutcomeAt}
 use Rattle.vm_model.specs.PageForest.{PageForest, forest_shown}

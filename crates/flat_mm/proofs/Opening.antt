@@ -1,34 +1,31 @@
 -- A cache that a segment names is made.
-use Rattle.std.proofs.Common.{◌≡◌, ◌==◌, ℕ, ◌+◌, ◌-◌, ◌<◌, ◌≤◌, Bool, true, false, cond, List, [], ◌∷◌, ◌++◌, length, map, replicate, Option, Some, None, refl, sym, ap, subst, ◌∙◌, arith}
-use Rattle.std.specs.Prelude.{◌||◌, IfErr, IfOk, IfSome, OnErr, OnOk, Result, Ok, Err, is_some, nat_le, nat_lt, option_and_then, option_map, slice_get, unwrap_or}
+use Rattle.std.proofs.Common.{◌≡◌, ◌==◌, ℕ, ◌+◌, ◌<◌, ◌≤◌, Bool, true, false, cond, List, [], ◌∷◌, ◌++◌, length, map, replicate, Option, Some, None, refl, sym, ap, subst, ◌∙◌, arith}
+use Rattle.std.specs.Prelude.{◌||◌, IfSome, Result, Ok, Err, is_some, nat_le, nat_lt, option_and_then, option_map, slice_get}
 use Rattle.std.specs.FinMap.{get}
 use Rattle.std.specs.List.{list_any}
 use Rattle.std.specs.Option.{option_map_or}
-use Rattle.std.proofs.lemmas.List.{length-append, length-map, length-replicate}
+use Rattle.std.proofs.lemmas.List.{length-map, length-replicate}
 use Rattle.std.proofs.lemmas.List.Sums.{sum_by_push}
-use Rattle.vm_ids.specs.Counting.{MapperCounts, no_counts}
+use Rattle.vm_ids.specs.Counting.{no_counts}
 use Rattle.vm_ids.specs.Held.{Held, Segments, segments_in}
-use Rattle.vm_ids.specs.declared.command.Command.{Command}
 use Rattle.vm_ids.specs.declared.command.Command.TheVariants as commands
 use Rattle.vm_ids.specs.declared.numbers.CacheId.{CacheId}
 use Rattle.vm_ids.specs.declared.numbers.SegId.{SegId}
 use Rattle.vm_ids.specs.declared.refusal.Refusal.TheVariants as refusals
 use Rattle.vm_ids.specs.declared.reply.FaultAt.TheVariants as faults
-use Rattle.vm_ids.specs.declared.reply.NoMemory.{NoMemory}
 use Rattle.vm_ids.specs.declared.reply.Reply.TheVariants as replies
 use Rattle.vm_ids.specs.declared.reply.Trouble.TheVariants as troubles
 use Rattle.vm_model.specs.declared.limits.TheConstants.{LIVE_PAGES, MOST_MADE}
-use Rattle.vm_model.specs.Answering.{Answered, answer_by, open_of, opened, refuse, reply, unless, with_some}
+use Rattle.vm_model.specs.Answering.{Answered, open_of, opened, refuse, reply, unless, with_some}
 use Rattle.vm_model.specs.Machine as model
 use Rattle.vm_model.specs.Machine.{Machine, cache_named, is_named_by, live_pages, pages_in}
-use Rattle.vm_model.specs.Outcome.{IsNotRefused, NotRefusedButFor, seen_at}
+use Rattle.vm_model.specs.Outcome.{IsNotRefused, NotRefusedButFor}
 use Rattle.vm_port.specs.declared.traits.mapper.Mapper.{Ghosts as GhostsOfMapper}
-use Rattle.contexts.specs.Actors.{Actors, machine_with}
+use Rattle.contexts.specs.Actors.{machine_with}
 use Rattle.gmi_calls.specs.Calling.{MapperCall}
 use Rattle.gmi_calls.specs.Reaching.{ArePagesOf, Asked, Reached}
-use Rattle.gmi_calls.proofs.Called.{OutcomeFor, every_segments}
+use Rattle.gmi_calls.proofs.Called.{every_segments}
 use Rattle.gmi_calls.proofs.Opening.{opened_for, sized_for}
-use Rattle.gmi_calls.proofs.Still.{asks_quiet}
 use Rattle.flat_mm.specs.Extents.{ArePulled}
 use Rattle.flat_mm.specs.Manager.{AreKept, IsManagerSound, IsValid, Manager, caches_in, flat, machine_in, plain, room_of}
 use Rattle.flat_mm.specs.Store.{AreWhole, Cache, Page, Store, is_of}

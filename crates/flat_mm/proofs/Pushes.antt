@@ -1,16 +1,14 @@
 -- A page that was changed is pushed to the segment that names its cache.
-use Rattle.std.proofs.Common.{◌≡◌, ◌==◌, ℕ, zero, suc, ◌+◌, ◌-◌, ◌<◌, ◌≤◌, Bool, true, false, cond, List, [], ◌∷◌, length, set, Option, Some, None, refl, sym, ap, subst, ◌∙◌, arith, inl, inr}
-use Rattle.std.specs.Prelude.{IfSome, OnErr, OnOk, Result, Ok, Err, not, option_and_then, option_map, slice_get, unwrap_or}
-use Rattle.std.specs.FinMap.{get, get-insert, insert}
+use Rattle.std.proofs.Common.{◌≡◌, ◌==◌, ℕ, zero, suc, ◌+◌, ◌-◌, ◌<◌, Bool, true, false, cond, List, [], ◌∷◌, set, Option, Some, None, refl, sym, ap, subst, ◌∙◌, arith, inl, inr}
+use Rattle.std.specs.Prelude.{IfSome, OnErr, Result, Ok, Err, not, option_and_then, option_map, slice_get, unwrap_or}
+use Rattle.std.specs.FinMap.{get, get-insert}
 use Rattle.std.specs.Cmp.{unsigned_tied}
 use Rattle.std.proofs.lemmas.Bool.{cases_eq}
 use Rattle.std.proofs.lemmas.Bool.Decides.{nat_tests}
 use Rattle.std.proofs.lemmas.Cmp.{nat_cmp_total}
 use Rattle.vm_ids.specs.Counting.{Counted}
-use Rattle.vm_ids.specs.Denying.{denies}
 use Rattle.vm_ids.specs.Held.{Held, Segments, put_segment_page, segment_page, segments_in, segments_of, with_page}
 use Rattle.vm_ids.specs.declared.numbers.SegId.{SegId}
-use Rattle.vm_model.specs.Answering.{put_page}
 use Rattle.vm_model.specs.Machine as model
 use Rattle.vm_model.specs.Machine.{Machine, cache_of, numbered, pages_in, segment_of}
 use Rattle.vm_model.specs.PageForest.{page_in}
@@ -23,7 +21,7 @@ use Rattle.gmi_calls.specs.Reaching.{Pushed}
 use Rattle.gmi_calls.proofs.Pushing.{IsGranted, IsNamedPage, page_is as named_page_is, page_kept, page_pushed, page_ready, page_there as page_there_now, pushed_by, pushed_start, pushed_then, there_one}
 use Rattle.gmi_calls.proofs.Rising.{counted}
 use Rattle.flat_mm.specs.Extents.{IsPushed}
-use Rattle.flat_mm.specs.Manager.{AreKept, IsKept, IsManagerSound, IsValid, Manager, caches_in, machine_in, plain}
+use Rattle.flat_mm.specs.Manager.{AreKept, IsValid, Manager, caches_in, machine_in, plain}
 use Rattle.flat_mm.specs.Store as store
 use Rattle.flat_mm.specs.Store.{AreWhole, Cache, Page, Store}
 use Rattle.flat_mm.proofs.Accesses.{IsPageAt, cache_plain, kept_put, page_is, page_plain, page_some, page_there, put_plain, segment_plain}

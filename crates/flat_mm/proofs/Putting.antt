@@ -12,7 +12,6 @@ use Rattle.vm_model.specs.Machine.{numbered}
 use Rattle.vm_model.proofs.Parts.Lists.{length-overwrite, numbered_place}
 use Rattle.vm_model.proofs.Parts.ListParts.{numbered_set, numbered_set_other, overwrite_before, overwrite_behind, overwrite_in}
 use Rattle.contexts.specs.Actors.{Actors}
-use Rattle.contexts.specs.Placed.{AreRight}
 use Rattle.contexts.proofs.Placing.{right_weaker}
 use Rattle.flat_mm.specs.Manager.{AreKept, IsKept, IsManagerSound, caches_in, plain, sizes_in}
 use Rattle.flat_mm.specs.Store.{AreWhole, Cache, Page, Store, page_at, put_page, put_pages, with_cache, with_page}

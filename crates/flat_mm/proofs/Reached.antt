@@ -1,5 +1,5 @@
 -- Calls that reached the mapper and pushed nothing.
-use Rattle.std.proofs.Common.{◌≡◌, ℕ, ◌<◌, [], Option, Some, None, refl, sym, ap, subst}
+use Rattle.std.proofs.Common.{◌≡◌, ◌<◌, [], Option, Some, None, refl, sym, ap, subst}
 use Rattle.std.specs.Prelude.{IfSome, Result, Ok, Err}
 use Rattle.vm_ids.specs.Counting.{no_counts}
 use Rattle.vm_ids.specs.Held.{Held, segments_in, segments_of}

@@ -1,13 +1,12 @@
 -- A store, after the mapper was asked.
-use Rattle.std.proofs.Common.{◌≡◌, ℕ, ◌+◌, ◌-◌, ◌<◌, ◌≤◌, Bool, true, false, List, [], length, set, Option, Some, None, refl, sym, ap, subst, ◌∙◌, arith}
-use Rattle.std.specs.Prelude.{IfSome, IsOkAnd, IsSome, Ok, Err, Result, not, option_map}
+use Rattle.std.proofs.Common.{◌≡◌, ℕ, ◌-◌, ◌<◌, ◌≤◌, Bool, true, false, List, length, set, Option, Some, refl, sym, ap, subst, ◌∙◌, arith}
+use Rattle.std.specs.Prelude.{IfSome, IsOkAnd, Ok, Err, Result, not, option_map}
 use Rattle.std.specs.List.{list_any, range_with_len}
 use Rattle.std.proofs.lemmas.List.{length-set}
 use Rattle.vm_ids.specs.Held.{Held, Segments, segments_in}
 use Rattle.vm_ids.specs.declared.command.Command.{Command}
 use Rattle.vm_ids.specs.declared.command.Command.TheVariants as commands
 use Rattle.vm_ids.specs.declared.numbers.ActorId.{ActorId}
-use Rattle.vm_ids.specs.declared.numbers.PageNo.{PageNo}
 use Rattle.vm_ids.specs.declared.refusal.Refusal.{Refusal}
 use Rattle.vm_ids.specs.declared.refusal.Refusal.TheVariants as refusals
 use Rattle.vm_ids.specs.declared.reply.FaultAt.TheVariants as faults
@@ -22,7 +21,7 @@ use Rattle.vm_model.proofs.Machines.Awaiting.{awaits, store_unless, unless_false
 use Rattle.vm_model.proofs.Parts.Lists.{at_number, sum_by_same}
 use Rattle.vm_port.specs.declared.traits.mapper.Mapper.{Ghosts as GhostsOfMapper}
 use Rattle.regions.specs.declared.region.Place as regions
-use Rattle.contexts.specs.Actors.{Actors, machine_with}
+use Rattle.contexts.specs.Actors.{machine_with}
 use Rattle.gmi_calls.specs.Parking.{AccessCall, NoPull}
 use Rattle.gmi_calls.specs.Reaching.{Asked}
 use Rattle.gmi_calls.proofs.Accessing.{denied_call, failed_call, granted_call, range_allowed, range_denied, segments_for}
@@ -31,7 +30,7 @@ use Rattle.flat_mm.specs.Accessing.{IsPlacedAt, place_at}
 use Rattle.flat_mm.specs.Manager.{AreKept, IsManagerSound, IsValid, Manager, caches_in, flat, machine_in}
 use Rattle.flat_mm.specs.Store as store
 use Rattle.flat_mm.specs.Store.{AreWhole, Cache, Page, Store, live_in, size_of, with_page}
-use Rattle.flat_mm.proofs.Accesses.{IsPageAt, kept_written, one_denied, store_protected, store_refused, written_machine}
+use Rattle.flat_mm.proofs.Accesses.{IsPageAt, kept_written, one_denied, written_machine}
 use Rattle.flat_mm.proofs.Acting.{fits_less, whole_machine}
 use Rattle.flat_mm.proofs.Calls.{flat_access}
 use Rattle.flat_mm.proofs.Making.{plain_live}

@@ -1,5 +1,5 @@
 -- What the fields of a `PageStore` stand for. No public clause cites this module.
-use Rattle.std.specs.Prelude.{◌≡◌, ◌==◌, ◌+◌, ◌≤◌, ◌^◌, ℕ, Bool, false, not, List, [], All, Option, None, Some, count_by, length, map, option_map, sum_by, if◌then◌else◌}
+use Rattle.std.specs.Prelude.{◌≡◌, ◌==◌, ◌+◌, ◌≤◌, ◌^◌, ℕ, false, not, List, [], All, Option, None, Some, count_by, length, map, option_map, sum_by, if◌then◌else◌}
 use Rattle.frame_pool.specs.Pool.{Frames, bytes_of, is_held, is_pinned}
 use Rattle.flat_mm.specs.Frames.{Framed}
 use Rattle.flat_mm.specs.Store.{Cache, Page, Store}

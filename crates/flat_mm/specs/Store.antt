@@ -1,5 +1,5 @@
 -- The pages of all caches, without the frames that they are in.
-use Rattle.std.specs.Prelude.{◌≡◌, ◌==◌, ◌-◌, ◌+◌, ℕ, drop, map, take, [], Bool, true, false, List, length, All, Option, None, Some, option_and_then, option_map, slice_get, slice_set, sum_by, replicate}
+use Rattle.std.specs.Prelude.{◌≡◌, ◌==◌, ◌-◌, ℕ, drop, map, take, [], Bool, true, false, List, length, All, Option, None, Some, option_and_then, option_map, slice_get, slice_set, sum_by, replicate}
 use Rattle.std.specs.Option.{option_map_or}
 use Rattle.vm_ids.specs.declared.command.Span.{Span}
 use Rattle.vm_ids.specs.declared.numbers.SegId.{SegId}

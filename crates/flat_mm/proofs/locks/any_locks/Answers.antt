@@ -1,6 +1,5 @@
-use Rattle.std.proofs.Common.{◌≡◌, ◌+◌, Some, ap, arith, refl, sym, ◌∙◌}
-use Rattle.std.specs.Prelude.{option_map, slice_get}
-use Rattle.std.proofs.lemmas.Option.{slice_get-get_or}
+use Rattle.std.proofs.Common.{◌≡◌, ◌+◌, Some, arith, refl, sym, ◌∙◌}
+use Rattle.std.specs.Prelude.{slice_get}
 use Rattle.vm_model.specs.Machine.{Region, locks}
 use Rattle.vm_model.proofs.Machines.Taking.{from_some}
 use Rattle.regions.specs.AddressSpace.{view_of}

@@ -1,4 +1,4 @@
-use Rattle.std.proofs.Common.{◌≡◌, ◌+◌, ◌<◌, ap, arith, length, refl, sym, ◌∙◌}
+use Rattle.std.proofs.Common.{◌+◌, arith, refl, sym, ◌∙◌}
 use Rattle.vm_model.specs.Machine.{locks_any, numbered}
 use Rattle.flat_mm.proofs.Locked.{any_here, any_next, next_numbered}
 use Rattle.flat_mm.proofs.locks.is_locked_page.Goals as goal

@@ -1,4 +1,4 @@
-use Rattle.std.proofs.Common.{◌≡◌, ◌+◌, ◌∙◌, ◌≤◌, Err, List, Ok, Option, Some, arith, refl, subst, sym, ℕ}
+use Rattle.std.proofs.Common.{◌≡◌, ◌+◌, ◌∙◌, Err, Ok, Option, Some, arith, refl, subst}
 use Rattle.std.specs.Prelude.{IfSome, Result}
 use Rattle.vm_ids.specs.Held.{Held, page_of}
 use Rattle.vm_port.specs.declared.traits.failed.Failed.{Failed}

@@ -1,6 +1,6 @@
-use Rattle.std.proofs.Common.{◌≡◌, ◌∙◌, ◌-◌, [], set, map, List, None, Option, Some, ap, arith, length, refl, subst, sym, true, false, ℕ}
+use Rattle.std.proofs.Common.{◌≡◌, ◌∙◌, map, List, None, Option, Some, ap, length, refl, subst, sym, true, false, ℕ}
 use Rattle.std.specs.List.{list_any}
-use Rattle.std.specs.Prelude.{IfSome, IsSome, Ok, Err, option_map}
+use Rattle.std.specs.Prelude.{IfSome, IsSome, Ok, option_map}
 use Rattle.vm_ids.specs.declared.command.Command.TheVariants as commands
 use Rattle.vm_ids.specs.declared.refusal.Refusal.TheVariants as refusals
 use Rattle.vm_model.specs.Answering.{is_mapped, maps_in}
@@ -13,7 +13,7 @@ use Rattle.vm_model.specs.Synchronised.{ArePushed}
 use Rattle.vm_model.proofs.Parts.Lists.{numbered-map}
 use Rattle.flat_mm.specs.Extents.{IsPushed}
 use Rattle.flat_mm.specs.Manager.{AreKept, IsManagerSound, Manager, caches_in, machine_in, plain, sizes_in}
-use Rattle.flat_mm.specs.Store.{AreWhole, Cache, Store}
+use Rattle.flat_mm.specs.Store.{Cache, Store}
 use Rattle.flat_mm.proofs.Acting.{pages_sized, sizes_plain}
 use Rattle.flat_mm.proofs.Destroying.{destroy_failed, destroy_none, destroy_used, destroyed_call, dropped_whole, left, left_machine, left_sound, plain_alive, told_left}
 use Rattle.flat_mm.proofs.Extents.{refused_call}

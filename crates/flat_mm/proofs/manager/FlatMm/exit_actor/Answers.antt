@@ -1,5 +1,4 @@
-use Rattle.std.proofs.Common.{◌≡◌, Ok, Err, ap, refl, sym, ◌∙◌, true, false}
-use Rattle.std.specs.Prelude.{None}
+use Rattle.std.proofs.Common.{Ok, Err, ap, refl, sym, ◌∙◌, true, false}
 use Rattle.vm_ids.specs.declared.command.Command.TheVariants as commands
 use Rattle.vm_ids.specs.declared.refusal.Refusal.TheVariants as refusals
 use Rattle.vm_ids.specs.declared.reply.Reply.TheVariants as replies

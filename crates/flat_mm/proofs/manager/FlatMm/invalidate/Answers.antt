@@ -1,23 +1,21 @@
-use Rattle.std.proofs.Common.{◌≡◌, ◌+◌, ◌∙◌, ◌<◌, ◌≤◌, [], Err, List, Ok, Option, Some, ap, arith, false, length, refl, subst, sym, ℕ}
+use Rattle.std.proofs.Common.{◌≡◌, ◌+◌, ◌∙◌, ◌<◌, ◌≤◌, [], Err, Ok, ap, arith, false, length, subst, sym}
 use Rattle.std.proofs.lemmas.List.{length-replicate}
-use Rattle.std.specs.Prelude.{IfSome, Result, nat_lt}
+use Rattle.std.specs.Prelude.{Result}
 use Rattle.vm_port.specs.declared.traits.failed.Failed.{Failed}
 use Rattle.std.proofs.lemmas.Bool.Decides.{nat_tests}
 use Rattle.vm_ids.specs.declared.command.Command.TheVariants as commands
-use Rattle.vm_ids.specs.declared.refusal.Refusal.TheVariants as refusals
 use Rattle.vm_ids.specs.declared.reply.FaultAt.TheVariants as faults
 use Rattle.vm_ids.specs.declared.reply.Reply.TheVariants as replies
 use Rattle.vm_ids.specs.declared.reply.Trouble.TheVariants as troubles
 use Rattle.vm_model.specs.Answering.{held_for, is_any_locked}
-use Rattle.vm_model.specs.Machine.{numbered}
-use Rattle.gmi_calls.specs.Calling.{Fits, MapperCall}
+use Rattle.gmi_calls.specs.Calling.{MapperCall}
 use Rattle.gmi_calls.proofs.Accessing.{asked_pages}
 use Rattle.flat_mm.specs.Extents.{IsExtent}
 use Rattle.flat_mm.specs.Manager.{IsManagerSound, IsValid, Manager, flat, machine_in, room_of}
-use Rattle.flat_mm.specs.Store.{AreWhole, Store, put_pages, with_cache, zeros}
+use Rattle.flat_mm.specs.Store.{Store, put_pages, with_cache, zeros}
 use Rattle.flat_mm.proofs.Destroying.{dropped_whole}
 use Rattle.flat_mm.proofs.Extents.{extent_named, extent_within, refused_call}
-use Rattle.flat_mm.proofs.Filling.{IsReloosed, filled, filled_many, given_up}
+use Rattle.flat_mm.proofs.Filling.{IsReloosed, filled, given_up}
 use Rattle.flat_mm.proofs.Invalidating.{exchanged, invalidate_call, invalidate_failed, invalidate_full, invalidate_lacks, invalidate_sound, part_of}
 use Rattle.flat_mm.proofs.Putting.{puts}
 use Rattle.flat_mm.proofs.manager.FlatMm.invalidate.Given.{Over}

@@ -1,4 +1,4 @@
-use Rattle.std.proofs.Common.{◌≡◌, ap, refl, subst, sym, ◌∙◌}
+use Rattle.std.proofs.Common.{◌≡◌, subst}
 use Rattle.std.specs.Prelude.{IfErr, IfOk, Err}
 use Rattle.vm_model.specs.Machine.{numbered}
 use Rattle.vm_model.specs.Place.{place, place_of_actor}

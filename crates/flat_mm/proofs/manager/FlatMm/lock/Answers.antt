@@ -1,6 +1,5 @@
-use Rattle.std.proofs.Common.{◌≡◌, ◌∙◌, Bool, true, false, Ok, Err, Some, None, ap, refl, subst, sym}
+use Rattle.std.proofs.Common.{◌≡◌, ◌∙◌, true, false, Ok, Err, ap, refl, subst, sym}
 use Rattle.std.specs.Prelude.{is_some}
-use Rattle.vm_ids.specs.declared.command.Command.{Command}
 use Rattle.vm_ids.specs.declared.command.Command.TheVariants as commands
 use Rattle.vm_ids.specs.declared.numbers.RegionId.{RegionId}
 use Rattle.vm_ids.specs.declared.refusal.Refusal.TheVariants as refusals
@@ -11,8 +10,7 @@ use Rattle.vm_model.specs.Regions.{region_with, with_lock}
 use Rattle.contexts.specs.Actors.{Actors, machine_with}
 use Rattle.contexts.proofs.Placing.{right_with_locked}
 use Rattle.contexts.proofs.RegionRows.{IsToldOf, lock_limit, lock_locked, lock_none, lock_row, told_of, untold_of, with_locked}
-use Rattle.gmi_calls.specs.Calling.{MapperCall}
-use Rattle.flat_mm.specs.Manager.{IsManagerSound, Manager, caches_in, flat, sizes_in}
+use Rattle.flat_mm.specs.Manager.{IsManagerSound, caches_in, sizes_in}
 use Rattle.flat_mm.proofs.Acting.{IsOfActors, acted_sound, length_replaced}
 use Rattle.flat_mm.proofs.Handed.{handed, handed_back, lock_undone, locked_found}
 use Rattle.flat_mm.proofs.manager.FlatMm.lock.Goals.{After-set_locked, After-set_locked-then-passes_lock_limit, In-Some}

@@ -1,4 +1,4 @@
-use Rattle.std.proofs.Common.{◌+◌, ◌≤◌, arith, ap, length, sym, ◌∙◌}
+use Rattle.std.proofs.Common.{◌+◌, ◌≤◌, arith, ap, length}
 use Rattle.std.proofs.lemmas.Bool.Decides.{nat_tests}
 use Rattle.vm_model.proofs.Machines.Locks.{locked_within, one_cache_more}
 use Rattle.flat_mm.specs.Manager.{Manager, machine_in}

@@ -1,4 +1,4 @@
-use Rattle.std.proofs.Common.{◌≡◌, ◌+◌, ◌<◌, ◌≤◌, Ok, Err, ap, arith, length, refl, subst, sym, ◌∙◌, false}
+use Rattle.std.proofs.Common.{◌≡◌, ◌+◌, ◌<◌, ◌≤◌, Err, ap, arith, length, refl, subst, sym, ◌∙◌, false}
 use Rattle.std.specs.Prelude.{nat_le, nat_lt, Result}
 use Rattle.std.proofs.lemmas.Bool.Decides.{nat_tests}
 use Rattle.vm_ids.specs.declared.command.Command.TheVariants as commands
@@ -13,7 +13,7 @@ use Rattle.vm_model.specs.Machine.{live_pages}
 use Rattle.gmi_calls.specs.Calling.{CallDone}
 use Rattle.flat_mm.specs.Manager.{Manager, flat, machine_in, room_of}
 use Rattle.flat_mm.proofs.Acting.{stayed}
-use Rattle.flat_mm.proofs.Making.{few_made, made_call, made_many, made_sound, temp_full, temp_large, temp_lacks, temp_many}
+use Rattle.flat_mm.proofs.Making.{few_made, made_call, made_sound, temp_full, temp_large, temp_lacks, temp_many}
 use Rattle.flat_mm.proofs.manager.FlatMm.make_temp.Goals.{Else-has_made_all, Else-lacks_room, Else-passes_live_pages, Joined-make, in-Ok, in-Err}
 use Rattle.flat_mm.proofs.manager.FlatMm.make_temp.Goals as goal
 

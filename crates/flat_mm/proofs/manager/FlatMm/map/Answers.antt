@@ -1,20 +1,17 @@
-use Rattle.std.proofs.Common.{◌≡◌, ◌∙◌, Bool, true, false, List, Option, Some, None, Ok, Err, ap, length, map, refl, subst, sym}
-use Rattle.std.specs.Prelude.{is_some, option_map, Result}
-use Rattle.std.proofs.lemmas.Bool.{not-false, not-true}
+use Rattle.std.proofs.Common.{◌≡◌, ◌∙◌, Option, Ok, Err, ap, length, refl, subst, sym}
+use Rattle.std.specs.Prelude.{option_map, Result}
 use Rattle.vm_ids.specs.declared.command.Command.TheVariants as commands
 use Rattle.vm_ids.specs.declared.numbers.RegionId.{RegionId}
-use Rattle.vm_ids.specs.declared.refusal.Refusal.TheVariants as refusals
 use Rattle.vm_ids.specs.declared.reply.Reply.TheVariants as replies
 use Rattle.vm_ids.specs.declared.reply.Trouble.{Trouble}
 use Rattle.vm_ids.specs.declared.reply.Trouble.TheVariants as troubles
-use Rattle.vm_model.specs.Answering.{answer_by, reply, without_region}
+use Rattle.vm_model.specs.Answering.{answer_by, reply}
 use Rattle.vm_model.specs.Machine.{numbered}
-use Rattle.vm_model.specs.Regions.{region_with, with_prot, with_lock}
-use Rattle.contexts.specs.Actors.{Actors, machine_with, split_refusal, with_region, with_split}
+use Rattle.contexts.specs.Actors.{Actors, machine_with, with_region}
 use Rattle.gmi_calls.specs.Calling.{CallDone}
-use Rattle.flat_mm.specs.Manager.{IsManagerSound, Manager, caches_in, flat, sizes_in}
-use Rattle.flat_mm.proofs.Acting.{acted, acted_sound, length_replaced, sizes_plain, stayed}
-use Rattle.std.proofs.Common.{◌-◌, ℕ, set}
+use Rattle.flat_mm.specs.Manager.{caches_in, flat, sizes_in}
+use Rattle.flat_mm.proofs.Acting.{acted, acted_sound, sizes_plain, stayed}
+use Rattle.std.proofs.Common.{◌-◌, ℕ}
 use Rattle.std.proofs.lemmas.List.{length-set}
 use Rattle.vm_model.specs.Answering.{insert_region}
 use Rattle.contexts.specs.Actors.{next_region}

@@ -1,4 +1,4 @@
-use Rattle.std.proofs.Common.{◌+◌, Ok, false, true, arith, refl, subst, sym}
+use Rattle.std.proofs.Common.{◌+◌, false, true, arith, subst, sym}
 use Rattle.gmi_calls.proofs.Rising.{asked_alike, asked_none}
 use Rattle.flat_mm.specs.Manager.{IsValid, machine_in}
 use Rattle.flat_mm.proofs.WriteAccess.{all_passed, asked_err, asked_ok, none_passed, one_is_denied, passed_more}

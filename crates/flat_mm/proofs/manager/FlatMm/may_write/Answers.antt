@@ -1,13 +1,13 @@
-use Rattle.std.proofs.Common.{◌≡◌, ◌+◌, ◌<◌, ◌≤◌, Ok, Some, None, true, ap, arith, refl, subst, sym, ◌∙◌, ℕ, Option}
+use Rattle.std.proofs.Common.{◌≡◌, Ok, Some, true, ap, arith, refl, subst, sym, ◌∙◌}
 use Rattle.std.specs.Prelude.{IsSome, option_and_then, option_map}
 use Rattle.vm_ids.specs.declared.numbers.SegId.{SegId}
-use Rattle.vm_model.specs.Machine.{numbered, pages_in, segment_of}
+use Rattle.vm_model.specs.Machine.{numbered, segment_of}
 use Rattle.vm_model.proofs.Parts.Naming.{segment_names}
 use Rattle.vm_port.specs.declared.traits.failed.Failed.{Failed}
 use Rattle.gmi_calls.specs.Reaching.{Asked}
 use Rattle.gmi_calls.proofs.Accessing.{asked_pages}
 use Rattle.gmi_calls.proofs.Rising.{asked_none, asked_then, on_err, one_failed}
-use Rattle.flat_mm.specs.Manager.{Manager, caches_in, machine_in}
+use Rattle.flat_mm.specs.Manager.{Manager, machine_in}
 use Rattle.flat_mm.specs.Store.{Cache, Page}
 use Rattle.flat_mm.specs.Store as store
 use Rattle.flat_mm.proofs.Accesses.{changed_free, page_some, page_there, segment_plain}

@@ -1,4 +1,4 @@
-use Rattle.std.proofs.Common.{◌≡◌, ◌+◌, ◌-◌, ◌++◌, ◌∷◌, ◌∙◌, ◌<◌, ◌≤◌, [], Bool, Err, List, Ok, Option, Some, ap, arith, false, length, refl, subst, sym, true, ℕ}
+use Rattle.std.proofs.Common.{◌≡◌, ◌+◌, ◌-◌, ◌++◌, ◌∷◌, ◌∙◌, ◌<◌, ◌≤◌, [], Bool, Err, Ok, Option, Some, ap, arith, false, length, subst, sym, true}
 use Rattle.std.specs.FinMap.{get}
 use Rattle.std.specs.List.{list_any}
 use Rattle.std.specs.Prelude.{Result, is_some, nat_le, nat_lt}
@@ -23,7 +23,7 @@ use Rattle.gmi_calls.proofs.Opening.{sized_pages}
 use Rattle.gmi_calls.proofs.Rising.{asked_none, asked_then, fault_counted, one_failed, reached_one, reached_then}
 use Rattle.flat_mm.specs.Extents.{ArePulled}
 use Rattle.flat_mm.specs.Manager.{IsManagerSound, IsValid, Manager, flat, machine_in, room_of}
-use Rattle.flat_mm.specs.Store.{Cache, Page, Store, is_of, zeros}
+use Rattle.flat_mm.specs.Store.{Cache, Store, is_of, zeros}
 use Rattle.flat_mm.proofs.Extents.{refused_call}
 use Rattle.flat_mm.proofs.Filling.{IsReloosed, filled, given_up}
 use Rattle.flat_mm.proofs.Opening.{adopt_call, adopt_lacks, adopt_sound, has_named, open_absent, open_failed, open_full, open_lacks, open_many, open_passes, open_used}

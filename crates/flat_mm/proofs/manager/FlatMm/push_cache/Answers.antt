@@ -1,4 +1,4 @@
-use Rattle.std.proofs.Common.{◌≡◌, ◌∙◌, ap, refl, sym}
+use Rattle.std.proofs.Common.{◌∙◌, ap, refl, sym}
 use Rattle.std.specs.Prelude.{option_and_then, option_map}
 use Rattle.vm_ids.specs.Held.{segments_of}
 use Rattle.vm_ids.specs.declared.numbers.SegId.{SegId}

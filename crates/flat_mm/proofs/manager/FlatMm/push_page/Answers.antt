@@ -1,6 +1,6 @@
-use Rattle.std.proofs.Common.{◌≡◌, ◌+◌, Option, Some, false, true, refl, sym, ap, subst, ◌∙◌}
+use Rattle.std.proofs.Common.{◌≡◌, ◌+◌, Some, false, true, sym, ap, subst, ◌∙◌}
 use Rattle.std.specs.Prelude.{Err, Ok, option_map}
-use Rattle.vm_ids.specs.Held.{Held, segments_of, with_page}
+use Rattle.vm_ids.specs.Held.{segments_of, with_page}
 use Rattle.vm_model.specs.Machine.{segment_of}
 use Rattle.vm_model.specs.Synchronised.{ArePushed}
 use Rattle.vm_port.specs.declared.traits.failed.Failed.{Failed}

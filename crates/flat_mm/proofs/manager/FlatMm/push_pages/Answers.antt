@@ -1,4 +1,4 @@
-use Rattle.std.proofs.Common.{◌≡◌, Option, Some, Ok, Err, refl, sym, ap, subst, ◌∙◌, ◌+◌, ◌<◌, ℕ, arith}
+use Rattle.std.proofs.Common.{◌≡◌, Option, Some, Ok, Err, sym, subst, ◌+◌, ◌<◌, ℕ, arith}
 use Rattle.std.specs.Prelude.{Result}
 use Rattle.vm_ids.specs.Held.{segments_of}
 use Rattle.vm_ids.specs.declared.numbers.PageNo.{PageNo}

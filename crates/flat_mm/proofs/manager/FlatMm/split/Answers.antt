@@ -1,22 +1,12 @@
-use Rattle.std.proofs.Common.{◌≡◌, ◌∙◌, ◌+◌, Bool, true, false, List, Option, Some, None, Ok, Err, ap, length, map, refl, subst, sym}
-use Rattle.std.specs.Prelude.{is_some, option_map, Result}
-use Rattle.std.proofs.lemmas.Bool.{not-false, not-true}
+use Rattle.std.proofs.Common.{◌≡◌, ◌∙◌, ◌+◌, None, length, refl, sym}
 use Rattle.vm_ids.specs.declared.command.Command.TheVariants as commands
-use Rattle.vm_ids.specs.declared.numbers.RegionId.{RegionId}
-use Rattle.vm_ids.specs.declared.refusal.Refusal.TheVariants as refusals
 use Rattle.vm_ids.specs.declared.reply.Reply.TheVariants as replies
-use Rattle.vm_ids.specs.declared.reply.Trouble.{Trouble}
-use Rattle.vm_ids.specs.declared.reply.Trouble.TheVariants as troubles
-use Rattle.vm_model.specs.Answering.{answer_by, reply, without_region}
-use Rattle.vm_model.specs.Machine.{numbered}
-use Rattle.vm_model.specs.Regions.{region_with, with_prot, with_lock}
-use Rattle.contexts.specs.Actors.{Actors, machine_with, split_refusal, with_region, with_split}
-use Rattle.contexts.specs.Placed.{AreRight}
+use Rattle.vm_model.specs.Answering.{answer_by}
+use Rattle.contexts.specs.Actors.{Actors, split_refusal, with_split}
 use Rattle.contexts.proofs.Placing.{after_either, right_cut}
 use Rattle.contexts.proofs.RegionRows.{split_outcome}
-use Rattle.gmi_calls.specs.Calling.{CallDone}
-use Rattle.flat_mm.specs.Manager.{IsManagerSound, Manager, caches_in, flat, sizes_in}
-use Rattle.flat_mm.proofs.Acting.{acted, acted_sound, length_replaced, sizes_plain, stayed}
+use Rattle.flat_mm.specs.Manager.{caches_in, sizes_in}
+use Rattle.flat_mm.proofs.Acting.{acted, acted_sound, length_replaced}
 use Rattle.vm_model.specs.Regions.{split_at}
 use Rattle.flat_mm.proofs.manager.FlatMm.split.Goals.{After-split}
 use Rattle.flat_mm.proofs.manager.FlatMm.split.Goals as goal

@@ -1,4 +1,4 @@
-use Rattle.std.proofs.Common.{◌≡◌, ◌+◌, ◌≤◌, true, false, not, ℕ, List, Ok, Err, ap, arith, length, refl, subst, sym, ◌∙◌}
+use Rattle.std.proofs.Common.{◌≡◌, true, not, ℕ, List, Ok, Err, ap, arith, length, subst, sym, ◌∙◌}
 use Rattle.std.specs.Prelude.{IfSome, IsSome}
 use Rattle.std.specs.List.{list_any, range_with_len}
 use Rattle.vm_ids.specs.Held.{segments_in}
@@ -9,7 +9,7 @@ use Rattle.vm_ids.specs.declared.refusal.Refusal.TheVariants as refusals
 use Rattle.vm_ids.specs.declared.reply.Reply.TheVariants as replies
 use Rattle.gmi_calls.specs.Parking.{AccessCall, NoPull}
 use Rattle.flat_mm.specs.Accessing.{IsPlacedAt, place_at}
-use Rattle.flat_mm.specs.Manager.{IsManagerSound, IsValid, Manager, flat, machine_in}
+use Rattle.flat_mm.specs.Manager.{IsValid, Manager, flat, machine_in}
 use Rattle.flat_mm.specs.Store.{Page, Store, with_page}
 use Rattle.flat_mm.specs.Store as store
 use Rattle.vm_model.specs.Answering.{is_denied_page, overwrite}

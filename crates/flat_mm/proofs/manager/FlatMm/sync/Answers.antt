@@ -1,8 +1,6 @@
-use Rattle.std.proofs.Common.{◌≡◌, ◌+◌, ◌≤◌, Err, Ok, arith, refl}
-use Rattle.std.specs.Prelude.{Result}
+use Rattle.std.proofs.Common.{arith, refl}
 use Rattle.vm_ids.specs.declared.command.Command.TheVariants as commands
 use Rattle.vm_ids.specs.declared.command.Extent.{Extent}
-use Rattle.vm_ids.specs.declared.numbers.PageNo.{PageNo}
 use Rattle.flat_mm.proofs.Extents.{IsPushing, all_pushed, extent_named, extent_within, pushing_failed, refused_call, sync_row}
 use Rattle.flat_mm.proofs.manager.FlatMm.sync.Goals as goal
 

@@ -1,22 +1,17 @@
-use Rattle.std.proofs.Common.{◌≡◌, ◌∙◌, Bool, true, false, List, Option, Some, None, Ok, Err, ap, length, map, refl, subst, sym}
-use Rattle.std.specs.Prelude.{is_some, option_map, Result}
+use Rattle.std.proofs.Common.{◌≡◌, ◌∙◌, false, Ok, Err, ap, refl, subst, sym}
+use Rattle.std.specs.Prelude.{is_some}
 use Rattle.std.proofs.lemmas.Bool.{not-false, not-true}
 use Rattle.vm_ids.specs.declared.command.Command.TheVariants as commands
-use Rattle.vm_ids.specs.declared.numbers.RegionId.{RegionId}
 use Rattle.vm_ids.specs.declared.refusal.Refusal.TheVariants as refusals
 use Rattle.vm_ids.specs.declared.reply.Reply.TheVariants as replies
-use Rattle.vm_ids.specs.declared.reply.Trouble.{Trouble}
 use Rattle.vm_ids.specs.declared.reply.Trouble.TheVariants as troubles
-use Rattle.vm_model.specs.Answering.{answer_by, reply, without_region}
-use Rattle.vm_model.specs.Machine.{numbered}
-use Rattle.vm_model.specs.Regions.{region_with, with_prot, with_lock}
-use Rattle.contexts.specs.Actors.{Actors, machine_with, split_refusal, with_region, with_split}
-use Rattle.contexts.specs.Placed.{AreRight}
+use Rattle.vm_model.specs.Answering.{reply}
+use Rattle.vm_model.specs.Regions.{with_lock}
+use Rattle.contexts.specs.Actors.{Actors, machine_with}
 use Rattle.contexts.proofs.Placing.{right_with_locked}
 use Rattle.contexts.proofs.RegionRows.{IsToldOf, told_of, unlock_none, unlock_not, unlock_row, untold_of, with_locked}
-use Rattle.gmi_calls.specs.Calling.{CallDone}
-use Rattle.flat_mm.specs.Manager.{IsManagerSound, Manager, caches_in, flat, sizes_in}
-use Rattle.flat_mm.proofs.Acting.{acted, acted_sound, length_replaced, sizes_plain, stayed}
+use Rattle.flat_mm.specs.Manager.{IsManagerSound, caches_in, sizes_in}
+use Rattle.flat_mm.proofs.Acting.{acted, acted_sound, length_replaced, stayed}
 use Rattle.flat_mm.proofs.manager.FlatMm.unlock.Goals.{After-set_locked, In-Some}
 use Rattle.flat_mm.proofs.manager.FlatMm.unlock.Goals as goal
 

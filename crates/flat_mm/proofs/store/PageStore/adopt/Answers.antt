@@ -1,5 +1,4 @@
-use Rattle.std.proofs.Common.{◌∙◌, ap, sym, List, ◌++◌, ◌∷◌, [], Some, Option}
-use Rattle.flat_mm.specs.Frames.{Framed}
+use Rattle.std.proofs.Common.{◌∙◌, ap, List, ◌++◌, ◌∷◌, [], Some}
 use Rattle.flat_mm.specs.declared.framed.FramedPage.{FramedPage}
 use Rattle.flat_mm.proofs.Framing.{whole_seen}
 use Rattle.flat_mm.proofs.Loosening.{adopted}

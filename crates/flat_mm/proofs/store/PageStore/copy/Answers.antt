@@ -1,10 +1,9 @@
-use Rattle.std.proofs.Common.{◌≡◌, ◌≢◌, ◌∙◌, true, ap, arith, length, sym, refl, subst, List, ℕ, Option, Some}
-use Rattle.std.specs.Prelude.{IsSome}
+use Rattle.std.proofs.Common.{◌≡◌, ◌∙◌, true, ap, arith, sym, List, Option, Some}
 use Rattle.std.specs.Vec.{with_items}
 use Rattle.std.proofs.lemmas.List.{with_items_is}
 use Rattle.frame_pool.specs.Pool.{bytes_of}
 use Rattle.flat_mm.specs.Frames.{Framed, framed_at}
-use Rattle.flat_mm.specs.Store.{Page, Store, page_at, with_page}
+use Rattle.flat_mm.specs.Store.{Store, page_at, with_page}
 use Rattle.flat_mm.proofs.Framing.{IsWritten, apart_frames, bytes_long, found_seen, found_within, marked_within, told_there, whole_seen, wrote}
 use Rattle.flat_mm.proofs.store.PageStore.copy.Goals.{After-copy, After-copy-arg-1}
 use Rattle.flat_mm.proofs.store.PageStore.copy.Goals as goal

@@ -1,6 +1,6 @@
 use Rattle.std.proofs.Common.{◌≤◌, ◌-◌, ap, arith, length, refl}
 use Rattle.std.proofs.lemmas.List.{length-take-le}
-use Rattle.flat_mm.specs.Store.{Page, Store}
+use Rattle.flat_mm.specs.Store.{Store}
 use Rattle.flat_mm.proofs.Loosening.{dropped, dropped_all}
 use Rattle.flat_mm.proofs.store.PageStore.drop_loose.Goals.{After-drop_one}
 use Rattle.flat_mm.proofs.store.PageStore.drop_loose.Goals as goal

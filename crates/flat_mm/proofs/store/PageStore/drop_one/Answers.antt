@@ -1,4 +1,4 @@
-use Rattle.std.proofs.Common.{◌≡◌, ◌∙◌, ◌+◌, ◌-◌, ap, length, sym, subst, take}
+use Rattle.std.proofs.Common.{◌∙◌, ◌+◌, ◌-◌, ap, length, sym, subst, take}
 use Rattle.frame_pool.specs.Pool.{Frames}
 use Rattle.flat_mm.specs.Layout.{IsFramed, store_shown}
 use Rattle.flat_mm.specs.Store.{Store}

@@ -1,4 +1,4 @@
-use Rattle.std.proofs.Common.{◌≡◌, ◌∙◌, ◌+◌, ◌-◌, ◌≤◌, ap, arith, drop, length, set, subst, sym, take, List, [], Option, Some}
+use Rattle.std.proofs.Common.{◌≡◌, ◌∙◌, ◌-◌, ap, arith, drop, length, set, subst, sym, take, List, [], Option, Some}
 use Rattle.std.specs.Prelude.{IsSome}
 use Rattle.std.specs.Option.{option_map_or}
 use Rattle.std.specs.Vec.{with_items}
@@ -8,7 +8,7 @@ use Rattle.vm_model.specs.Answering.{overwrite}
 use Rattle.vm_model.proofs.Parts.Lists.{found_is}
 use Rattle.flat_mm.specs.Frames.{Framed}
 use Rattle.flat_mm.specs.Layout.{IsFramed, store_shown}
-use Rattle.flat_mm.specs.Store.{Cache, Page, Store, put_pages, size_of, with_cache}
+use Rattle.flat_mm.specs.Store.{Cache, Store, put_pages, with_cache}
 use Rattle.flat_mm.specs.declared.framed.FramedPage.{FramedPage}
 use Rattle.flat_mm.proofs.Framing.{alive_some, size_some, whole_seen}
 use Rattle.flat_mm.proofs.Loosening.{exchanged_seen, exchanged_sound}

@@ -1,6 +1,6 @@
-use Rattle.std.proofs.Common.{◌∙◌, ap, sym, List, Option}
+use Rattle.std.proofs.Common.{◌∙◌, ap, sym}
 use Rattle.std.specs.List.{list_any}
-use Rattle.flat_mm.specs.Frames.{Framed, is_framed_of}
+use Rattle.flat_mm.specs.Frames.{is_framed_of}
 use Rattle.flat_mm.specs.Store.{Store, is_of}
 use Rattle.flat_mm.proofs.Framing.{any_seen}
 use Rattle.flat_mm.proofs.store.PageStore.has.Goals as goal

@@ -3,9 +3,8 @@ use Rattle.std.specs.Prelude.{IfSome, OnOk, slice_get}
 use Rattle.std.proofs.lemmas.Option.{slice_get-get_or}
 use Rattle.frame_pool.specs.Lending.{refill}
 use Rattle.frame_pool.specs.Pool.{bytes_of, with_bytes}
-use Rattle.vm_ids.specs.Held.{Held, page_of}
-use Rattle.flat_mm.specs.Layout.{IsFramed, store_shown}
-use Rattle.flat_mm.specs.Store.{Page, Store, with_loose}
+use Rattle.vm_ids.specs.Held.{page_of}
+use Rattle.flat_mm.specs.Store.{Store, with_loose}
 use Rattle.flat_mm.specs.declared.framed.FramedPage.{FramedPage}
 use Rattle.flat_mm.proofs.Framing.{refilled, whole_seen}
 use Rattle.flat_mm.proofs.Loosening.{filled_seen, filled_sound, loose_within}

@@ -1,9 +1,8 @@
-use Rattle.std.proofs.Common.{◌≡◌, ◌∙◌, false, ap, arith, length, sym, List, ℕ}
+use Rattle.std.proofs.Common.{◌∙◌, false, ap, arith, sym}
 use Rattle.std.specs.Vec.{with_items}
 use Rattle.std.proofs.lemmas.List.{with_items_is}
 use Rattle.frame_pool.specs.Pool.{bytes_of}
-use Rattle.flat_mm.specs.Layout.{caches_shown}
-use Rattle.flat_mm.specs.Store.{Page, Store, page_at, with_page}
+use Rattle.flat_mm.specs.Store.{Store, page_at, with_page}
 use Rattle.flat_mm.proofs.Framing.{IsWritten, marked_seen, remarked, whole_seen}
 use Rattle.flat_mm.proofs.store.PageStore.settle.Goals.{After-self-1}
 use Rattle.flat_mm.proofs.store.PageStore.settle.Goals as goal

@@ -1,4 +1,4 @@
-use Rattle.std.proofs.Common.{◌≡◌, ◌∙◌, ◌≤◌, ◌^◌, ap, arith, length, refl, sym, subst, List, Option, Some}
+use Rattle.std.proofs.Common.{◌≡◌, ◌∙◌, ◌≤◌, ◌^◌, ap, arith, length, sym, List, Option, Some}
 use Rattle.std.specs.Prelude.{option_map}
 use Rattle.vm_model.specs.Machine.{numbered}
 use Rattle.flat_mm.specs.Frames.{Framed}

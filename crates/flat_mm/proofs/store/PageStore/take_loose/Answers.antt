@@ -1,5 +1,5 @@
-use Rattle.std.proofs.Common.{arith, ap, length, refl, subst, sym, ◌∙◌, ◌+◌, []}
-use Rattle.flat_mm.specs.Store.{AreWhole, Store}
+use Rattle.std.proofs.Common.{arith, ap, length, refl, ◌∙◌, ◌+◌, []}
+use Rattle.flat_mm.specs.Store.{Store}
 use Rattle.flat_mm.proofs.Loosening.{taken_back, taken_more, taken_none}
 use Rattle.flat_mm.proofs.store.PageStore.take_loose.Goals as goal
 

@@ -1,7 +1,7 @@
 use Rattle.std.proofs.Common.{◌≡◌, ◌∙◌, ◌++◌, ◌∷◌, [], ◌-◌, ◌≤◌, ap, arith, refl, sym, subst, List}
 use Rattle.frame_pool.specs.Pool.{Frames, with_bytes}
 use Rattle.vm_model.specs.Machine.{zero_page}
-use Rattle.flat_mm.specs.Layout.{IsFramed, free_frames, store_shown}
+use Rattle.flat_mm.specs.Layout.{free_frames, store_shown}
 use Rattle.flat_mm.specs.Store.{Store, zeros}
 use Rattle.flat_mm.specs.declared.framed.FramedPage.{FramedPage}
 use Rattle.flat_mm.proofs.Loosening.{none_free, took_seen}

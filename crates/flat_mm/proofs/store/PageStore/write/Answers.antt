@@ -1,10 +1,10 @@
-use Rattle.std.proofs.Common.{◌≡◌, ◌∙◌, ◌++◌, true, ap, arith, length, sym, take, drop, List, ℕ}
+use Rattle.std.proofs.Common.{◌≡◌, ◌∙◌, true, ap, arith, length, sym, List, ℕ}
 use Rattle.std.specs.Vec.{with_items}
 use Rattle.std.proofs.lemmas.List.{with_items_is}
 use Rattle.frame_pool.specs.Lending.{refill}
 use Rattle.frame_pool.specs.Pool.{Frames, bytes_of, with_bytes}
 use Rattle.vm_model.specs.Answering.{overwrite}
-use Rattle.flat_mm.specs.Store.{Page, Store, page_at, with_page}
+use Rattle.flat_mm.specs.Store.{Store, page_at, with_page}
 use Rattle.flat_mm.proofs.Framing.{IsWritten, marked_seen, marked_within, refilled, whole_seen, wrote}
 use Rattle.flat_mm.proofs.store.PageStore.write.Goals.{After-self-2-1}
 use Rattle.flat_mm.proofs.store.PageStore.write.Goals as goal

@@ -1,8 +1,8 @@
-use Rattle.std.proofs.Common.{◌≡◌, ◌∙◌, true, ap, arith, length, sym}
+use Rattle.std.proofs.Common.{◌∙◌, true, ap, arith}
 use Rattle.std.specs.Vec.{with_items}
 use Rattle.std.proofs.lemmas.List.{length-replicate, with_items_is}
 use Rattle.vm_model.specs.Machine.{zero_page}
-use Rattle.flat_mm.specs.Store.{Page, Store, with_page}
+use Rattle.flat_mm.specs.Store.{Store, with_page}
 use Rattle.flat_mm.proofs.Framing.{IsWritten, marked_within, whole_seen, wrote}
 use Rattle.flat_mm.proofs.store.PageStore.zero.Goals.{After-zero}
 use Rattle.flat_mm.proofs.store.PageStore.zero.Goals as goal
