@@ -14,8 +14,11 @@ mod answering;
 mod commands;
 mod ending;
 mod keeping;
+mod kept_caches;
 pub mod laws;
+mod links;
 mod manager;
+mod named_caches;
 mod openings;
 mod tables;
 

@@ -1,0 +1,33 @@
+-- The caches that segments name, and how the cache of a segment is found.
+use Rattle.std.specs.Prelude.{◌≡◌, ◌≢◌, ◌==◌, ◌<◌, nat_eq, ℕ, List, [], ◌∷◌, Option, Some, None, slice_get, slice_set, if◌then◌else◌}
+use Rattle.std.specs.List.{AllByRecursion}
+use Rattle.std.specs.Map.{lookup}
+use Rattle.std.specs.Option.{option_map_or}
+use Rattle.vm_ids.specs.declared.numbers.CacheId.{CacheId}
+use Rattle.seg_manager.specs.declared.tables.Named.{Named}
+
+-- the caches in the order of their numbers, and for how many more there is memory
+pub record Names : Type 0 where
+  pub items : List Named
+  pub spare : ℕ
+
+-- the numbers rise, and no two are of one segment
+abbrev pub AreNamed : List Named → Type 0
+AreNamed [] = Unit {0}
+AreNamed (c ∷ cs) =
+    AllByRecursion (λ (d : Named). (c.cache.0 < d.cache.0) × (c.seg.0 ≢ d.seg.0)) cs × AreNamed cs
+
+-- the cache of a segment
+abbrev pub cache_in : List Named → ℕ → Option CacheId
+cache_in [] seg = None
+cache_in (c ∷ cs) seg = if c.seg.0 == seg then Some c.cache else cache_in cs seg
+
+-- these entries lead from each segment to its cache
+pub record AreIndexed (cs : List Named) (entries : List (ℕ × CacheId)) : Type 0 where
+  pub named : AreNamed cs
+  pub found : (seg : ℕ) → lookup (nat_eq seg) entries ≡ cache_in cs seg
+
+-- so many openings of a segment, whose cache stands at this place, weren't taken back
+abbrev pub with_openings : List Named → ℕ → ℕ → List Named
+with_openings cs place openings =
+    option_map_or (λ (c : Named). slice_set cs place (record c { openings = openings })) (slice_get cs place) cs
