@@ -1,3 +1,5 @@
+pub mod Placed
+pub mod Linking
 pub mod Naming
 pub mod Played
 pub mod Reopening

@@ -1,5 +1,5 @@
 -- Links that are found by the numbers of their caches.
-use Rattle.std.specs.Prelude.{◌≡◌, ◌==◌, ◌≤◌, refl, ℕ, List, Option, Some, None, option_map, slice_get, if◌then◌else◌}
+use Rattle.std.specs.Prelude.{◌≡◌, ◌==◌, ◌≤◌, ℕ, List, length, Option, Some, None, option_map, slice_get, if◌then◌else◌}
 use Rattle.std.specs.Ordering.{nat_cmp}
 use Rattle.std.specs.FinMap.{FinMap, get}
 use Rattle.vm_ids.specs.declared.numbers.CacheId.{CacheId}
@@ -23,14 +23,13 @@ link_at links (Some place) = slice_get links place
 abbrev pub link_of : Linked → ℕ → Option Link
 link_of l n = link_at l.links (get l.places n)
 
--- a number leads to the place of its link and to no other, and there is memory
-pub record ArePlaced (links : List Link) (places : FinMap nat_cmp ℕ) (room capacity : ℕ)
-    : Type 0 where
+-- a number leads to the place of its link and to no other, and there is room for all
+pub record ArePlaced (links : List Link) (places : FinMap nat_cmp ℕ) (room : ℕ) : Type 0 where
   pub at : (i : ℕ) (x : Link) → slice_get links i ≡ Some x
       → get places x.kept.cache.0 ≡ Some i
   pub back : (n i : ℕ) → get places n ≡ Some i
       → option_map (λ (x : Link). x.kept.cache.0) (slice_get links i) ≡ Some n
-  pub fits : room ≤ capacity
+  pub few : length links ≤ room
 
 -- what comes after a cache, or before it
 abbrev pub with_after : Option CacheId → Link → Link

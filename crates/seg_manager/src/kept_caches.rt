@@ -1,7 +1,8 @@
 // The caches that are kept.
-ghost use Rattle.std.specs.Prelude.{◌≡◌, ◌≤◌, ◌<◌, ◌+◌, ◌++◌, ◌∷◌, [], drop, filter, length, not, slice_get, OnOk, IsTrue, ◌↔◌};
+ghost use Rattle.std.specs.Prelude.{◌≡◌, ◌≤◌, ◌<◌, ◌+◌, ◌++◌, ◌∷◌, [], drop, filter, length, not, option_map, slice_get, OnOk, IsTrue, ◌↔◌};
 ghost use Rattle.seg_manager.specs.Inner.{is_of};
-ghost use Rattle.seg_manager.specs.Seen.{AreOnce, is_kept};
+ghost use Rattle.seg_manager.specs.Keeps.{AreOnce, is_kept};
+ghost use Rattle.seg_manager.specs.declared.tables.Kept.{Kept};
 
 use crate::links::{Link, Links};
 use crate::tables::Kept;
@@ -17,7 +18,8 @@ pub(crate) struct KeptCaches {
 }
 
 impl Model for KeptCaches {
-    ghost use Rattle.seg_manager.specs.Ring.{IsRing, Keeps, items_of};
+    ghost use Rattle.seg_manager.specs.Keeps.{Keeps};
+    ghost use Rattle.seg_manager.specs.Ring.{IsRing, items_of};
 
     ghost Value = { Keeps };
 

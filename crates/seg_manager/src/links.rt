@@ -26,24 +26,31 @@ pub(crate) struct Links {
     links: Vec<Link>,
     first: Option<CacheId>,
     last: Option<CacheId>,
+    // For so many there is memory.
+    room: u32,
 }
 
 impl Model for Links {
-    ghost use Rattle.std.specs.Prelude.{vec_capacity};
+    ghost use Rattle.std.specs.Prelude.{◌≤◌, vec_capacity};
+    ghost use Rattle.std.specs.Coded.{codes, coded_ℕ};
+    ghost use Rattle.std.specs.FinMap as map;
+    ghost use Rattle.std.specs.Ordering.{nat_cmp};
     ghost use Rattle.seg_manager.specs.Linked.{ArePlaced, Linked};
 
     ghost Value = { Linked };
+
+    ghost coded = { Prim.hlevel (codes, map.code {R = nat_cmp} coded_ℕ coded_ℕ) };
 
     ghost view = { λ l. record {
       links = l.links.items;
       places = l.index.places;
       first = l.first;
       last = l.last;
-      room = l.index.room;
+      room = l.room;
     } };
 
-    ghost invariant = { λ l. ArePlaced l.links.items l.index.places l.index.room
-        (vec_capacity l.links) };
+    ghost invariant = { λ l. (l.room ≤ l.index.room) × (l.room ≤ vec_capacity l.links)
+        × ArePlaced l.links.items l.index.places l.room };
 }
 
 impl Links {
@@ -57,6 +64,7 @@ impl Links {
             links: Vec::new(alloc),
             first: None,
             last: None,
+            room: 0,
         }
     }
 
@@ -66,9 +74,13 @@ impl Links {
         ensures less { self.old.room ≤ self.new.room }
         ensures same { self.new ≡ record self.old { room = self.new.room } }
     {
-        let more = (room as usize).saturating_sub(self.links.len());
-        self.links.reserve(more)?;
-        self.index.reserve(room)
+        if room > self.room {
+            let more = (room as usize).saturating_sub(self.links.len());
+            self.links.reserve(more)?;
+            self.index.reserve(room)?;
+            self.room = room;
+        }
+        Ok(())
     }
 
     // How many there are.
@@ -174,11 +186,12 @@ impl Links {
         let place = self.index.find(cache.0 as u64)?;
         self.index.leave(cache.0 as u64, place);
         let last = self.links.len() - 1;
-        if (place as usize) < last {
-            let moved = self.links[last].kept.cache.0 as u64;
-            self.index.leave(moved, last as u32);
-            self.index.enter(moved, place);
+        if place as usize == last {
+            return Some(self.links.swap_remove(last));
         }
+        let moved = self.links[last].kept.cache.0 as u64;
+        self.index.leave(moved, last as u32);
+        self.index.enter(moved, place);
         Some(self.links.swap_remove(place as usize))
     }
 }
