@@ -1,3 +1,5 @@
+pub mod Named
+pub mod Rings
 pub mod Placed
 pub mod Linking
 pub mod Naming

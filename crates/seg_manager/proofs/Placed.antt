@@ -1,6 +1,6 @@
 -- Links that are found by the numbers of their caches, as one comes, goes or changes.
 use Rattle.std.proofs.Common.{◌≡◌, ◌≢◌, ◌==◌, ℕ, zero, suc, ◌+◌, ◌-◌, ◌<◌, ◌≤◌, Bool, true, false, cond, List, [], ◌∷◌, ◌++◌, length, slice_index_or, Option, Some, None, refl, sym, ap, ◌∙◌, inl, inr, arith}
-use Rattle.std.specs.Prelude.{option_map, slice_get, slice_set}
+use Rattle.std.specs.Prelude.{◌⊎◌, option_map, slice_get, slice_set}
 use Rattle.std.specs.Ordering.{nat_cmp, eq_by_cmp}
 use Rattle.std.specs.Cmp.{nat_cmp_total, unsigned_tied}
 use Rattle.std.specs.FinMap.{FinMap, get, get-empty, get-insert, get-remove}
@@ -58,7 +58,7 @@ module _ {X : Type 0} where
   there_or None = inl refl
   there_or (Some x) = inr (x, refl)
 
-number_of : Link → ℕ
+abbrev number_of : Link → ℕ
 number_of x = x.kept.cache.0
 
 pub placed_none : (links : List Link) (places : FinMap nat_cmp ℕ) (room : ℕ) → links ≡ [] → places ≡ map.empty → ArePlaced links places room
@@ -147,7 +147,7 @@ module _ (links : List Link) (places : FinMap nat_cmp ℕ) (room : ℕ) (p : Are
 
   -- another link comes
   module _ (x : Link) (none : link_at links (get places x.kept.cache.0) ≡ None) (fits : length links < room) where
-    c : ℕ
+    abbrev c : ℕ
     c = x.kept.cache.0
 
     abbrev more : FinMap nat_cmp ℕ
@@ -191,45 +191,49 @@ module _ (links : List Link) (places : FinMap nat_cmp ℕ) (room : ℕ) (p : Are
         unmoved None e = ap (link_at (links ++ x ∷ [])) e ∙ sym (ap (link_at links) e)
         unmoved (Some k) e = ap (link_at (links ++ x ∷ [])) e ∙ push_other links k x (place_within m k e) ∙ sym (ap (link_at links) e)
 
+  -- the number of the link at a place
+  pub named_at : (n i : ℕ) (x : Link) → get places n ≡ Some i → slice_get links i ≡ Some x → x.kept.cache.0 ≡ n
+  named_at n i x e is = one_number x.kept.cache.0 n i (p.at i x is) e
+
   -- a link goes, and the last one takes its place
-  module _ (c i : ℕ) (y : Link) (now : List Link) (less : FinMap nat_cmp ℕ) (placed : get places c ≡ Some i)
-      (last : slice_get links (length links - 1) ≡ Some y) (fewer : length now + 1 ≡ length links)
-      (here : (d : Link) → i + 1 < length links → slice_index_or now i d ≡ slice_index_or links (length links - 1) d)
-      (others : (k : ℕ) (d : Link) → k ≢ i → k + 1 < length links → slice_index_or now k d ≡ slice_index_or links k d)
+  module _ (c i n : ℕ) (len : n ≡ length links) (y : Link) (now : List Link) (less : FinMap nat_cmp ℕ) (placed : get places c ≡ Some i)
+      (last : slice_get links (n - 1) ≡ Some y) (fewer : length now + 1 ≡ n)
+      (here : (d : Link) → i + 1 < n → slice_index_or now i d ≡ slice_index_or links (n - 1) d)
+      (others : (k : ℕ) (d : Link) → k ≢ i → k + 1 < n → slice_index_or now k d ≡ slice_index_or links k d)
       (gone : get less c ≡ None) (moved : y.kept.cache.0 ≢ c → get less y.kept.cache.0 ≡ Some i)
       (same : (m : ℕ) → m ≢ c → m ≢ y.kept.cache.0 → get less m ≡ get places m) where
-    last_at : get places y.kept.cache.0 ≡ Some (length links - 1)
-    last_at = p.at (length links - 1) y last
+    last_at : get places y.kept.cache.0 ≡ Some (n - 1)
+    last_at = p.at (n - 1) y last
 
-    at_other : (k : ℕ) → k ≢ i → k + 1 < length links → slice_get now k ≡ slice_get links k
+    at_other : (k : ℕ) → k ≢ i → k + 1 < n → slice_get now k ≡ slice_get links k
     at_other k apart few =
-        slice_get-get_or now k y (omega (arith, fewer, few)) ∙ ap (λ (z : Link). Some z) (others k y apart few) ∙ sym (slice_get-get_or links k y (omega (arith, few)))
+        slice_get-get_or now k y (omega (arith, len, fewer, few)) ∙ ap (λ (z : Link). Some z) (others k y apart few) ∙ sym (slice_get-get_or links k y (omega (arith, len, few)))
 
-    at_here : i + 1 < length links → slice_get now i ≡ Some y
+    at_here : i + 1 < n → slice_get now i ≡ Some y
     at_here few =
-        slice_get-get_or now i y (omega (arith, fewer, few)) ∙ ap (λ (z : Link). Some z) (here y few) ∙ sym (slice_get-get_or links (length links - 1) y (omega (arith, few))) ∙ last
+        slice_get-get_or now i y (omega (arith, len, fewer, few)) ∙ ap (λ (z : Link). Some z) (here y few) ∙ sym (slice_get-get_or links (n - 1) y (omega (arith, len, few))) ∙ last
 
     -- the last one is another link exactly where the place isn't the last
-    apart_few : y.kept.cache.0 ≢ c → i + 1 < length links
-    apart_few apart = elim (cases_eq i (length links - 1)) [
+    apart_few : y.kept.cache.0 ≢ c → i + 1 < n
+    apart_few apart = elim (cases_eq i (n - 1)) [
       | inl is ↦ absurd (apart (one_number y.kept.cache.0 c i (last_at ∙ ap (λ (k : ℕ). Some k) (sym is)) placed))
-      | inr other ↦ (let less_than = place_within c i placed in omega (arith, other, less_than))
+      | inr other ↦ (let less_than = place_within c i placed in omega (arith, len, other, less_than))
     ]
 
-    few_apart : i + 1 < length links → y.kept.cache.0 ≢ c
+    few_apart : i + 1 < n → y.kept.cache.0 ≢ c
     few_apart few e =
-        let two : Some (length links - 1) ≡ Some i = sym last_at ∙ ap (get places) e ∙ placed in
-        let is : length links - 1 ≡ i = cc two in
-        omega (arith, is, few)
+        let two : Some (n - 1) ≡ Some i = sym last_at ∙ ap (get places) e ∙ placed in
+        let is : n - 1 ≡ i = cc two in
+        omega (arith, len, is, few)
 
     pub placed_less : ArePlaced now less room
     placed_less = record {
       at = λ k z e.
         let inside = slice_get_within now k z e in
-        let few : k + 1 < length links = omega (arith, inside, fewer) in
+        let few : k + 1 < n = omega (arith, len, inside, fewer) in
         elim (cases_eq k i) [
           | inl is ↦
-            let few_i : i + 1 < length links = omega (arith, is, few) in
+            let few_i : i + 1 < n = omega (arith, len, is, few) in
             let two : Some y ≡ Some z = sym (ap (slice_get now) is ∙ at_here few_i) ∙ e in
             let yz : y ≡ z = cc two in
             ap (get less) (ap number_of (sym yz)) ∙ moved (few_apart few_i) ∙ ap (λ (k : ℕ). Some k) (sym is)
@@ -237,7 +241,7 @@ module _ (links : List Link) (places : FinMap nat_cmp ℕ) (room : ℕ) (p : Are
             let was : get places z.kept.cache.0 ≡ Some k = p.at k z (sym (at_other k other few) ∙ e) in
             same z.kept.cache.0
                 (λ s. other (let two : Some k ≡ Some i = sym was ∙ ap (get places) s ∙ placed in cc two))
-                (λ s. let two : Some k ≡ Some (length links - 1) = sym was ∙ ap (get places) s ∙ last_at in let ki : k ≡ length links - 1 = cc two in omega (arith, ki, few))
+                (λ s. let two : Some k ≡ Some (n - 1) = sym was ∙ ap (get places) s ∙ last_at in let ki : k ≡ n - 1 = cc two in omega (arith, len, ki, few))
             ∙ was
         ];
       back = λ m k e. elim (cases_eq m c) [
@@ -253,16 +257,16 @@ module _ (links : List Link) (places : FinMap nat_cmp ℕ) (room : ℕ) (p : Are
             ap (option_map number_of) (at_other k (not_i m k off was) (not_last m k off_last was)) ∙ p.back m k was
         ]
       ];
-      few = omega (arith, p.few, fewer);
+      few = omega (arith, len, p.few, fewer);
     }
       where
         not_i : (m k : ℕ) → m ≢ c → get places m ≡ Some k → k ≢ i
         not_i m k off was is = off (one_number m c i (was ∙ ap (λ (k : ℕ). Some k) is) placed)
 
-        not_last : (m k : ℕ) → m ≢ y.kept.cache.0 → get places m ≡ Some k → k + 1 < length links
-        not_last m k off was = elim (cases_eq k (length links - 1)) [
-          | inl is ↦ absurd (off (one_number m y.kept.cache.0 (length links - 1) (was ∙ ap (λ (k : ℕ). Some k) is) last_at))
-          | inr other ↦ (let within_k = place_within m k was in omega (arith, other, within_k))
+        not_last : (m k : ℕ) → m ≢ y.kept.cache.0 → get places m ≡ Some k → k + 1 < n
+        not_last m k off was = elim (cases_eq k (n - 1)) [
+          | inl is ↦ absurd (off (one_number m y.kept.cache.0 (n - 1) (was ∙ ap (λ (k : ℕ). Some k) is) last_at))
+          | inr other ↦ (let within_k = place_within m k was in omega (arith, len, other, within_k))
         ]
 
     pub links_less : (m : ℕ) → link_at now (get less m) ≡ cond (c == m) None (link_at links (get places m))
@@ -283,8 +287,23 @@ module _ (links : List Link) (places : FinMap nat_cmp ℕ) (room : ℕ) (p : Are
         unmoved (Some k) e off off_last =
             ap (link_at now) e
             ∙ at_other k (λ is. off (one_number c m i placed (e ∙ ap (λ (k : ℕ). Some k) is)))
-              (elim (cases_eq k (length links - 1)) [
-                | inl is ↦ absurd (off_last (one_number m y.kept.cache.0 (length links - 1) (e ∙ ap (λ (k : ℕ). Some k) is) last_at))
-                | inr other ↦ (let within_k = place_within m k e in omega (arith, other, within_k))
+              (elim (cases_eq k (n - 1)) [
+                | inl is ↦ absurd (off_last (one_number m y.kept.cache.0 (n - 1) (e ∙ ap (λ (k : ℕ). Some k) is) last_at))
+                | inr other ↦ (let within_k = place_within m k e in omega (arith, len, other, within_k))
               ])
             ∙ sym (ap (link_at links) e)
+
+-- where the last link's number leads, once it leads to the place of one that goes
+module _ (places less : FinMap nat_cmp ℕ) (c m place : ℕ) (apart : m ≢ c) (is : less ≡ map.insert (map.remove (map.remove places c) m) m place) where
+  pub moved_gone : get less c ≡ None
+  moved_gone =
+      ap (λ (x : FinMap nat_cmp ℕ). get x c) is ∙ insert_other (map.remove (map.remove places c) m) m place c (λ e. apart (sym e))
+      ∙ remove_other (map.remove places c) m c (λ e. apart (sym e)) ∙ remove_same places c c refl
+
+  pub moved_here : get less m ≡ Some place
+  moved_here = ap (λ (x : FinMap nat_cmp ℕ). get x m) is ∙ insert_same (map.remove (map.remove places c) m) m place m refl
+
+  pub moved_same : (q : ℕ) → q ≢ c → q ≢ m → get less q ≡ get places q
+  moved_same q off other =
+      ap (λ (x : FinMap nat_cmp ℕ). get x q) is ∙ insert_other (map.remove (map.remove places c) m) m place q other
+      ∙ remove_other (map.remove places c) m q other ∙ remove_other places c q off

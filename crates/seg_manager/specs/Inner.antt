@@ -112,7 +112,7 @@ pub record OpensAgain {Manager : Type 0} (old : SegManager Manager) (place : ℕ
   pub caches : new.caches.items
       ≡ slice_set old.caches.items place (record named { openings = named.openings + 1 })
   pub kept : new.kept.items ≡ filter (λ k. not (is_of named.cache.0 k)) old.kept.items
-  pub room : new.kept.room ≡ old.kept.room
+  pub capacity : new.kept.room ≡ old.kept.room
   pub same : new ≡ record old { caches = new.caches; kept = new.kept }
 
 -- It is opened once more, or its openings can't be counted.

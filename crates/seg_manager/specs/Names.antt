@@ -1,8 +1,7 @@
 -- The caches that segments name, and how the cache of a segment is found.
-use Rattle.std.specs.Prelude.{◌≡◌, ◌≢◌, ◌==◌, ◌<◌, nat_eq, ℕ, List, [], ◌∷◌, Option, Some, None, slice_get, slice_set, if◌then◌else◌}
+use Rattle.std.specs.Prelude.{◌≡◌, ◌≢◌, ◌==◌, ◌<◌, nat_eq, ℕ, List, [], ◌∷◌, Option, Some, None, if◌then◌else◌}
 use Rattle.std.specs.List.{AllByRecursion}
 use Rattle.std.specs.Map.{lookup}
-use Rattle.std.specs.Option.{option_map_or}
 use Rattle.vm_ids.specs.declared.numbers.CacheId.{CacheId}
 use Rattle.seg_manager.specs.declared.tables.Named.{Named}
 
@@ -26,8 +25,3 @@ cache_in (c ∷ cs) seg = if c.seg.0 == seg then Some c.cache else cache_in cs s
 pub record AreIndexed (cs : List Named) (entries : List (ℕ × CacheId)) : Type 0 where
   pub named : AreNamed cs
   pub found : (seg : ℕ) → lookup (nat_eq seg) entries ≡ cache_in cs seg
-
--- so many openings of a segment, whose cache stands at this place, weren't taken back
-abbrev pub with_openings : List Named → ℕ → ℕ → List Named
-with_openings cs place openings =
-    option_map_or (λ (c : Named). slice_set cs place (record c { openings = openings })) (slice_get cs place) cs

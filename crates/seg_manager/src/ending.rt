@@ -69,7 +69,7 @@ impl<G> SegManager<G> {
         ensures regions { self.new.regions.items ≡ staying leaving self.old.regions.items }
         ensures kept { self.new.kept.items ≡ self.old.kept.items
             ++ unused_then self.old.caches.items leaving self.old.regions.items }
-        ensures room { self.new.kept.room ≡ self.old.kept.room }
+        ensures capacity { self.new.kept.room ≡ self.old.kept.room }
         ensures same { self.new
             ≡ record self.old { kept = self.new.kept; regions = self.new.regions } }
     {

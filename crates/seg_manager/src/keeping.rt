@@ -38,7 +38,7 @@ impl<G> SegManager<G> {
             ≤ self.old.kept.room }
         ensures kept { self.new.kept.items ≡ self.old.kept.items
             ++ unused_in self.old.caches.items self.old.regions.items cache }
-        ensures room { self.new.kept.room ≡ self.old.kept.room }
+        ensures capacity { self.new.kept.room ≡ self.old.kept.room }
         ensures same { self.new ≡ record self.old { kept = self.new.kept } }
     {
         let Some(named) = self.caches.named_with(cache) else {
@@ -107,7 +107,7 @@ impl<G> SegManager<G> {
         ensures { IsDestroyed M.Mapper G.Gmi mapper.old self.old result mapper.new self.new }
     {
         let cache = match self.kept.first() {
-            Some(cache) => cache,
+            Some(first) => first.cache,
             None => unreachable!(),
         };
         match self.gmi.destroy(cache, mapper, chooser) {

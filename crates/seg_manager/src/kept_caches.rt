@@ -1,8 +1,7 @@
 // The caches that are kept.
-ghost use Rattle.std.specs.Prelude.{◌≡◌, ◌≤◌, ◌<◌, ◌+◌, ◌++◌, ◌∷◌, [], drop, filter, length, not, option_map, slice_get, OnOk, IsTrue, ◌↔◌};
+ghost use Rattle.std.specs.Prelude.{◌≡◌, ◌≤◌, ◌<◌, ◌+◌, ◌++◌, ◌∷◌, [], drop, filter, length, not, slice_get, OnOk, IsTrue, ◌↔◌};
 ghost use Rattle.seg_manager.specs.Inner.{is_of};
 ghost use Rattle.seg_manager.specs.Keeps.{AreOnce, is_kept};
-ghost use Rattle.seg_manager.specs.declared.tables.Kept.{Kept};
 
 use crate::links::{Link, Links};
 use crate::tables::Kept;
@@ -73,10 +72,12 @@ impl KeptCaches {
     }
 
     // The least recently used one.
-    pub(crate) fn first(&self) -> Option<CacheId>
-        ensures { result ≡ option_map (λ (k : Kept). k.cache) (slice_get self.now.items 0) }
+    pub(crate) fn first(&self) -> Option<Kept>
+        ensures { result ≡ slice_get self.now.items 0 }
     {
-        self.links.first()
+        let cache = self.links.first()?;
+        let link = self.links.find(cache)?;
+        Some(link.kept)
     }
 
     // Another one, which was used last, and for which there is room.

@@ -1,7 +1,8 @@
 // The caches that segments name.
 ghost use Rattle.std.specs.Prelude.{◌≡◌, ◌≤◌, ◌<◌, ◌+◌, ◌++◌, ◌∷◌, [], Some, filter, length, not, slice_get, slice_set, OnOk};
 ghost use Rattle.seg_manager.specs.Inner.{StandsAt, first_of, first_with, named_with};
-ghost use Rattle.seg_manager.specs.Names.{AreNamed, with_openings};
+ghost use Rattle.seg_manager.specs.Names.{AreNamed};
+ghost use Rattle.seg_manager.specs.declared.tables.Named.{Named};
 
 use crate::tables::Named;
 use std::alloc::{AllocError, Global};
@@ -91,7 +92,9 @@ impl NamedCaches {
     // So many openings of a segment weren't taken back, whose cache stands at a place.
     pub(crate) fn set_openings(&mut self, place: usize, openings: u64)
         requires { place < length self.old.items }
-        ensures items { self.new.items ≡ with_openings self.old.items place openings }
+        ensures items { (named : Named) → slice_get self.old.items place ≡ Some named
+            → self.new.items
+            ≡ slice_set self.old.items place (record named { openings = openings }) }
         ensures spare { self.new.spare ≡ self.old.spare }
     {
         self.list[place].openings = openings;
@@ -138,7 +141,10 @@ fn place_with(caches: &[Named], cache: CacheId) -> Option<usize>
             end = middle;
         }
     }
-    if first < caches.len() && caches[first].cache == cache {
+    if first == caches.len() {
+        return None;
+    }
+    if caches[first].cache == cache {
         Some(first)
     } else {
         None
