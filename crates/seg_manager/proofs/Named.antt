@@ -1,12 +1,14 @@
 -- The caches that segments name, in the order of their numbers.
 use Rattle.std.proofs.Common.{◌≡◌, ◌≢◌, ◌==◌, ℕ, zero, suc, ◌+◌, ◌<◌, ◌≤◌, Bool, true, false, cond, List, [], ◌∷◌, ◌++◌, map, length, Option, Some, None, refl, sym, ap, subst, ◌∙◌, inl, inr, arith}
-use Rattle.std.specs.Prelude.{drop, filter, nat_eq, not, slice_get, slice_set}
+use Rattle.std.specs.Prelude.{drop, filter, nat_eq, not, slice_get, slice_index_or, slice_set}
 use Rattle.std.specs.List.{AllByRecursion, position_from, remove}
 use Rattle.std.specs.Map.{lookup}
 use Rattle.std.specs.Option.{option_map_or}
 use Rattle.std.proofs.lemmas.Bool.{cases_eq, eq-eqb, ne_eqb}
+use Rattle.std.proofs.lemmas.Option.{get_or_from_slice_get}
 use Rattle.vm_ids.specs.Held.{Segments}
 use Rattle.vm_ids.specs.declared.numbers.CacheId.{CacheId}
+use Rattle.vm_ids.specs.declared.numbers.SegId.{SegId}
 use Rattle.vm_model.specs.Machine.{Cache, Machine, segment_of}
 use Rattle.seg_manager.specs.Inner.{first_of, first_with, named_with}
 use Rattle.seg_manager.specs.Names.{AreNamed, cache_in}
@@ -14,7 +16,7 @@ use Rattle.seg_manager.specs.Tying.{AreTied, Naming, naming_at, naming_of, namin
 use Rattle.seg_manager.specs.declared.tables.Kept.{Kept}
 use Rattle.seg_manager.specs.declared.tables.Mapped.{Mapped}
 use Rattle.seg_manager.specs.declared.tables.Named.{Named}
-use Rattle.seg_manager.proofs.Entries.{IsNaming, all_namings, named_entries}
+use Rattle.seg_manager.proofs.Entries.{IsNaming, all_namings, named_entries, still_all}
 
 -- What is tied to the machine is in order
 
@@ -29,11 +31,11 @@ later k cs (x ∷ xs) h = (let at = h.0 in omega (arith, at.2), later k cs xs h.
 namings_rise : (k : ℕ) (cs : List (Option Cache)) → DoRise (namings k cs)
 namings_rise k [] = tt
 namings_rise k (None ∷ cs) = namings_rise (k + 1) cs
-namings_rise k (Some c ∷ cs) = by c.segment
+namings_rise k (Some c ∷ cs) = by c.segment (namings_rise (k + 1) cs)
   where
-    by : (s : Option ℕ) → DoRise (option_map_or (λ seg. (let x : Naming = record { seg = seg; cache = k } in x) ∷ []) s [] ++ namings (k + 1) cs)
-    by None = namings_rise (k + 1) cs
-    by (Some seg) = (later k cs (namings (k + 1) cs) (all_namings (k + 1) cs), namings_rise (k + 1) cs)
+    by : (s : Option ℕ) → DoRise (namings (k + 1) cs) → DoRise (option_map_or (λ seg. (let x : Naming = record { seg = seg; cache = k } in x) ∷ []) s [] ++ namings (k + 1) cs)
+    by None rest = rest
+    by (Some seg) rest = (later k cs (namings (k + 1) cs) (all_namings (k + 1) cs), rest)
 
 module _ (m : Machine) (apart : (i j seg : ℕ) → segment_of m i ≡ Some seg → segment_of m j ≡ Some seg → i ≡ j) where
   in_order : (cs : List Named) → AllByRecursion (λ (d : Named). segment_of m d.cache.0 ≡ Some d.seg.0) cs → DoRise (map naming_of cs) → AreNamed cs
@@ -71,6 +73,16 @@ none_below n (c ∷ cs) (suc i) k d a e less =
     ∙ none_below n cs i (k + 1) d a.1 e less
     ∙ ap (λ (j : ℕ). position_from (first_with n) j (drop (suc i) cs)) (let j : k + 1 + suc i ≡ k + suc (suc i) = omega arith in j)
 
+pub none_before : (n : ℕ) (cs : List Named) (i : ℕ) (d : Named) → AreNamed cs → slice_get cs i ≡ Some d → d.cache.0 < n → position_from (first_with n) 0 cs ≡ position_from (first_with n) (i + 1) (drop (i + 1) cs)
+none_before n cs i d a e less =
+    none_below n cs i 0 d a e less
+    ∙ ap (λ (j : ℕ). position_from (first_with n) j (drop (suc i) cs)) (let j : 0 + suc i ≡ i + 1 = omega arith in j)
+    ∙ ap (λ (j : ℕ). position_from (first_with n) (i + 1) (drop j cs)) (let j : suc i ≡ i + 1 = omega arith in j)
+
+-- what stands there has no lesser number
+pub at_least : (n : ℕ) (cs : List Named) (i : ℕ) (other d : Named) → n ≤ (slice_index_or cs i other).cache.0 → slice_get cs i ≡ Some d → n ≤ d.cache.0
+at_least n cs i other d least there = omega (arith, least, ap (λ (x : Named). x.cache.0) (get_or_from_slice_get cs i d other there))
+
 all_greater : (n k : ℕ) (c : Named) (cs : List Named) → n < c.cache.0 → AllByRecursion (IsLater c) cs → position_from (first_with n) k cs ≡ None
 all_greater n k c [] less h = refl
 all_greater n k c (d ∷ cs) less h = skips n k d cs (λ s. let first = h.0 in omega (arith, s, first.0, less)) ∙ all_greater n (k + 1) c cs less h.1
@@ -106,52 +118,54 @@ found_there n (c ∷ cs) (suc i) k d a e is =
 
 cache_later : (c : Named) (cs : List Named) (seg : ℕ) (x : CacheId) → AllByRecursion (IsLater c) cs → cache_in cs seg ≡ Some x → c.cache.0 < x.0
 cache_later c [] seg x h e = absurd (cc e)
-cache_later c (d ∷ cs) seg x h e = by (d.seg.0 == seg) e
+cache_later c (d ∷ cs) seg x h e = by (d.seg.0 == seg) e (cache_later c cs seg x h.1)
   where
-    by : (b : Bool) → cond b (Some d.cache) (cache_in cs seg) ≡ Some x → c.cache.0 < x.0
-    by true e = let is : d.cache ≡ x = cc e in let first = h.0 in omega (arith, first.0, ap (λ (y : CacheId). y.0) is)
-    by false e = cache_later c cs seg x h.1 e
+    by : (b : Bool) → cond b (Some d.cache) (cache_in cs seg) ≡ Some x → (cache_in cs seg ≡ Some x → c.cache.0 < x.0) → c.cache.0 < x.0
+    by true e rest = let is : d.cache ≡ x = cc e in let first = h.0 in omega (arith, first.0, ap (λ (y : CacheId). y.0) is)
+    by false e rest = rest e
 
 -- its first cache is the one with that number
 pub first_same : (cs : List Named) (seg k : ℕ) (x : CacheId) → AreNamed cs → cache_in cs seg ≡ Some x → position_from (first_with x.0) k cs ≡ position_from (first_of seg) k cs
 first_same [] seg k x a e = absurd (cc e)
-first_same (c ∷ cs) seg k x a e = by (c.seg.0 == seg) refl e
+first_same (c ∷ cs) seg k x a e = by (c.seg.0 == seg) refl e (first_same cs seg (k + 1) x a.1)
   where
-    by : (b : Bool) → (c.seg.0 == seg) ≡ b → cond b (Some c.cache) (cache_in cs seg) ≡ Some x → position_from (first_with x.0) k (c ∷ cs) ≡ position_from (first_of seg) k (c ∷ cs)
-    by true t e =
+    by : (b : Bool) → (c.seg.0 == seg) ≡ b → cond b (Some c.cache) (cache_in cs seg) ≡ Some x
+        → (cache_in cs seg ≡ Some x → position_from (first_with x.0) (k + 1) cs ≡ position_from (first_of seg) (k + 1) cs) → position_from (first_with x.0) k (c ∷ cs) ≡ position_from (first_of seg) k (c ∷ cs)
+    by true t e rest =
         let is : c.cache ≡ x = cc e in
         ap (λ (b : Bool). cond b (Some k) (position_from (first_with x.0) (k + 1) cs)) (eq-eqb c.cache.0 x.0 (ap (λ (y : CacheId). y.0) is))
         ∙ sym (ap (λ (b : Bool). cond b (Some k) (position_from (first_of seg) (k + 1) cs)) t)
-    by false t e =
+    by false t e rest =
         skips x.0 k c cs (λ s. let less = cache_later c cs seg x a.0 e in omega (arith, s, less))
-        ∙ first_same cs seg (k + 1) x a.1 e
+        ∙ rest e
         ∙ sym (ap (λ (b : Bool). cond b (Some k) (position_from (first_of seg) (k + 1) cs)) t)
 
 pub first_none : (cs : List Named) (seg k : ℕ) → cache_in cs seg ≡ None → position_from (first_of seg) k cs ≡ None
 first_none [] seg k e = refl
-first_none (c ∷ cs) seg k e = by (c.seg.0 == seg) e
+first_none (c ∷ cs) seg k e = by (c.seg.0 == seg) e (first_none cs seg (k + 1))
   where
-    by : (b : Bool) → cond b (Some c.cache) (cache_in cs seg) ≡ None → cond b (Some k) (position_from (first_of seg) (k + 1) cs) ≡ None
-    by true e = absurd (cc e)
-    by false e = first_none cs seg (k + 1) e
+    by : (b : Bool) → cond b (Some c.cache) (cache_in cs seg) ≡ None → (cache_in cs seg ≡ None → position_from (first_of seg) (k + 1) cs ≡ None) → cond b (Some k) (position_from (first_of seg) (k + 1) cs) ≡ None
+    by true e rest = absurd (cc e)
+    by false e rest = rest e
 
 -- The cache with a number
 
 above : (n k : ℕ) (cs : List Named) (i : ℕ) → position_from (first_with n) k cs ≡ Some i → k ≤ i
 above n k [] i e = absurd (cc e)
-above n k (c ∷ cs) i e = by (c.cache.0 == n) e
+above n k (c ∷ cs) i e = by (c.cache.0 == n) e (above n (k + 1) cs i)
   where
-    by : (b : Bool) → cond b (Some k) (position_from (first_with n) (k + 1) cs) ≡ Some i → k ≤ i
-    by true e = let is : k ≡ i = cc e in omega (arith, is)
-    by false e = let more = above n (k + 1) cs i e in omega (arith, more)
+    by : (b : Bool) → cond b (Some k) (position_from (first_with n) (k + 1) cs) ≡ Some i → (position_from (first_with n) (k + 1) cs ≡ Some i → k + 1 ≤ i) → k ≤ i
+    by true e rest = let is : k ≡ i = cc e in omega (arith, is)
+    by false e rest = omega (arith, rest e)
 
 -- it is what stands there, and it has the number
 pub with_there : (n : ℕ) (cs : List Named) (i k : ℕ) (d : Named) → position_from (first_with n) k cs ≡ Some (k + i) → slice_get cs i ≡ Some d → (named_with n cs ≡ Some d) × (d.cache.0 ≡ n)
 with_there n [] i k d e there = absurd (cc e)
-with_there n (c ∷ cs) i k d e there = by i (c.cache.0 == n) refl e there
+with_there n (c ∷ cs) i k d e there = by i (c.cache.0 == n) refl e there (λ j f at. with_there n cs j (k + 1) d f at)
   where
-    by : (i : ℕ) (b : Bool) → (c.cache.0 == n) ≡ b → cond b (Some k) (position_from (first_with n) (k + 1) cs) ≡ Some (k + i) → slice_get (c ∷ cs) i ≡ Some d → (named_with n (c ∷ cs) ≡ Some d) × (d.cache.0 ≡ n)
-    by zero true t e there =
+    by : (i : ℕ) (b : Bool) → (c.cache.0 == n) ≡ b → cond b (Some k) (position_from (first_with n) (k + 1) cs) ≡ Some (k + i) → slice_get (c ∷ cs) i ≡ Some d
+        → ((j : ℕ) → position_from (first_with n) (k + 1) cs ≡ Some (k + 1 + j) → slice_get cs j ≡ Some d → (named_with n cs ≡ Some d) × (d.cache.0 ≡ n)) → (named_with n (c ∷ cs) ≡ Some d) × (d.cache.0 ≡ n)
+    by zero true t e there further =
         let is : c ≡ d = cc there in (
           ap (λ (b : Bool). cond b (Some c) (named_with n cs)) t ∙ ap (λ (x : Named). Some x) is,
           (elim (cases_eq c.cache.0 n) [
@@ -159,19 +173,22 @@ with_there n (c ∷ cs) i k d e there = by i (c.cache.0 == n) refl e there
             | inr other ↦ absurd (let wrong : true ≡ false = sym t ∙ ne_eqb c.cache.0 n other in cc wrong)
           ]),
         )
-    by (suc i) true t e there = absurd (let is : k ≡ k + suc i = cc e in omega (arith, is))
-    by zero false t e there = absurd (let more = above n (k + 1) cs (k + 0) e in omega (arith, more))
-    by (suc i) false t e there =
-        let rest = with_there n cs i (k + 1) d (e ∙ ap (λ (j : ℕ). Some j) (let j : k + suc i ≡ k + 1 + i = omega arith in j)) there in
+    by (suc i) true t e there further = absurd (let is : k ≡ k + suc i = cc e in omega (arith, is))
+    by zero false t e there further = absurd (let more = above n (k + 1) cs (k + 0) e in omega (arith, more))
+    by (suc i) false t e there further =
+        let rest = further i (e ∙ ap (λ (j : ℕ). Some j) (let j : k + suc i ≡ k + 1 + i = omega arith in j)) there in
         (ap (λ (b : Bool). cond b (Some c) (named_with n cs)) t ∙ rest.0, rest.1)
+
+pub with_at : (n : ℕ) (cs : List Named) (i : ℕ) (d : Named) → position_from (first_with n) 0 cs ≡ Some i → slice_get cs i ≡ Some d → (named_with n cs ≡ Some d) × (d.cache.0 ≡ n)
+with_at n cs i d e there = with_there n cs i 0 d (e ∙ ap (λ (j : ℕ). Some j) (let j : i ≡ 0 + i = omega arith in j)) there
 
 pub with_none : (n : ℕ) (cs : List Named) (k : ℕ) → position_from (first_with n) k cs ≡ None → named_with n cs ≡ None
 with_none n [] k e = refl
-with_none n (c ∷ cs) k e = by (c.cache.0 == n) e
+with_none n (c ∷ cs) k e = by (c.cache.0 == n) e (with_none n cs (k + 1))
   where
-    by : (b : Bool) → cond b (Some k) (position_from (first_with n) (k + 1) cs) ≡ None → cond b (Some c) (named_with n cs) ≡ None
-    by true e = absurd (cc e)
-    by false e = with_none n cs (k + 1) e
+    by : (b : Bool) → cond b (Some k) (position_from (first_with n) (k + 1) cs) ≡ None → (position_from (first_with n) (k + 1) cs ≡ None → named_with n cs ≡ None) → cond b (Some c) (named_with n cs) ≡ None
+    by true e rest = absurd (cc e)
+    by false e rest = rest e
 
 -- A cache comes, goes or is opened
 
@@ -197,7 +214,8 @@ pub cache_set : (cs : List Named) (i : ℕ) (x y : Named) (s : ℕ) → slice_ge
 cache_set [] i x y s e same seg = refl
 cache_set (c ∷ cs) zero x y s e same seg =
     let is : c ≡ x = cc e in
-    (λ j. cond ((seg ∙ ap (λ (z : Named). z.seg) (sym is)) j.0 == s) (Some ((same ∙ ap (λ (z : Named). z.cache) (sym is)) j)) (cache_in cs s))
+    ap (λ (z : SegId). cond (z.0 == s) (Some y.cache) (cache_in cs s)) (seg ∙ ap (λ (z : Named). z.seg) (sym is))
+    ∙ ap (λ (z : CacheId). cond (c.seg.0 == s) (Some z) (cache_in cs s)) (same ∙ ap (λ (z : Named). z.cache) (sym is))
 cache_set (c ∷ cs) (suc i) x y s e same seg = ap (cond (c.seg.0 == s) (Some c.cache)) (cache_set cs i x y s e same seg)
 
 absent : (c : Named) (cs : List Named) (s : ℕ) → c.seg.0 ≡ s → AllByRecursion (IsLater c) cs → cache_in cs s ≡ None
@@ -224,32 +242,24 @@ cache_more (c ∷ cs) x s a =
         ∙ sym (ap (λ (b : Bool). cond (x.seg.0 == s) (Some x.cache) (cond b (Some c.cache) (cache_in cs s))) (ne_eqb c.seg.0 s other))
     ]
 
-all_kept : (P : Named → Type 0) (p : Named → Bool) (cs : List Named) → AllByRecursion P cs → AllByRecursion P (filter p cs)
-all_kept P p [] h = tt
-all_kept P p (c ∷ cs) h = by (p c)
-  where
-    by : (b : Bool) → AllByRecursion P (cond b (c ∷ filter p cs) (filter p cs))
-    by true = (h.0, all_kept P p cs h.1)
-    by false = all_kept P p cs h.1
-
 pub named_less : (p : Named → Bool) (cs : List Named) → AreNamed cs → AreNamed (filter p cs)
 named_less p [] a = tt
-named_less p (c ∷ cs) a = by (p c)
+named_less p (c ∷ cs) a = by (p c) (named_less p cs a.1)
   where
-    by : (b : Bool) → AreNamed (cond b (c ∷ filter p cs) (filter p cs))
-    by true = (all_kept (IsLater c) p cs a.0, named_less p cs a.1)
-    by false = named_less p cs a.1
+    by : (b : Bool) → AreNamed (filter p cs) → AreNamed (cond b (c ∷ filter p cs) (filter p cs))
+    by true rest = (still_all (IsLater c) p cs a.0, rest)
+    by false rest = rest
 
 abbrev Others : ℕ → List Named → List Named
 Others n cs = filter (λ c. not (first_with n c)) cs
 
 others_all : (n : ℕ) (cs : List Named) (k : ℕ) → position_from (first_with n) k cs ≡ None → Others n cs ≡ cs
 others_all n [] k e = refl
-others_all n (c ∷ cs) k e = by (c.cache.0 == n) e
+others_all n (c ∷ cs) k e = by (c.cache.0 == n) e (others_all n cs (k + 1))
   where
-    by : (b : Bool) → cond b (Some k) (position_from (first_with n) (k + 1) cs) ≡ None → cond (not b) (c ∷ Others n cs) (Others n cs) ≡ c ∷ cs
-    by true e = absurd (cc e)
-    by false e = ap (λ (ds : List Named). c ∷ ds) (others_all n cs (k + 1) e)
+    by : (b : Bool) → cond b (Some k) (position_from (first_with n) (k + 1) cs) ≡ None → (position_from (first_with n) (k + 1) cs ≡ None → Others n cs ≡ cs) → cond (not b) (c ∷ Others n cs) (Others n cs) ≡ c ∷ cs
+    by true e rest = absurd (cc e)
+    by false e rest = ap (λ (ds : List Named). c ∷ ds) (rest e)
 
 pub others_none : (n : ℕ) (cs : List Named) → None ≡ position_from (first_with n) 0 cs → cs ≡ Others n cs
 others_none n cs e = sym (others_all n cs 0 (sym e))

@@ -4,7 +4,7 @@ use Rattle.std.specs.List.{position_from}
 use Rattle.std.proofs.lemmas.Option.{slice_get-get_or}
 use Rattle.seg_manager.specs.Inner.{first_with}
 use Rattle.seg_manager.specs.declared.tables.Named.{Named}
-use Rattle.seg_manager.proofs.Named.{found_there, none_above, none_below, none_past}
+use Rattle.seg_manager.proofs.Named.{at_least, none_above, none_before, none_past}
 use Rattle.seg_manager.proofs.named_caches.place_with.Goals as goal
 
 pub loop-first-preserved-then-caches-middle : goal.loop-first-preserved-then-caches-middle
@@ -14,18 +14,16 @@ loop-first-preserved-then-caches-middle c =
       ordered = omega (arith, c.loop-first.invariant.ordered, c.loop-first-test.true);
       within = c.loop-first.invariant.within;
       below =
-          none_below c.args.cache.0 c.args.caches.now (c.loop-first.first + (c.loop-first.end - c.loop-first.first) / 2) 0 _ c.requires (slice_get-get_or c.args.caches.now (c.loop-first.first + (c.loop-first.end - c.loop-first.first) / 2) _ within) c.if-caches-middle.true;
+          none_before c.args.cache.0 c.args.caches.now (c.loop-first.first + (c.loop-first.end - c.loop-first.first) / 2) _ c.requires (slice_get-get_or c.args.caches.now (c.loop-first.first + (c.loop-first.end - c.loop-first.first) / 2) _ within) c.if-caches-middle.true;
       above = c.loop-first.invariant.above;
     }
 
 pub loop-first-preserved : goal.loop-first-preserved
 loop-first-preserved c =
-    let within : c.loop-first.first + (c.loop-first.end - c.loop-first.first) / 2 < length c.args.caches.now = omega (arith, c.loop-first.invariant.ordered, c.loop-first.invariant.within, c.loop-first-test.true) in
     record {
       ordered = omega (arith, c.loop-first.invariant.ordered);
       within = omega (arith, c.loop-first.invariant.ordered, c.loop-first.invariant.within);
       below = c.loop-first.invariant.below;
       above = λ d there.
-        let two : Some d ≡ Some _ = sym there ∙ slice_get-get_or c.args.caches.now (c.loop-first.first + (c.loop-first.end - c.loop-first.first) / 2) d within in
-        omega (arith, c.if-caches-middle.false, ap (λ (x : Named). x.cache.0) (cc two));
+        at_least c.args.cache.0 c.args.caches.now (c.loop-first.first + (c.loop-first.end - c.loop-first.first) / 2) _ d c.if-caches-middle.false there;
     }

@@ -5,7 +5,7 @@ use Rattle.std.proofs.lemmas.Option.{slice_get-get_or}
 use Rattle.seg_manager.specs.Inner.{first_with}
 use Rattle.seg_manager.specs.Names.{AreIndexed}
 use Rattle.seg_manager.proofs.Finding.{place_below}
-use Rattle.seg_manager.proofs.Named.{cache_less, named_less, others_none, others_there, with_there}
+use Rattle.seg_manager.proofs.Named.{cache_less, named_less, others_none, others_there, with_at}
 use Rattle.seg_manager.proofs.named_caches.NamedCaches.remove.Goals as goal
 
 pub remove-named-requires : goal.remove-named-requires
@@ -15,7 +15,7 @@ pub invariant_of-self : goal.invariant_of-self
 invariant_of-self c =
     let within = place_below (first_with c.args.cache.0) c.deref.result.now c.self.inside.list.items c.in-Some.place c.deref.ensures.value c.in-Some.ensures in
     let there = slice_get-get_or c.self.inside.list.items c.in-Some.place c.remove-named.result within ∙ ap (λ x. Some x) (sym c.remove-named.ensures.value) in
-    let it = with_there c.args.cache.0 c.self.inside.list.items c.in-Some.place 0 c.remove-named.result (ap (position_from (first_with c.args.cache.0) 0) (sym c.deref.ensures.value) ∙ sym c.in-Some.ensures) there in
+    let it = with_at c.args.cache.0 c.self.inside.list.items c.in-Some.place c.remove-named.result (ap (position_from (first_with c.args.cache.0) 0) (sym c.deref.ensures.value) ∙ sym c.in-Some.ensures) there in
     subst (λ cs. AreIndexed cs c.remove.new.self.entries)
         (sym (c.remove-named.ensures.items ∙ others_there c.args.cache.0 c.self.inside.list.items c.in-Some.place c.remove-named.result c.self.invariant.named there it.1))
         (record {
@@ -30,7 +30,7 @@ pub returns-in-Some-clause-items : goal.returns-in-Some-clause-items
 returns-in-Some-clause-items c =
     let within = place_below (first_with c.args.cache.0) c.deref.result.now c.self.inside.list.items c.in-Some.place c.deref.ensures.value c.in-Some.ensures in
     let there = slice_get-get_or c.self.inside.list.items c.in-Some.place c.remove-named.result within ∙ ap (λ x. Some x) (sym c.remove-named.ensures.value) in
-    let it = with_there c.args.cache.0 c.self.inside.list.items c.in-Some.place 0 c.remove-named.result (ap (position_from (first_with c.args.cache.0) 0) (sym c.deref.ensures.value) ∙ sym c.in-Some.ensures) there in
+    let it = with_at c.args.cache.0 c.self.inside.list.items c.in-Some.place c.remove-named.result (ap (position_from (first_with c.args.cache.0) 0) (sym c.deref.ensures.value) ∙ sym c.in-Some.ensures) there in
     c.remove-named.ensures.items
     ∙ others_there c.args.cache.0 c.self.inside.list.items c.in-Some.place c.remove-named.result c.self.invariant.named there it.1
     ∙ ap (λ n. filter (λ d. not (first_with c.args.cache.0 d)) n.items) c.self.view_is
