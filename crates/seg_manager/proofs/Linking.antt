@@ -75,10 +75,10 @@ module _ (after before after_then before_then : Option CacheId → Option CacheI
   beside c s [] w e = absurd (cc e)
   beside c s (k ∷ ks) w e = elim (cases_eq k.cache.0 c.0) [
     | inl is ↦
-      let same : k.cache ≡ c = ap (λ (n : ℕ). record { 0 = n }) is in (
-        ap (λ (x : CacheId). after (before (Some x))) (sym same) ∙ ap after w.1 ∙ w.0 ∙ ap (λ (x : CacheId). Some x) same,
-        subst (λ (x : CacheId). before (after (Some x)) ≡ Some x) same (back (Some k.cache) ks w.3),
-      )
+        let same : k.cache ≡ c = ap (λ (n : ℕ). record { 0 = n }) is in (
+          ap (λ (x : CacheId). after (before (Some x))) (sym same) ∙ ap after w.1 ∙ w.0 ∙ ap (λ (x : CacheId). Some x) same,
+          subst (λ (x : CacheId). before (after (Some x)) ≡ Some x) same (back (Some k.cache) ks w.3),
+        )
     | inr other ↦ beside c (Some k.cache) ks w.3 (kept_later k ks c.0 other e)
   ]
 
@@ -125,20 +125,19 @@ module _ (after before after_then before_then : Option CacheId → Option CacheI
         let apart = out_of s c (k ∷ ks) out e in
         elim (cases_eq k.cache.0 c.0) [
           | inl is ↦
-            let same : k.cache ≡ c = ap (λ (n : ℕ). record { 0 = n }) is in
-            let free : is_kept ks c.0 ≡ false = ap (is_kept ks) (sym is) ∙ once.0 in
-            subst (Is s)
-                (sym (ap (λ (b : Bool). cond (not b) (k ∷ filter (λ k. not (is_of c.0 k)) ks) (filter (λ k. not (is_of c.0 k)) ks)) (eq-eqb k.cache.0 c.0 is) ∙ filter_out c.0 ks free))
-                (skips s ks (subst (λ (x : CacheId). Was (Some x) ks) same w.3) (ap (λ (x : CacheId). before (Some x)) (sym same) ∙ w.1) (w.0 ∙ ap (λ (x : CacheId). Some x) same) apart free once.1 (out_first s k ks out).1)
+              let same : k.cache ≡ c = ap (λ (n : ℕ). record { 0 = n }) is in
+              let free : is_kept ks c.0 ≡ false = ap (is_kept ks) (sym is) ∙ once.0 in
+              subst (Is s)
+              (sym (ap (λ (b : Bool). cond (not b) (k ∷ filter (λ k. not (is_of c.0 k)) ks) (filter (λ k. not (is_of c.0 k)) ks)) (eq-eqb k.cache.0 c.0 is) ∙ filter_out c.0 ks free))
+              (skips s ks (subst (λ (x : CacheId). Was (Some x) ks) same w.3) (ap (λ (x : CacheId). before (Some x)) (sym same) ∙ w.1) (w.0 ∙ ap (λ (x : CacheId). Some x) same) apart free once.1 (out_first s k ks out).1)
           | inr other ↦
-            subst (Is s)
-                (sym (ap (λ (b : Bool). cond (not b) (k ∷ filter (λ k. not (is_of c.0 k)) ks) (filter (λ k. not (is_of c.0 k)) ks)) (ne_eqb k.cache.0 c.0 other)))
-                (
-                  off_after s (λ is. other (number k.cache c (sym w.0 ∙ ap after is ∙ beside_it.0))) apart ∙ w.0,
-                  off_before (Some k.cache) (λ is. apart (sym w.1 ∙ ap before is ∙ beside_it.1)) (λ is. other (number k.cache c is)) ∙ w.1,
-                  off_kept k.cache.0 other ∙ w.2,
-                  unlinks (Some k.cache) ks w.3 once.1 (kept_later k ks c.0 other e) once.0,
-                )
+              subst (Is s)
+              (sym (ap (λ (b : Bool). cond (not b) (k ∷ filter (λ k. not (is_of c.0 k)) ks) (filter (λ k. not (is_of c.0 k)) ks)) (ne_eqb k.cache.0 c.0 other))) (
+                off_after s (λ is. other (number k.cache c (sym w.0 ∙ ap after is ∙ beside_it.0))) apart ∙ w.0,
+                off_before (Some k.cache) (λ is. apart (sym w.1 ∙ ap before is ∙ beside_it.1)) (λ is. other (number k.cache c is)) ∙ w.1,
+                off_kept k.cache.0 other ∙ w.2,
+                unlinks (Some k.cache) ks w.3 once.1 (kept_later k ks c.0 other e) once.0,
+              )
         ]
 
   -- Another one comes last

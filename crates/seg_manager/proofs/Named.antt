@@ -5,7 +5,7 @@ use Rattle.std.specs.List.{AllByRecursion, position_from, remove}
 use Rattle.std.specs.Map.{lookup}
 use Rattle.std.specs.Option.{option_map_or}
 use Rattle.std.proofs.lemmas.Bool.{cases_eq, eq-eqb, ne_eqb}
-use Rattle.std.proofs.lemmas.Option.{get_or_from_slice_get}
+use Rattle.std.proofs.lemmas.Option.{get_or_from_slice_get, slice_get-get_or}
 use Rattle.vm_ids.specs.Held.{Segments}
 use Rattle.vm_ids.specs.declared.numbers.CacheId.{CacheId}
 use Rattle.vm_ids.specs.declared.numbers.SegId.{SegId}
@@ -95,6 +95,16 @@ none_above n (c ∷ cs) zero k d a e less =
     let cd : c.cache.0 ≡ d.cache.0 = ap (λ (x : Named). x.cache.0) is in
     skips n k c cs (λ s. omega (arith, s, cd, less)) ∙ all_greater n (k + 1) c cs (omega (arith, cd, less)) a.0
 none_above n (c ∷ cs) (suc i) k d a e less = none_above n cs i k d a.1 e less
+
+-- nor, where none has a lesser number, one from another number on
+pub none_at : (c : CacheId) (cs : List Named) (i : ℕ) (other : Named) → AreNamed cs → i < length cs → ((d : Named) → slice_get cs i ≡ Some d → c.0 ≤ d.cache.0) → ((slice_index_or cs i other).cache.0 == c.0) ≡ false → position_from (first_with c.0) i (drop i cs) ≡ None
+none_at c cs i other a within above apart =
+    let there : slice_get cs i ≡ Some (slice_index_or cs i other) = slice_get-get_or cs i other within in
+    let least : c.0 ≤ (slice_index_or cs i other).cache.0 = above (slice_index_or cs i other) there in
+    none_above c.0 cs i i (slice_index_or cs i other) a there (elim (cases_eq (slice_index_or cs i other).cache.0 c.0) [
+      | inl is ↦ absurd (let wrong : true ≡ false = sym (eq-eqb (slice_index_or cs i other).cache.0 c.0 is) ∙ apart in cc wrong)
+      | inr off ↦ (let less : c.0 < (slice_index_or cs i other).cache.0 = omega (arith, least, off) in less)
+    ])
 
 pub none_past : (n : ℕ) (cs : List Named) (i k : ℕ) → length cs ≤ i → position_from (first_with n) k (drop i cs) ≡ None
 none_past n [] zero k h = refl
@@ -234,12 +244,12 @@ cache_more (c ∷ cs) x s a =
     ap (cond (c.seg.0 == s) (Some c.cache)) (cache_more cs x s a.1)
     ∙ elim (cases_eq c.seg.0 s) [
       | inl is ↦
-        let last = last_later c cs x a.0 in
-        ap (λ (b : Bool). cond b (Some c.cache) (cond (x.seg.0 == s) (Some x.cache) (cache_in cs s))) (eq-eqb c.seg.0 s is)
-        ∙ sym ((λ i. cond (ne_eqb x.seg.0 s (λ e. last.1 (is ∙ sym e)) i) (Some x.cache) (cond (eq-eqb c.seg.0 s is i) (Some c.cache) (cache_in cs s))))
+          let last = last_later c cs x a.0 in
+          ap (λ (b : Bool). cond b (Some c.cache) (cond (x.seg.0 == s) (Some x.cache) (cache_in cs s))) (eq-eqb c.seg.0 s is)
+          ∙ sym ((λ i. cond (ne_eqb x.seg.0 s (λ e. last.1 (is ∙ sym e)) i) (Some x.cache) (cond (eq-eqb c.seg.0 s is i) (Some c.cache) (cache_in cs s))))
       | inr other ↦
-        ap (λ (b : Bool). cond b (Some c.cache) (cond (x.seg.0 == s) (Some x.cache) (cache_in cs s))) (ne_eqb c.seg.0 s other)
-        ∙ sym (ap (λ (b : Bool). cond (x.seg.0 == s) (Some x.cache) (cond b (Some c.cache) (cache_in cs s))) (ne_eqb c.seg.0 s other))
+          ap (λ (b : Bool). cond b (Some c.cache) (cond (x.seg.0 == s) (Some x.cache) (cache_in cs s))) (ne_eqb c.seg.0 s other)
+          ∙ sym (ap (λ (b : Bool). cond (x.seg.0 == s) (Some x.cache) (cond b (Some c.cache) (cache_in cs s))) (ne_eqb c.seg.0 s other))
     ]
 
 pub named_less : (p : Named → Bool) (cs : List Named) → AreNamed cs → AreNamed (filter p cs)
@@ -304,9 +314,9 @@ cache_less n (c ∷ cs) (suc i) d s a e is =
     ∙ ap (cond (c.seg.0 == s) (Some c.cache)) (cache_less n cs i d s a.1 e is)
     ∙ elim (cases_eq c.seg.0 s) [
       | inl same ↦
-        ap (λ (b : Bool). cond b (Some c.cache) (cond (d.seg.0 == s) None (cache_in cs s))) (eq-eqb c.seg.0 s same)
-        ∙ sym (λ j. cond (ne_eqb d.seg.0 s (λ f. before.1 (same ∙ sym f)) j) None (cond (eq-eqb c.seg.0 s same j) (Some c.cache) (cache_in cs s)))
+          ap (λ (b : Bool). cond b (Some c.cache) (cond (d.seg.0 == s) None (cache_in cs s))) (eq-eqb c.seg.0 s same)
+          ∙ sym (λ j. cond (ne_eqb d.seg.0 s (λ f. before.1 (same ∙ sym f)) j) None (cond (eq-eqb c.seg.0 s same j) (Some c.cache) (cache_in cs s)))
       | inr other ↦
-        ap (λ (b : Bool). cond b (Some c.cache) (cond (d.seg.0 == s) None (cache_in cs s))) (ne_eqb c.seg.0 s other)
-        ∙ sym (ap (λ (b : Bool). cond (d.seg.0 == s) None (cond b (Some c.cache) (cache_in cs s))) (ne_eqb c.seg.0 s other))
+          ap (λ (b : Bool). cond b (Some c.cache) (cond (d.seg.0 == s) None (cache_in cs s))) (ne_eqb c.seg.0 s other)
+          ∙ sym (ap (λ (b : Bool). cond (d.seg.0 == s) None (cond b (Some c.cache) (cache_in cs s))) (ne_eqb c.seg.0 s other))
     ]

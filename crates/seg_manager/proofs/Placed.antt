@@ -111,16 +111,16 @@ module _ (links : List Link) (places : FinMap nat_cmp ℕ) (room : ℕ) (p : Are
     placed_set = record {
       at = λ k z e. elim (cases_eq k i) [
         | inl same ↦
-          let two : Some y ≡ Some z = sym (ap (slice_get (slice_set links i y)) same ∙ get_set_same links i y within) ∙ e in
-          let yz : y ≡ z = cc two in
-          ap (get places) (ap number_of (sym yz) ∙ number) ∙ p.at i x is ∙ ap (λ (k : ℕ). Some k) (sym same)
+            let two : Some y ≡ Some z = sym (ap (slice_get (slice_set links i y)) same ∙ get_set_same links i y within) ∙ e in
+            let yz : y ≡ z = cc two in
+            ap (get places) (ap number_of (sym yz) ∙ number) ∙ p.at i x is ∙ ap (λ (k : ℕ). Some k) (sym same)
         | inr other ↦ p.at k z (sym (get_set_other links i k y other) ∙ e)
       ];
       back = λ m k e. elim (cases_eq k i) [
         | inl same ↦
-          ap (λ (k : ℕ). option_map number_of (slice_get (slice_set links i y) k)) same
-          ∙ ap (option_map number_of) (get_set_same links i y within)
-          ∙ ap (λ (k : ℕ). Some k) (number ∙ (let old : Some x.kept.cache.0 ≡ Some m = ap (option_map number_of) (sym is) ∙ p.back m i (e ∙ ap (λ (k : ℕ). Some k) same) in cc old))
+            ap (λ (k : ℕ). option_map number_of (slice_get (slice_set links i y) k)) same
+            ∙ ap (option_map number_of) (get_set_same links i y within)
+            ∙ ap (λ (k : ℕ). Some k) (number ∙ (let old : Some x.kept.cache.0 ≡ Some m = ap (option_map number_of) (sym is) ∙ p.back m i (e ∙ ap (λ (k : ℕ). Some k) same) in cc old))
         | inr other ↦ ap (option_map number_of) (get_set_other links i k y other) ∙ p.back m k e
       ];
       few = omega (arith, p.few, length-set links i y);
@@ -129,13 +129,13 @@ module _ (links : List Link) (places : FinMap nat_cmp ℕ) (room : ℕ) (p : Are
     pub links_set : (change : Link → Link) (c : CacheId) → c.0 ≡ n → y ≡ change x → (m : ℕ) → link_at (slice_set links i y) (get places m) ≡ changed_at change (Some c) m (link_at links (get places m))
     links_set change c cn changed m = elim (cases_eq c.0 m) [
       | inl same ↦
-        let here : get places m ≡ Some i = ap (get places) (sym same ∙ cn) ∙ placed in
-        ap (link_at (slice_set links i y)) here ∙ get_set_same links i y within
-        ∙ ap (λ (z : Link). Some z) changed
-        ∙ sym (ap (λ (b : Bool). cond b (option_map change (link_at links (get places m))) (link_at links (get places m))) (eq-eqb c.0 m same) ∙ ap (λ (o : Option ℕ). option_map change (link_at links o)) here ∙ ap (option_map change) is)
+          let here : get places m ≡ Some i = ap (get places) (sym same ∙ cn) ∙ placed in
+          ap (link_at (slice_set links i y)) here ∙ get_set_same links i y within
+          ∙ ap (λ (z : Link). Some z) changed
+          ∙ sym (ap (λ (b : Bool). cond b (option_map change (link_at links (get places m))) (link_at links (get places m))) (eq-eqb c.0 m same) ∙ ap (λ (o : Option ℕ). option_map change (link_at links o)) here ∙ ap (option_map change) is)
       | inr other ↦
-        unmoved (get places m) refl other
-        ∙ sym (ap (λ (b : Bool). cond b (option_map change (link_at links (get places m))) (link_at links (get places m))) (ne_eqb c.0 m other))
+          unmoved (get places m) refl other
+          ∙ sym (ap (λ (b : Bool). cond b (option_map change (link_at links (get places m))) (link_at links (get places m))) (ne_eqb c.0 m other))
     ]
       where
         unmoved : (o : Option ℕ) → get places m ≡ o → c.0 ≢ m → link_at (slice_set links i y) (get places m) ≡ link_at links (get places m)
@@ -160,18 +160,18 @@ module _ (links : List Link) (places : FinMap nat_cmp ℕ) (room : ℕ) (p : Are
     placed_more = record {
       at = λ k z e. elim (push_cases links x k z e) [
         | inl there ↦
-          insert_other places c (length links) z.kept.cache.0 (λ same. let wrong : None ≡ Some k = sym (unplaced c none) ∙ ap (get places) (sym same) ∙ p.at k z there in absurd (cc wrong))
-          ∙ p.at k z there
+            insert_other places c (length links) z.kept.cache.0 (λ same. let wrong : None ≡ Some k = sym (unplaced c none) ∙ ap (get places) (sym same) ∙ p.at k z there in absurd (cc wrong))
+            ∙ p.at k z there
         | inr last ↦ insert_same places c (length links) z.kept.cache.0 (ap number_of (sym last.1)) ∙ ap (λ (k : ℕ). Some k) (sym last.0)
       ];
       back = λ m k e. elim (cases_eq m c) [
         | inl same ↦
-          let two : Some (length links) ≡ Some k = sym (insert_same places c (length links) m same) ∙ e in
-          let lk : length links ≡ k = cc two in
-          ap (option_map number_of) (push_same links k x (sym lk)) ∙ ap (λ (k : ℕ). Some k) (sym same)
+            let two : Some (length links) ≡ Some k = sym (insert_same places c (length links) m same) ∙ e in
+            let lk : length links ≡ k = cc two in
+            ap (option_map number_of) (push_same links k x (sym lk)) ∙ ap (λ (k : ℕ). Some k) (sym same)
         | inr other ↦
-          let was : get places m ≡ Some k = sym (insert_other places c (length links) m other) ∙ e in
-          ap (option_map number_of) (push_other links k x (place_within m k was)) ∙ p.back m k was
+            let was : get places m ≡ Some k = sym (insert_other places c (length links) m other) ∙ e in
+            ap (option_map number_of) (push_other links k x (place_within m k was)) ∙ p.back m k was
       ];
       few = omega (arith, fits, length-append links (x ∷ []));
     }
@@ -179,12 +179,12 @@ module _ (links : List Link) (places : FinMap nat_cmp ℕ) (room : ℕ) (p : Are
     pub links_more : (m : ℕ) → link_at (links ++ x ∷ []) (get more m) ≡ cond (x.kept.cache.0 == m) (Some x) (link_at links (get places m))
     links_more m = elim (cases_eq c m) [
       | inl same ↦
-        ap (link_at (links ++ x ∷ [])) (insert_same places c (length links) m (sym same)) ∙ push_same links (length links) x refl
-        ∙ sym (ap (λ (b : Bool). cond b (Some x) (link_at links (get places m))) (eq-eqb c m same))
+          ap (link_at (links ++ x ∷ [])) (insert_same places c (length links) m (sym same)) ∙ push_same links (length links) x refl
+          ∙ sym (ap (λ (b : Bool). cond b (Some x) (link_at links (get places m))) (eq-eqb c m same))
       | inr other ↦
-        ap (link_at (links ++ x ∷ [])) (insert_other places c (length links) m (λ e. other (sym e)))
-        ∙ unmoved (get places m) refl
-        ∙ sym (ap (λ (b : Bool). cond b (Some x) (link_at links (get places m))) (ne_eqb c m other))
+          ap (link_at (links ++ x ∷ [])) (insert_other places c (length links) m (λ e. other (sym e)))
+          ∙ unmoved (get places m) refl
+          ∙ sym (ap (λ (b : Bool). cond b (Some x) (link_at links (get places m))) (ne_eqb c m other))
     ]
       where
         unmoved : (o : Option ℕ) → get places m ≡ o → link_at (links ++ x ∷ []) (get places m) ≡ link_at links (get places m)
@@ -229,32 +229,32 @@ module _ (links : List Link) (places : FinMap nat_cmp ℕ) (room : ℕ) (p : Are
     pub placed_less : ArePlaced now less room
     placed_less = record {
       at = λ k z e.
-        let inside = slice_get_within now k z e in
-        let few : k + 1 < n = omega (arith, len, inside, fewer) in
-        elim (cases_eq k i) [
-          | inl is ↦
-            let few_i : i + 1 < n = omega (arith, len, is, few) in
-            let two : Some y ≡ Some z = sym (ap (slice_get now) is ∙ at_here few_i) ∙ e in
-            let yz : y ≡ z = cc two in
-            ap (get less) (ap number_of (sym yz)) ∙ moved (few_apart few_i) ∙ ap (λ (k : ℕ). Some k) (sym is)
-          | inr other ↦
-            let was : get places z.kept.cache.0 ≡ Some k = p.at k z (sym (at_other k other few) ∙ e) in
-            same z.kept.cache.0
+          let inside = slice_get_within now k z e in
+          let few : k + 1 < n = omega (arith, len, inside, fewer) in
+          elim (cases_eq k i) [
+            | inl is ↦
+                let few_i : i + 1 < n = omega (arith, len, is, few) in
+                let two : Some y ≡ Some z = sym (ap (slice_get now) is ∙ at_here few_i) ∙ e in
+                let yz : y ≡ z = cc two in
+                ap (get less) (ap number_of (sym yz)) ∙ moved (few_apart few_i) ∙ ap (λ (k : ℕ). Some k) (sym is)
+            | inr other ↦
+                let was : get places z.kept.cache.0 ≡ Some k = p.at k z (sym (at_other k other few) ∙ e) in
+                same z.kept.cache.0
                 (λ s. other (let two : Some k ≡ Some i = sym was ∙ ap (get places) s ∙ placed in cc two))
                 (λ s. let two : Some k ≡ Some (n - 1) = sym was ∙ ap (get places) s ∙ last_at in let ki : k ≡ n - 1 = cc two in omega (arith, len, ki, few))
-            ∙ was
-        ];
+                ∙ was
+          ];
       back = λ m k e. elim (cases_eq m c) [
         | inl is ↦ (let wrong : None ≡ Some k = sym (ap (get less) is ∙ gone) ∙ e in absurd (cc wrong))
         | inr off ↦ elim (cases_eq m y.kept.cache.0) [
           | inl is ↦
-            let apart : y.kept.cache.0 ≢ c = λ s. off (is ∙ s) in
-            let two : Some i ≡ Some k = sym (ap (get less) is ∙ moved apart) ∙ e in
-            let ik : i ≡ k = cc two in
-            ap (λ (k : ℕ). option_map number_of (slice_get now k)) (sym ik) ∙ ap (option_map number_of) (at_here (apart_few apart)) ∙ ap (λ (k : ℕ). Some k) (sym is)
+              let apart : y.kept.cache.0 ≢ c = λ s. off (is ∙ s) in
+              let two : Some i ≡ Some k = sym (ap (get less) is ∙ moved apart) ∙ e in
+              let ik : i ≡ k = cc two in
+              ap (λ (k : ℕ). option_map number_of (slice_get now k)) (sym ik) ∙ ap (option_map number_of) (at_here (apart_few apart)) ∙ ap (λ (k : ℕ). Some k) (sym is)
           | inr off_last ↦
-            let was : get places m ≡ Some k = sym (same m off off_last) ∙ e in
-            ap (option_map number_of) (at_other k (not_i m k off was) (not_last m k off_last was)) ∙ p.back m k was
+              let was : get places m ≡ Some k = sym (same m off off_last) ∙ e in
+              ap (option_map number_of) (at_other k (not_i m k off was) (not_last m k off_last was)) ∙ p.back m k was
         ]
       ];
       few = omega (arith, len, p.few, fewer);
@@ -273,13 +273,13 @@ module _ (links : List Link) (places : FinMap nat_cmp ℕ) (room : ℕ) (p : Are
     links_less m = elim (cases_eq c m) [
       | inl is ↦ ap (link_at now) (ap (get less) (sym is) ∙ gone) ∙ sym (ap (λ (b : Bool). cond b None (link_at links (get places m))) (eq-eqb c m is))
       | inr off ↦
-        (elim (cases_eq m y.kept.cache.0) [
-          | inl is ↦
-            let apart : y.kept.cache.0 ≢ c = λ s. off (sym (is ∙ s)) in
-            ap (link_at now) (ap (get less) is ∙ moved apart) ∙ at_here (apart_few apart) ∙ sym (ap (link_at links) (ap (get places) is ∙ last_at) ∙ last)
-          | inr off_last ↦ ap (link_at now) (same m (λ s. off (sym s)) off_last) ∙ unmoved (get places m) refl off off_last
-        ])
-        ∙ sym (ap (λ (b : Bool). cond b None (link_at links (get places m))) (ne_eqb c m off))
+          (elim (cases_eq m y.kept.cache.0) [
+            | inl is ↦
+                let apart : y.kept.cache.0 ≢ c = λ s. off (sym (is ∙ s)) in
+                ap (link_at now) (ap (get less) is ∙ moved apart) ∙ at_here (apart_few apart) ∙ sym (ap (link_at links) (ap (get places) is ∙ last_at) ∙ last)
+            | inr off_last ↦ ap (link_at now) (same m (λ s. off (sym s)) off_last) ∙ unmoved (get places m) refl off off_last
+          ])
+          ∙ sym (ap (λ (b : Bool). cond b None (link_at links (get places m))) (ne_eqb c m off))
     ]
       where
         unmoved : (o : Option ℕ) → get places m ≡ o → c ≢ m → m ≢ y.kept.cache.0 → link_at now (get places m) ≡ link_at links (get places m)
@@ -287,10 +287,10 @@ module _ (links : List Link) (places : FinMap nat_cmp ℕ) (room : ℕ) (p : Are
         unmoved (Some k) e off off_last =
             ap (link_at now) e
             ∙ at_other k (λ is. off (one_number c m i placed (e ∙ ap (λ (k : ℕ). Some k) is)))
-              (elim (cases_eq k (n - 1)) [
-                | inl is ↦ absurd (off_last (one_number m y.kept.cache.0 (n - 1) (e ∙ ap (λ (k : ℕ). Some k) is) last_at))
-                | inr other ↦ (let within_k = place_within m k e in omega (arith, len, other, within_k))
-              ])
+            (elim (cases_eq k (n - 1)) [
+              | inl is ↦ absurd (off_last (one_number m y.kept.cache.0 (n - 1) (e ∙ ap (λ (k : ℕ). Some k) is) last_at))
+              | inr other ↦ (let within_k = place_within m k e in omega (arith, len, other, within_k))
+            ])
             ∙ sym (ap (link_at links) e)
 
 -- where the last link's number leads, once it leads to the place of one that goes

@@ -184,11 +184,11 @@ kept_less n [] q = by (n == q)
     by false = refl
 kept_less n (k ∷ ks) q = elim (cases_eq k.cache.0 n) [
   | inl is ↦
-    ap (λ (b : Bool). is_kept (cond (not b) (k ∷ filter (λ k. not (is_of n k)) ks) (filter (λ k. not (is_of n k)) ks)) q) (eq-eqb k.cache.0 n is)
-    ∙ kept_less n ks q ∙ dropped is (n == q) refl
+      ap (λ (b : Bool). is_kept (cond (not b) (k ∷ filter (λ k. not (is_of n k)) ks) (filter (λ k. not (is_of n k)) ks)) q) (eq-eqb k.cache.0 n is)
+      ∙ kept_less n ks q ∙ dropped is (n == q) refl
   | inr other ↦
-    ap (λ (b : Bool). is_kept (cond (not b) (k ∷ filter (λ k. not (is_of n k)) ks) (filter (λ k. not (is_of n k)) ks)) q) (ne_eqb k.cache.0 n other)
-    ∙ ap (λ (b : Bool). (k.cache.0 == q) || b) (kept_less n ks q) ∙ stayed other (n == q) refl
+      ap (λ (b : Bool). is_kept (cond (not b) (k ∷ filter (λ k. not (is_of n k)) ks) (filter (λ k. not (is_of n k)) ks)) q) (ne_eqb k.cache.0 n other)
+      ∙ ap (λ (b : Bool). (k.cache.0 == q) || b) (kept_less n ks q) ∙ stayed other (n == q) refl
 ]
   where
     dropped : k.cache.0 ≡ n → (b : Bool) → (n == q) ≡ b → cond (n == q) false (is_kept ks q) ≡ cond (n == q) false ((k.cache.0 == q) || is_kept ks q)
@@ -210,13 +210,13 @@ fewer : (n : ℕ) (ks : List Kept) → AreOnce ks → is_kept ks n ≡ true → 
 fewer n [] once e = absurd (cc e)
 fewer n (k ∷ ks) once e = elim (cases_eq k.cache.0 n) [
   | inl is ↦
-    (let free : is_kept ks n ≡ false = ap (is_kept ks) (sym is) ∙ once.0 in
-    let gone : filter (λ k. not (is_of n k)) (k ∷ ks) ≡ ks = ap (λ (b : Bool). cond (not b) (k ∷ filter (λ k. not (is_of n k)) ks) (filter (λ k. not (is_of n k)) ks)) (eq-eqb k.cache.0 n is) ∙ filter_out n ks free in
-    omega (arith, ap length gone))
+      (let free : is_kept ks n ≡ false = ap (is_kept ks) (sym is) ∙ once.0 in
+      let gone : filter (λ k. not (is_of n k)) (k ∷ ks) ≡ ks = ap (λ (b : Bool). cond (not b) (k ∷ filter (λ k. not (is_of n k)) ks) (filter (λ k. not (is_of n k)) ks)) (eq-eqb k.cache.0 n is) ∙ filter_out n ks free in
+      omega (arith, ap length gone))
   | inr other ↦
-    (let stays : filter (λ k. not (is_of n k)) (k ∷ ks) ≡ k ∷ filter (λ k. not (is_of n k)) ks = ap (λ (b : Bool). cond (not b) (k ∷ filter (λ k. not (is_of n k)) ks) (filter (λ k. not (is_of n k)) ks)) (ne_eqb k.cache.0 n other) in
-    let rest = fewer n ks once.1 (ap (λ (b : Bool). b || is_kept ks n) (sym (ne_eqb k.cache.0 n other)) ∙ e) in
-    omega (arith, ap length stays, rest))
+      (let stays : filter (λ k. not (is_of n k)) (k ∷ ks) ≡ k ∷ filter (λ k. not (is_of n k)) ks = ap (λ (b : Bool). cond (not b) (k ∷ filter (λ k. not (is_of n k)) ks) (filter (λ k. not (is_of n k)) ks)) (ne_eqb k.cache.0 n other) in
+      let rest = fewer n ks once.1 (ap (λ (b : Bool). b || is_kept ks n) (sym (ne_eqb k.cache.0 n other)) ∙ e) in
+      omega (arith, ap length stays, rest))
 ]
 
 module _ (l l1 l2 l3 : Linked) (c : CacheId) (x : Link) (items : List Kept) (r : IsRing l items) (is : Some x ≡ link_of l c.0)
@@ -239,34 +239,34 @@ module _ (l l1 l2 l3 : Linked) (c : CacheId) (x : Link) (items : List Kept) (r :
   ring_less = record {
     linked = unlinks (after_of l) (before_of l) (after_of l3) (before_of l3) (kept_of l) (kept_of l3) c
         (λ s here apart next.
-          b_after l2 l3 x.after x.before links3 last3 first3 s
-          ∙ a_here l1 l2 x.before x.after links2 first2 last2 s (here ∙ before_is) (there_off l l1 c None links1 first1 last1 s apart (there_after l s c next))
-          ∙ sym after_is)
+        b_after l2 l3 x.after x.before links3 last3 first3 s
+        ∙ a_here l1 l2 x.before x.after links2 first2 last2 s (here ∙ before_is) (there_off l l1 c None links1 first1 last1 s apart (there_after l s c next))
+        ∙ sym after_is)
         (λ s off apart.
-          b_after l2 l3 x.after x.before links3 last3 first3 s
-          ∙ a_other l1 l2 x.before x.after links2 first2 last2 s (λ e. off (e ∙ sym before_is))
-          ∙ after_off l l1 c None links1 first1 last1 s apart)
+        b_after l2 l3 x.after x.before links3 last3 first3 s
+        ∙ a_other l1 l2 x.before x.after links2 first2 last2 s (λ e. off (e ∙ sym before_is))
+        ∙ after_off l l1 c None links1 first1 last1 s apart)
         (λ t here apart next.
-          b_here l2 l3 x.after x.before links3 last3 first3 t (here ∙ after_is)
-              (there_by l1 l2 t (λ d e. a_found l1 l2 x.before x.after links2 first2 last2 d.0) (there_off l l1 c None links1 first1 last1 t apart (there_before l t c next)))
-          ∙ sym before_is)
+        b_here l2 l3 x.after x.before links3 last3 first3 t (here ∙ after_is)
+        (there_by l1 l2 t (λ d e. a_found l1 l2 x.before x.after links2 first2 last2 d.0) (there_off l l1 c None links1 first1 last1 t apart (there_before l t c next)))
+        ∙ sym before_is)
         (λ t off apart.
-          b_other l2 l3 x.after x.before links3 last3 first3 t (λ e. off (e ∙ sym after_is))
-          ∙ a_before l1 l2 x.before x.after links2 first2 last2 t
-          ∙ before_off l l1 c None links1 first1 last1 t apart)
+        b_other l2 l3 x.after x.before links3 last3 first3 t (λ e. off (e ∙ sym after_is))
+        ∙ a_before l1 l2 x.before x.after links2 first2 last2 t
+        ∙ before_off l l1 c None links1 first1 last1 t apart)
         (λ n apart.
-          b_kept l2 l3 x.after x.before links3 last3 first3 n
-          ∙ a_kept l1 l2 x.before x.after links2 first2 last2 n
-          ∙ ap (option_map (λ (x : Link). x.kept)) (link_other l l1 c None links1 first1 last1 n (λ e. apart (sym e))))
+        b_kept l2 l3 x.after x.before links3 last3 first3 n
+        ∙ a_kept l1 l2 x.before x.after links2 first2 last2 n
+        ∙ ap (option_map (λ (x : Link). x.kept)) (link_other l l1 c None links1 first1 last1 n (λ e. apart (sym e))))
         None items r.linked r.once was_kept tt;
     once = once_filter (λ k. not (is_of c.0 k)) items r.once;
     found = λ n.
-      b_found l2 l3 x.after x.before links3 last3 first3 n
-      ∙ a_found l1 l2 x.before x.after links2 first2 last2 n
-      ∙ ap is_some (links1 n)
-      ∙ by (c.0 == n) (link_of l n)
-      ∙ ap (cond (c.0 == n) false) (r.found n)
-      ∙ sym (kept_less c.0 items n);
+        b_found l2 l3 x.after x.before links3 last3 first3 n
+        ∙ a_found l1 l2 x.before x.after links2 first2 last2 n
+        ∙ ap is_some (links1 n)
+        ∙ by (c.0 == n) (link_of l n)
+        ∙ ap (cond (c.0 == n) false) (r.found n)
+        ∙ sym (kept_less c.0 items n);
     count = omega (arith, fewer c.0 items r.once was_kept, r.count, count1, count2, count3);
   }
     where
@@ -368,12 +368,12 @@ module _ (l l1 l2 l3 : Linked) (k : Kept) (items : List Kept) (r : IsRing l item
   ring_more = record {
     linked = links_last (after_of l) (before_of l) (after_of l3) (before_of l3) (kept_of l) (kept_of l3) k
         (λ none off.
-          b_after l2 l3 None (Some k.cache) links3 last3 first3 l.last
-          ∙ a_here l1 l2 l.last (Some k.cache) links2 first2 last2 l.last refl (there_off l l1 k.cache (Some X) links1 first1 last1 l.last off there))
+        b_after l2 l3 None (Some k.cache) links3 last3 first3 l.last
+        ∙ a_here l1 l2 l.last (Some k.cache) links2 first2 last2 l.last refl (there_off l l1 k.cache (Some X) links1 first1 last1 l.last off there))
         (λ s off other.
-          b_after l2 l3 None (Some k.cache) links3 last3 first3 s
-          ∙ a_other l1 l2 l.last (Some k.cache) links2 first2 last2 s off
-          ∙ after_off l l1 k.cache (Some X) links1 first1 last1 s other)
+        b_after l2 l3 None (Some k.cache) links3 last3 first3 s
+        ∙ a_other l1 l2 l.last (Some k.cache) links2 first2 last2 s off
+        ∙ after_off l l1 k.cache (Some X) links1 first1 last1 s other)
         (b_after l2 l3 None (Some k.cache) links3 last3 first3 (Some k.cache)
         ∙ a_other l1 l2 l.last (Some k.cache) links2 first2 last2 (Some k.cache) (λ e. apart (sym e))
         ∙ ap (option_and_then (λ (x : Link). x.after)) (link_here l l1 k.cache (Some X) links1 first1 last1))
@@ -382,25 +382,25 @@ module _ (l l1 l2 l3 : Linked) (k : Kept) (items : List Kept) (r : IsRing l item
         ∙ ap (option_and_then (λ (x : Link). x.before)) (link_here l l1 k.cache (Some X) links1 first1 last1))
         (b_here l2 l3 None (Some k.cache) links3 last3 first3 None refl tt)
         (λ t some other.
-          b_other l2 l3 None (Some k.cache) links3 last3 first3 t some
-          ∙ a_before l1 l2 l.last (Some k.cache) links2 first2 last2 t
-          ∙ before_off l l1 k.cache (Some X) links1 first1 last1 t other)
+        b_other l2 l3 None (Some k.cache) links3 last3 first3 t some
+        ∙ a_before l1 l2 l.last (Some k.cache) links2 first2 last2 t
+        ∙ before_off l l1 k.cache (Some X) links1 first1 last1 t other)
         (b_kept l2 l3 None (Some k.cache) links3 last3 first3 k.cache.0
         ∙ a_kept l1 l2 l.last (Some k.cache) links2 first2 last2 k.cache.0
         ∙ ap (option_map (λ (x : Link). x.kept)) (link_here l l1 k.cache (Some X) links1 first1 last1))
         (λ n other.
-          b_kept l2 l3 None (Some k.cache) links3 last3 first3 n
-          ∙ a_kept l1 l2 l.last (Some k.cache) links2 first2 last2 n
-          ∙ ap (option_map (λ (x : Link). x.kept)) (link_other l l1 k.cache (Some X) links1 first1 last1 n (λ e. other (sym e))))
+        b_kept l2 l3 None (Some k.cache) links3 last3 first3 n
+        ∙ a_kept l1 l2 l.last (Some k.cache) links2 first2 last2 n
+        ∙ ap (option_map (λ (x : Link). x.kept)) (link_other l l1 k.cache (Some X) links1 first1 last1 n (λ e. other (sym e))))
         None items r.linked (λ e. absurd (cc e)) (once_apart items k once);
     once = once;
     found = λ n.
-      b_found l2 l3 None (Some k.cache) links3 last3 first3 n
-      ∙ a_found l1 l2 l.last (Some k.cache) links2 first2 last2 n
-      ∙ ap is_some (links1 n)
-      ∙ by (k.cache.0 == n) (link_of l n)
-      ∙ ap (cond (k.cache.0 == n) true) (r.found n)
-      ∙ sym (kept_more items k n);
+        b_found l2 l3 None (Some k.cache) links3 last3 first3 n
+        ∙ a_found l1 l2 l.last (Some k.cache) links2 first2 last2 n
+        ∙ ap is_some (links1 n)
+        ∙ by (k.cache.0 == n) (link_of l n)
+        ∙ ap (cond (k.cache.0 == n) true) (r.found n)
+        ∙ sym (kept_more items k n);
     count = omega (arith, length-append items (k ∷ []), r.count, count1, count2, count3);
   }
     where

@@ -67,7 +67,7 @@ module _ {Manager X Chooser : Type 0} (M : GhostsOfMapper X) (G : GhostsOfGmi Ma
           kept = (0, refl);
           among = λ test h. h;
           few = omega arith;
-          room = refl;
+          spare = omega arith;
           fits = refl;
           credit = omega (arith, made_same, ap live_pages same);
           rises = (call_is M G manager gmi before after c a can call).rises;

@@ -1,5 +1,5 @@
 // The caches that segments name.
-ghost use Rattle.std.specs.Prelude.{◌≡◌, ◌≤◌, ◌<◌, ◌+◌, ◌++◌, ◌∷◌, [], Some, filter, length, not, slice_get, slice_set, OnOk};
+ghost use Rattle.std.specs.Prelude.{◌≡◌, ◌≤◌, ◌<◌, ◌+◌, ◌++◌, ◌∷◌, ◌^◌, [], Some, filter, length, not, slice_get, slice_set, OnOk};
 ghost use Rattle.seg_manager.specs.Inner.{StandsAt, first_of, first_with, named_with};
 ghost use Rattle.seg_manager.specs.Names.{AreNamed};
 ghost use Rattle.seg_manager.specs.declared.tables.Named.{Named};
@@ -47,7 +47,8 @@ impl NamedCaches {
 
     // How many there are.
     pub(crate) fn len(&self) -> usize
-        ensures { result ≡ length self.now.items }
+        ensures is { result ≡ length self.now.items }
+        ensures few { result < 2 ^ 63 }
     {
         self.list.len()
     }

@@ -13,9 +13,9 @@ enter-requires-clause-new_key c = unplaced c.self.inside.links.items c.self.insi
 pub enter-requires-clause-free : goal.enter-requires-clause-free
 enter-requires-clause-free c = λ other e.
     place_free c.self.inside.links.items c.self.inside.index.places c.self.inside.room c.self.invariant.2 c.args.link
-        (ap (λ l. link_of l c.args.link.kept.cache.0) c.self.view_is ∙ c.requires.none)
-        (omega (arith, c.requires.room, ap (λ l. l.room) c.self.view_is, ap (λ l. length l.links) c.self.view_is))
-        other (e ∙ ap (λ n. Some n) (omega (arith, c.len-place.ensures, c.self.inside.links.ok)))
+    (ap (λ l. link_of l c.args.link.kept.cache.0) c.self.view_is ∙ c.requires.none)
+    (omega (arith, c.requires.room, ap (λ l. l.room) c.self.view_is, ap (λ l. length l.links) c.self.view_is))
+    other (e ∙ ap (λ n. Some n) (omega (arith, c.len-place.ensures, c.self.inside.links.ok)))
 
 pub invariant_of-self : goal.invariant_of-self
 invariant_of-self c =
@@ -26,8 +26,8 @@ invariant_of-self c =
       omega (arith, c.self.invariant.1, c.push_reserved.ensures.capacity),
       subst (λ links. ArePlaced links c.enter.new.self.places c.self.inside.room) (sym c.push_reserved.ensures.items)
           (subst (λ places. ArePlaced (c.self.inside.links.items ++ c.args.link ∷ []) places c.self.inside.room)
-              (sym (ap (λ e. e.places) c.enter.ensures ∙ ap (map.insert c.self.inside.index.places c.args.link.kept.cache.0) last))
-              (placed_more c.self.inside.links.items c.self.inside.index.places c.self.inside.room c.self.invariant.2 c.args.link none fits)),
+          (sym (ap (λ e. e.places) c.enter.ensures ∙ ap (map.insert c.self.inside.index.places c.args.link.kept.cache.0) last))
+          (placed_more c.self.inside.links.items c.self.inside.index.places c.self.inside.room c.self.invariant.2 c.args.link none fits)),
     )
 
 pub returns-clause-links : goal.returns-clause-links

@@ -39,10 +39,10 @@ returns-then-place-last-clause-links c = λ n.
     let there = read_at c.self.inside.links.items c.self.inside.index.places c.self.inside.room c.self.invariant.2 c.args.cache.0 (c.len-last.result - 1) c.swap_remove.result placed c.swap_remove.ensures.value in
     let last : slice_get c.self.inside.links.items (vec_len c.self.inside.links - 1) ≡ Some c.swap_remove.result = ap (λ n. slice_get c.self.inside.links.items (n - 1)) (sym c.len-last.ensures) ∙ there in
     links_less c.self.inside.links.items c.self.inside.index.places c.self.inside.room c.self.invariant.2 c.args.cache.0 (c.len-last.result - 1) (vec_len c.self.inside.links) (omega (arith, c.self.inside.links.ok)) c.swap_remove.result c.swap_remove.new.self.items c.leave.new.self.places placed
-        last (omega (arith, c.swap_remove.ensures.len, c.swap_remove.new.self.ok)) c.swap_remove.ensures.by_index.0 c.swap_remove.ensures.by_index.1
-        (ap (λ e. map.get e.places c.args.cache.0) c.leave.ensures ∙ remove_same c.self.inside.index.places c.args.cache.0 c.args.cache.0 refl)
-        (λ apart. absurd (apart (named_at c.self.inside.links.items c.self.inside.index.places c.self.inside.room c.self.invariant.2 c.args.cache.0 (c.len-last.result - 1) c.swap_remove.result placed there)))
-        (λ m off other. ap (λ e. map.get e.places m) c.leave.ensures ∙ remove_other c.self.inside.index.places c.args.cache.0 m off) n
+    last (omega (arith, c.swap_remove.ensures.len, c.swap_remove.new.self.ok)) c.swap_remove.ensures.by_index.0 c.swap_remove.ensures.by_index.1
+    (ap (λ e. map.get e.places c.args.cache.0) c.leave.ensures ∙ remove_same c.self.inside.index.places c.args.cache.0 c.args.cache.0 refl)
+    (λ apart. absurd (apart (named_at c.self.inside.links.items c.self.inside.index.places c.self.inside.room c.self.invariant.2 c.args.cache.0 (c.len-last.result - 1) c.swap_remove.result placed there)))
+    (λ m off other. ap (λ e. map.get e.places m) c.leave.ensures ∙ remove_other c.self.inside.index.places c.args.cache.0 m off) n
     ∙ ap (λ l. cond (c.args.cache.0 == n) None (link_of l n)) c.self.view_is
 
 -- the last one takes its place
@@ -64,15 +64,15 @@ enter-requires-clause-new_key c =
 pub enter-requires-clause-free : goal.enter-requires-clause-free
 enter-requires-clause-free c = λ other e. elim (cases_eq other c.index.result.now.kept.cache.0) [
   | inl is ↦
-    (let wrong : None ≡ Some c.in_ok-place.place = sym (ap (λ x. map.get x.places other) c.leave-2.ensures ∙ remove_same c.leave.new.self.places c.index.result.now.kept.cache.0 other is) ∙ e in cc wrong)
+      (let wrong : None ≡ Some c.in_ok-place.place = sym (ap (λ x. map.get x.places other) c.leave-2.ensures ∙ remove_same c.leave.new.self.places c.index.result.now.kept.cache.0 other is) ∙ e in cc wrong)
   | inr off ↦
-    (let then : map.get c.leave.new.self.places other ≡ Some c.in_ok-place.place = sym (ap (λ x. map.get x.places other) c.leave-2.ensures ∙ remove_other c.leave.new.self.places c.index.result.now.kept.cache.0 other off) ∙ e in
-    elim (cases_eq other c.args.cache.0) [
-      | inl is ↦
-        (let wrong : None ≡ Some c.in_ok-place.place = sym (ap (λ x. map.get x.places other) c.leave.ensures ∙ remove_same c.self.inside.index.places c.args.cache.0 other is) ∙ then in cc wrong)
-      | inr apart ↦
-        apart (one_number c.self.inside.links.items c.self.inside.index.places c.self.inside.room c.self.invariant.2 other c.args.cache.0 c.in_ok-place.place (sym (ap (λ x. map.get x.places other) c.leave.ensures ∙ remove_other c.self.inside.index.places c.args.cache.0 other apart) ∙ then) (sym c.in_ok-place.ensures))
-    ])
+      (let then : map.get c.leave.new.self.places other ≡ Some c.in_ok-place.place = sym (ap (λ x. map.get x.places other) c.leave-2.ensures ∙ remove_other c.leave.new.self.places c.index.result.now.kept.cache.0 other off) ∙ e in
+      elim (cases_eq other c.args.cache.0) [
+        | inl is ↦
+            (let wrong : None ≡ Some c.in_ok-place.place = sym (ap (λ x. map.get x.places other) c.leave.ensures ∙ remove_same c.self.inside.index.places c.args.cache.0 other is) ∙ then in cc wrong)
+        | inr apart ↦
+            apart (one_number c.self.inside.links.items c.self.inside.index.places c.self.inside.room c.self.invariant.2 other c.args.cache.0 c.in_ok-place.place (sym (ap (λ x. map.get x.places other) c.leave.ensures ∙ remove_other c.self.inside.index.places c.args.cache.0 other apart) ∙ then) (sym c.in_ok-place.ensures))
+      ])
 ]
 
 pub enter-requires-clause-room : goal.enter-requires-clause-room
@@ -110,8 +110,8 @@ returns-clause-links c = λ n.
     let apart : c.index.result.now.kept.cache.0 ≢ c.args.cache.0 = λ e. c.if-place-last.false (let two : Some c.in_ok-place.place ≡ Some (c.len-last.result - 1) = c.in_ok-place.ensures ∙ ap (map.get c.self.inside.index.places) (sym e) ∙ at in cc two) in
     let is = ap (λ e. e.places) c.enter.ensures ∙ ap (λ x. map.insert x.places c.index.result.now.kept.cache.0 c.in_ok-place.place) c.leave-2.ensures ∙ ap (λ x. map.insert (map.remove x.places c.index.result.now.kept.cache.0) c.index.result.now.kept.cache.0 c.in_ok-place.place) c.leave.ensures in
     links_less c.self.inside.links.items c.self.inside.index.places c.self.inside.room c.self.invariant.2 c.args.cache.0 c.in_ok-place.place (vec_len c.self.inside.links) (omega (arith, c.self.inside.links.ok)) c.index.result.now c.swap_remove-2.new.self.items c.enter.new.self.places (sym c.in_ok-place.ensures)
-        (ap (λ n. slice_get c.self.inside.links.items (n - 1)) (sym c.len-last.ensures) ∙ there) (omega (arith, c.swap_remove-2.ensures.len, c.swap_remove-2.new.self.ok)) c.swap_remove-2.ensures.by_index.0 c.swap_remove-2.ensures.by_index.1
-        (moved_gone c.self.inside.index.places c.enter.new.self.places c.args.cache.0 c.index.result.now.kept.cache.0 c.in_ok-place.place apart is)
-        (λ off. moved_here c.self.inside.index.places c.enter.new.self.places c.args.cache.0 c.index.result.now.kept.cache.0 c.in_ok-place.place apart is)
-        (moved_same c.self.inside.index.places c.enter.new.self.places c.args.cache.0 c.index.result.now.kept.cache.0 c.in_ok-place.place apart is) n
+    (ap (λ n. slice_get c.self.inside.links.items (n - 1)) (sym c.len-last.ensures) ∙ there) (omega (arith, c.swap_remove-2.ensures.len, c.swap_remove-2.new.self.ok)) c.swap_remove-2.ensures.by_index.0 c.swap_remove-2.ensures.by_index.1
+    (moved_gone c.self.inside.index.places c.enter.new.self.places c.args.cache.0 c.index.result.now.kept.cache.0 c.in_ok-place.place apart is)
+    (λ off. moved_here c.self.inside.index.places c.enter.new.self.places c.args.cache.0 c.index.result.now.kept.cache.0 c.in_ok-place.place apart is)
+    (moved_same c.self.inside.index.places c.enter.new.self.places c.args.cache.0 c.index.result.now.kept.cache.0 c.in_ok-place.place apart is) n
     ∙ ap (λ l. cond (c.args.cache.0 == n) None (link_of l n)) c.self.view_is

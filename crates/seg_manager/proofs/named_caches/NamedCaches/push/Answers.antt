@@ -9,7 +9,7 @@ invariant_of-self c =
     subst (λ cs. AreIndexed cs c.insert.new.self.entries) (sym c.push_reserved.ensures.items) (record {
       named = named;
       found = λ seg.
-        c.in-Ok.ensures.updates.0 seg
-        ∙ ap (cond (c.args.named.seg.0 == seg) (Some c.args.named.cache)) (c.self.invariant.found seg)
-        ∙ sym (cache_more c.self.inside.list.items c.args.named seg named);
+          c.in-Ok.ensures.updates.0 seg
+          ∙ ap (cond (c.args.named.seg.0 == seg) (Some c.args.named.cache)) (c.self.invariant.found seg)
+          ∙ sym (cache_more c.self.inside.list.items c.args.named seg named);
     })

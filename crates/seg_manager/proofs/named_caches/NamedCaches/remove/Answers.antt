@@ -17,14 +17,14 @@ invariant_of-self c =
     let there = slice_get-get_or c.self.inside.list.items c.in-Some.place c.remove-named.result within ∙ ap (λ x. Some x) (sym c.remove-named.ensures.value) in
     let it = with_at c.args.cache.0 c.self.inside.list.items c.in-Some.place c.remove-named.result (ap (position_from (first_with c.args.cache.0) 0) (sym c.deref.ensures.value) ∙ sym c.in-Some.ensures) there in
     subst (λ cs. AreIndexed cs c.remove.new.self.entries)
-        (sym (c.remove-named.ensures.items ∙ others_there c.args.cache.0 c.self.inside.list.items c.in-Some.place c.remove-named.result c.self.invariant.named there it.1))
-        (record {
-          named = named_less (λ d. not (first_with c.args.cache.0 d)) c.self.inside.list.items c.self.invariant.named;
-          found = λ seg.
-            c.remove.ensures.updates.0 seg
-            ∙ ap (cond (c.remove-named.result.seg.0 == seg) None) (c.self.invariant.found seg)
-            ∙ sym (cache_less c.args.cache.0 c.self.inside.list.items c.in-Some.place c.remove-named.result seg c.self.invariant.named there it.1);
-        })
+    (sym (c.remove-named.ensures.items ∙ others_there c.args.cache.0 c.self.inside.list.items c.in-Some.place c.remove-named.result c.self.invariant.named there it.1))
+    (record {
+      named = named_less (λ d. not (first_with c.args.cache.0 d)) c.self.inside.list.items c.self.invariant.named;
+      found = λ seg.
+          c.remove.ensures.updates.0 seg
+          ∙ ap (cond (c.remove-named.result.seg.0 == seg) None) (c.self.invariant.found seg)
+          ∙ sym (cache_less c.args.cache.0 c.self.inside.list.items c.in-Some.place c.remove-named.result seg c.self.invariant.named there it.1);
+    })
 
 pub returns-in-Some-clause-items : goal.returns-in-Some-clause-items
 returns-in-Some-clause-items c =

@@ -17,5 +17,5 @@ invariant_of-self c =
 pub returns-clause-items : goal.returns-clause-items
 returns-clause-items c = λ named e.
     let is : c.index_mut.result.now ≡ named =
-        c.index_mut.ensures.value ∙ get_or_from_slice_get c.self.inside.list.items c.args.place named c.index_mut.result.now (ap (λ n. slice_get n.items c.args.place) c.self.view_is ∙ e) in
+    c.index_mut.ensures.value ∙ get_or_from_slice_get c.self.inside.list.items c.args.place named c.index_mut.result.now (ap (λ n. slice_get n.items c.args.place) c.self.view_is ∙ e) in
     (λ i. slice_set (c.self.view_is i).items c.args.place (record (is i) { openings = c.args.openings }))
