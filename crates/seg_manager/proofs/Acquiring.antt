@@ -3,7 +3,6 @@ use Rattle.std.proofs.Common.{◌≡◌, ◌==◌, ℕ, ◌+◌, ◌-◌, ◌≤
 use Rattle.std.specs.Prelude.{◌||◌, IfNone, Ok, Err, Result, is_some, nat_le, not, option_map, replicate, slice_get, slice_set}
 use Rattle.std.specs.FinMap.{get}
 use Rattle.std.specs.List.{AllByRecursion, list_any, position_from}
-use Rattle.std.specs.VecDeque.{deque_capacity}
 use Rattle.std.proofs.lemmas.Bool.{cases_eq, eq-eqb, ne_eqb}
 use Rattle.std.proofs.lemmas.Bool.Decides.{nat_tests}
 use Rattle.std.proofs.lemmas.Option.{slice_get_within}
@@ -260,14 +259,14 @@ module _ {Manager X Chooser : Type 0} (M : GhostsOfMapper X) (G : GhostsOfGmi Ma
     abbrev later : SegManager Manager
     later = record old { caches = new.caches; kept = new.kept }
 
-    tied : AreTied m told new.caches.items new.kept.items (deque_capacity new.kept) old.regions.items
+    tied : AreTied m told new.caches.items new.kept.items new.kept.room old.regions.items
     tied =
-        subst (λ (ks : List Kept). AreTied m told new.caches.items ks (deque_capacity new.kept) old.regions.items) (sym o.kept)
+        subst (λ (ks : List Kept). AreTied m told new.caches.items ks new.kept.room old.regions.items) (sym o.kept)
         (subst (λ (k : ℕ). AreTied m told new.caches.items (others_kept o.named.cache.0 old.kept.items) k old.regions.items) (sym o.capacity)
-        (tied_again m told old.caches.items old.kept.items (deque_capacity old.kept) old.regions.items can.tied seg place o.named (sym first) o.there new.caches.items o.caches))
+        (tied_again m told old.caches.items old.kept.items old.kept.room old.regions.items can.tied seg place o.named (sym first) o.there new.caches.items o.caches))
 
     opens : Opens told m old.caches.items new.caches.items seg o.named.cache
-    opens = opens_again m old.caches.items old.kept.items (deque_capacity old.kept) old.regions.items seg place o.named (sym first) o.there new.caches.items o.caches told can.tied (blank_told (M.held before) m can.blank)
+    opens = opens_again m old.caches.items old.kept.items old.kept.room old.regions.items seg place o.named (sym first) o.there new.caches.items o.caches told can.tied (blank_told (M.held before) m can.blank)
 
     step : StepAt told (state_of G old (M.held before)) (commands.Plain (OpenSegment seg)) (Ok (replies.Cache o.named.cache)) no_counts (state_of G later (M.held before))
     step = step_whole (state_of G old (M.held before)) (state_of G later (M.held before)) (commands.Plain (OpenSegment seg)) (Ok (replies.Cache o.named.cache)) no_counts opens.whole opens.next (λ h. opens.leads h no_counts) opens.seen
@@ -292,11 +291,11 @@ module _ {Manager X Chooser : Type 0} (M : GhostsOfMapper X) (G : GhostsOfGmi Ma
         is = record { step = step; denied = refl };
       };
       kept = subst (λ (ks : List Kept). IsAcquired (HasNoRoom G old.gmi (M.held before) (OpenSegment seg)) (list_any (λ s. s == seg.0) (kept_segments old.kept.items)) seg.0 (kept_segments old.kept.items) (Ok o.named.cache) (kept_segments ks)) (sym o.kept)
-          (acquired_kept m old.caches.items old.kept.items (deque_capacity old.kept) old.regions.items seg place o.named (sym first) o.there new.caches.items o.caches told can.tied (HasNoRoom G old.gmi (M.held before) (OpenSegment seg)) o.named.cache);
+          (acquired_kept m old.caches.items old.kept.items old.kept.room old.regions.items seg place o.named (sym first) o.there new.caches.items o.caches told can.tied (HasNoRoom G old.gmi (M.held before) (OpenSegment seg)) o.named.cache);
       again = λ k e. (
         refl,
         (let both : Some o.named.cache.0 ≡ Some k =
-            sym (number_is m can.tied.apart o.named.cache.0 seg.0 (of m told old.caches.items old.kept.items (deque_capacity old.kept) old.regions.items can.tied seg place o.named (sym first) o.there new.caches.items o.caches)) ∙ e in cc both),
+            sym (number_is m can.tied.apart o.named.cache.0 seg.0 (of m told old.caches.items old.kept.items old.kept.room old.regions.items can.tied seg place o.named (sym first) o.there new.caches.items o.caches)) ∙ e in cc both),
       );
       too_many = λ e. absurd (cc e);
     }

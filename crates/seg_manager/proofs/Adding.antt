@@ -4,7 +4,6 @@ use Rattle.std.specs.Prelude.{◌||◌, Ok, Err, insert, nat_lt, not}
 use Rattle.std.specs.Global.{Vec}
 use Rattle.std.specs.List.{list_any}
 use Rattle.std.specs.Option.{option_map_or}
-use Rattle.std.specs.VecDeque.{deque_capacity}
 use Rattle.std.proofs.lemmas.Bool.{cases_eq, eq-eqb, ne_eqb}
 use Rattle.vm_ids.specs.Counting.{no_counts}
 use Rattle.vm_ids.specs.Held.{Segments, segments_of}
@@ -81,7 +80,7 @@ module _ {Manager X Chooser : Type 0} (M : GhostsOfMapper X) (G : GhostsOfGmi Ma
           fits = able.fits;
           live = able.live;
           few = able.few;
-          tied = subst (λ (xs : List Mapped). AreTied (G.machine old.gmi (M.held mapper)) told cs ks (deque_capacity old.kept) xs) (sym same) able.tied;
+          tied = subst (λ (xs : List Mapped). AreTied (G.machine old.gmi (M.held mapper)) told cs ks old.kept.room xs) (sym same) able.tied;
           blank = able.blank;
         };
         made = omega arith;
@@ -102,7 +101,7 @@ module _ {Manager X Chooser : Type 0} (M : GhostsOfMapper X) (G : GhostsOfGmi Ma
     abbrev y : Machine
     y = n M G old gmi mapper mapper (Map actor found) a able call
 
-    serves : (regions : Vec Mapped) → (segments_in y.caches ≡ segments_in x.caches → AreTied y told cs ks (deque_capacity old.kept) regions.items) → Serves M G mapper old (Map actor p) a mapper (record old { gmi = gmi; regions = regions })
+    serves : (regions : Vec Mapped) → (segments_in y.caches ≡ segments_in x.caches → AreTied y told cs ks old.kept.room regions.items) → Serves M G mapper old (Map actor p) a mapper (record old { gmi = gmi; regions = regions })
     serves regions tied = record {
       call = answered_call M G old gmi mapper mapper (Map actor found) a able call (Map actor p) answered (record old { regions = regions }) refl refl tied;
       kept = refl;
@@ -111,7 +110,7 @@ module _ {Manager X Chooser : Type 0} (M : GhostsOfMapper X) (G : GhostsOfGmi Ma
     -- It wasn't mapped.
     not_mapped : (t : Trouble) → a ≡ Err t → (regions : Vec Mapped) → regions.items ≡ rs → Serves M G mapper old (Map actor p) a mapper (record old { gmi = gmi; regions = regions })
     not_mapped t is regions same = serves regions (λ e.
-        tied_alike x y told told cs ks (deque_capacity old.kept) rs regions.items able.tied e
+        tied_alike x y told told cs ks old.kept.room rs regions.items able.tied e
         (ap (map noted_of) same ∙ able.tied.regions ∙ sym (ap (noted_regions 1) (by a is (call_is M G old gmi mapper mapper (Map actor found) a able call).is.outcome)))
         (λ q i. is_unreferenced_by x cs (same i) q) (backed_next M G old gmi mapper mapper (Map actor found) a able call))
       where
@@ -166,7 +165,7 @@ module _ {Manager X Chooser : Type 0} (M : GhostsOfMapper X) (G : GhostsOfGmi Ma
         ]
 
         was_mapped : Serves M G mapper old (Map actor p) a mapper (record old { gmi = gmi; regions = regions })
-        was_mapped = serves regions (λ e. tied_alike x y told told cs ks (deque_capacity old.kept) rs regions.items able.tied e regions_are alike (backed_next M G old gmi mapper mapper (Map actor found) a able call))
+        was_mapped = serves regions (λ e. tied_alike x y told told cs ks old.kept.room rs regions.items able.tied e regions_are alike (backed_next M G old gmi mapper mapper (Map actor found) a able call))
 
   -- By the calls that it makes
 

@@ -4,7 +4,6 @@ use Rattle.std.specs.Prelude.{◌||◌, IfNone, IfSome, Ok, Err, Result, is_some
 use Rattle.std.specs.FinMap.{get}
 use Rattle.std.specs.List.{AllByRecursion, list_any, position_from}
 use Rattle.std.specs.Option.{option_map_or}
-use Rattle.std.specs.VecDeque.{deque_capacity}
 use Rattle.std.proofs.lemmas.Bool.{eqb-true, ne_eqb}
 use Rattle.std.proofs.lemmas.List.{drop-map, length-append}
 use Rattle.vm_ids.specs.Counting.{MapperCounts, counts_sum, no_counts}
@@ -40,6 +39,7 @@ use Rattle.seg_manager.specs.Stepping.{State}
 use Rattle.seg_manager.specs.Thinning.{Fails, IsDestroyFault, IsTried, Thins, Tries, credit, seen_with, Trying}
 use Rattle.seg_manager.specs.Tying.{AreTied, CanCall}
 use Rattle.seg_manager.specs.declared.manager.SegManager.{SegManager}
+use Rattle.seg_manager.specs.Names.{AreNamed}
 use Rattle.seg_manager.specs.declared.tables.Kept.{Kept}
 use Rattle.seg_manager.specs.declared.tables.Mapped.{Mapped}
 use Rattle.seg_manager.specs.declared.tables.Named.{Named}
@@ -48,6 +48,7 @@ use Rattle.seg_manager.proofs.Anew.{nobody, opened_next, seen_told, seen_untold,
 use Rattle.seg_manager.proofs.Calls.{able_after, backed_next, call_is, denied_after, forest, made_after, told_after}
 use Rattle.seg_manager.proofs.Going.{Caches, length_used}
 use Rattle.seg_manager.proofs.Leaving.{credit_few, seen_length}
+use Rattle.seg_manager.proofs.Named.{tied_named}
 use Rattle.seg_manager.proofs.Opened.{Ends, IsOpen, appended, failed, lacks, made, many, nowhere, number_next}
 use Rattle.seg_manager.proofs.Opening.{number_none, used_entry}
 use Rattle.seg_manager.proofs.Pushed.{Follow, Told}
@@ -164,7 +165,7 @@ opened_of told m seg cache n rises (failed e s h) = absurd (cc e)
 opened_of told m seg cache n rises (lacks e s) = absurd (cc e)
 
 module _ {Manager X Chooser : Type 0} (M : GhostsOfMapper X) (G : GhostsOfGmi Manager X Chooser) (before : X) (old s1 : SegManager Manager) (seg : SegId) (can : CanCall G old (M.held before) (M.page_bytes before))
-    (anew : None ≡ position_from (first_of seg.0) 0 old.caches.items) (caches : s1.caches.items ≡ old.caches.items) (kept : s1.kept.items ≡ old.kept.items) (less : deque_capacity old.kept ≤ deque_capacity s1.kept) where
+    (anew : None ≡ position_from (first_of seg.0) 0 old.caches.items) (caches : s1.caches.items ≡ old.caches.items) (kept : s1.kept.items ≡ old.kept.items) (less : old.kept.room ≤ s1.kept.room) where
   abbrev pub start : SegManager Manager
   start = record old { caches = s1.caches; kept = s1.kept }
 
@@ -181,8 +182,8 @@ module _ {Manager X Chooser : Type 0} (M : GhostsOfMapper X) (G : GhostsOfGmi Ma
     fits = can.fits;
     live = can.live;
     few = can.few;
-    tied = subst (λ (cs : List Named). AreTied m0 told0 cs s1.kept.items (deque_capacity s1.kept) old.regions.items) (sym caches)
-        (subst (λ (ks : List Kept). AreTied m0 told0 old.caches.items ks (deque_capacity s1.kept) old.regions.items) (sym kept) (record {
+    tied = subst (λ (cs : List Named). AreTied m0 told0 cs s1.kept.items s1.kept.room old.regions.items) (sym caches)
+        (subst (λ (ks : List Kept). AreTied m0 told0 old.caches.items ks s1.kept.room old.regions.items) (sym kept) (record {
           caches = can.tied.caches;
           regions = can.tied.regions;
           apart = can.tied.apart;
@@ -221,7 +222,7 @@ module _ {Manager X Chooser : Type 0} (M : GhostsOfMapper X) (G : GhostsOfGmi Ma
     seen_by = thins.seen ∙ ap (references_seen m0 told0) caches
 
     number_R : number_in 1 R.memory.caches seg.0 ≡ None
-    number_R = ap (λ (xs : Caches). number_in 1 xs seg.0) (caches_seen told m by.caches.items) ∙ number_unseen m told by.caches.items by.kept.items (deque_capacity by.kept) by.regions.items thins.can.tied seg anew_by
+    number_R = ap (λ (xs : Caches). number_in 1 xs seg.0) (caches_seen told m by.caches.items) ∙ number_unseen m told by.caches.items by.kept.items by.kept.room by.regions.items thins.can.tied seg anew_by
 
     as_many : length m.caches ≡ length m0.caches
     as_many = sym (seen_length told m by.caches.items) ∙ ap (λ (r : ReferenceMachine). length r.memory.caches) thins.seen ∙ seen_length told0 m0 start.caches.items
@@ -236,7 +237,7 @@ module _ {Manager X Chooser : Type 0} (M : GhostsOfMapper X) (G : GhostsOfGmi Ma
     ]
 
     no_cache : (n : ℕ) → number_in 1 m0.caches seg.0 ≡ Some n → ⊥
-    no_cache n e = (let wrong : None ≡ Some n = sym (number_below m0 told0 old.caches.items old.kept.items (deque_capacity old.kept) old.regions.items can.tied seg anew) ∙ e in cc wrong)
+    no_cache n e = (let wrong : None ≡ Some n = sym (number_below m0 told0 old.caches.items old.kept.items old.kept.room old.regions.items can.tied seg anew) ∙ e in cc wrong)
 
     -- Another cache couldn't make room.
     module _ (after : X) (gmi : Manager) (call : MapperCall M (meanings_of G) middle by.gmi (OpenSegment seg) (Err (troubles.Refused refusals.TooMany)) after gmi) where
@@ -278,7 +279,7 @@ module _ {Manager X Chooser : Type 0} (M : GhostsOfMapper X) (G : GhostsOfGmi Ma
             denied = vain_denied ∙ thins.denied;
           }) (λ h. subst (λ (r : ReferenceMachine). Outcome r None (commands.Plain (OpenSegment seg)) h 0 (Err t) r vain_rises) seen_by (vain_outcome t f.fault vain_rises (omega (arith, f.failed)) h));
           kept = behind_not (HasNoRoom G old.gmi (M.held before) (OpenSegment seg)) (list_any (λ s. s == seg.0) (kept_segments old.kept.items)) seg.0 (kept_segments old.kept.items) (kept_segments new.kept.items) (Err t)
-              (not_kept m0 told0 old.caches.items old.kept.items (deque_capacity old.kept) old.regions.items can.tied seg anew)
+              (not_kept m0 told0 old.caches.items old.kept.items old.kept.room old.regions.items can.tied seg anew)
               (subst (AreBehind Cause (kept_segments old.kept.items)) (sym (ap (λ (x : SegManager Manager). kept_segments x.kept.items) f.same)) kept_behind);
           again = λ k e. absurd (no_cache k e);
           too_many = λ e. absurd (never_many t f.fault (let s : t ≡ troubles.Refused refusals.TooMany = cc e in s));
@@ -313,7 +314,7 @@ module _ {Manager X Chooser : Type 0} (M : GhostsOfMapper X) (G : GhostsOfGmi Ma
       said (nowhere e s none) h =
           subst (λ (x : Trouble). Says x h) (let is : troubles.Refused refusals.NoSegment ≡ t = cc e in is)
           (nowhere_row R seg.0 0 number_R (stored_nothing told m by.caches.items seg.0
-          (stored_as m told then_told by.caches.items by.kept.items (deque_capacity by.kept) by.regions.items thins.can.tied seg anew_by (told_after M G by gmi middle after (OpenSegment seg) (Err t) thins.can call) None none)))
+          (stored_as m told then_told by.caches.items by.kept.items by.kept.room by.regions.items thins.can.tied seg anew_by (told_after M G by gmi middle after (OpenSegment seg) (Err t) thins.can call) None none)))
       said (failed e s some) h =
           subst (λ (x : Trouble). Says x h) (let is : troubles.Mapper faults.Opening ≡ t = cc e in is)
           (refl, omega (arith, some), number_R, goes_on_by R seg 0 faults.Opening number_R (R.stored seg.0) refl)
@@ -334,7 +335,7 @@ module _ {Manager X Chooser : Type 0} (M : GhostsOfMapper X) (G : GhostsOfGmi Ma
           denied = denied_then ∙ thins.denied;
         }) (λ h. subst (λ (r : ReferenceMachine). Outcome r None (commands.Plain (OpenSegment seg)) h 0 (Err t) r rises) seen_by (said (open_ended M G by middle thins.can seg anew_by (Err t) after gmi call) h));
         kept = behind_not (HasNoRoom G old.gmi (M.held before) (OpenSegment seg)) (list_any (λ s. s == seg.0) (kept_segments old.kept.items)) seg.0 (kept_segments old.kept.items) (kept_segments left.kept.items) (Err t)
-            (not_kept m0 told0 old.caches.items old.kept.items (deque_capacity old.kept) old.regions.items can.tied seg anew) kept_behind;
+            (not_kept m0 told0 old.caches.items old.kept.items old.kept.room old.regions.items can.tied seg anew) kept_behind;
         again = λ k e. absurd (no_cache k e);
         too_many = λ e. (let is : t ≡ troubles.Refused refusals.TooMany = cc e in (
           none is,
@@ -345,7 +346,7 @@ module _ {Manager X Chooser : Type 0} (M : GhostsOfMapper X) (G : GhostsOfGmi Ma
 
     -- It was opened, and is noted.
     module _ (cache : CacheId) (after : X) (gmi : Manager) (call : MapperCall M (meanings_of G) middle by.gmi (OpenSegment seg) (Ok (replies.Cache cache)) after gmi) (later : SegManager Manager)
-        (pushed : later.caches.items ≡ by.caches.items ++ (record { seg = seg; cache = cache; openings = 1 }) ∷ []) (roomy : length by.caches.items + 1 ≤ deque_capacity by.kept) where
+        (pushed : later.caches.items ≡ by.caches.items ++ (record { seg = seg; cache = cache; openings = 1 }) ∷ []) (roomy : length by.caches.items + 1 ≤ by.kept.room) where
       abbrev d : Named
       d = record { seg = seg; cache = cache; openings = 1 }
 
@@ -370,12 +371,16 @@ module _ {Manager X Chooser : Type 0} (M : GhostsOfMapper X) (G : GhostsOfGmi Ma
       number_is : cache.0 ≡ number_next m
       number_is = let same : cache ≡ (let x : CacheId = record { 0 = number_next m } in x) = cc p.answer in ap (λ (x : CacheId). x.0) same
 
-      tied_final : AreTied n' told_then later.caches.items by.kept.items (deque_capacity by.kept) by.regions.items
+      tied_final : AreTied n' told_then later.caches.items by.kept.items by.kept.room by.regions.items
       tied_final =
-          subst (λ (x : Machine). AreTied x told_then later.caches.items by.kept.items (deque_capacity by.kept) by.regions.items) (sym p.next)
-          (subst (λ (cs : List Named). AreTied (appended m (opened seg.0 p.pages)) told_then cs by.kept.items (deque_capacity by.kept) by.regions.items) (sym pushed)
-          (tied_anew m told by.caches.items by.kept.items (deque_capacity by.kept) by.regions.items thins.can.tied seg (sym anew_by) p.pages d refl number_is refl told_then roomy
+          subst (λ (x : Machine). AreTied x told_then later.caches.items by.kept.items by.kept.room by.regions.items) (sym p.next)
+          (subst (λ (cs : List Named). AreTied (appended m (opened seg.0 p.pages)) told_then cs by.kept.items by.kept.room by.regions.items) (sym pushed)
+          (tied_anew m told by.caches.items by.kept.items by.kept.room by.regions.items thins.can.tied seg (sym anew_by) p.pages d refl number_is refl told_then roomy
           (subst (λ (x : Machine). IfSome told_then (λ t. AreBacked x.caches t)) p.next (backed_next M G by gmi middle after (OpenSegment seg) (Ok (replies.Cache cache)) thins.can call))))
+
+      -- the numbers rise still
+      named_final : AreNamed later.caches.items
+      named_final = tied_named n' told_then later.caches.items by.kept.items by.kept.room by.regions.items tied_final
 
       one_more : length n'.caches ≡ length m.caches + 1
       one_more = omega (arith, ap (λ (x : Machine). length x.caches) p.next, length-append m.caches (Some (opened seg.0 p.pages) ∷ []))
@@ -401,8 +406,8 @@ module _ {Manager X Chooser : Type 0} (M : GhostsOfMapper X) (G : GhostsOfGmi Ma
             numbered_past whole.memory.caches (number_next m) (omega (arith, ap length whole_memory, length_used (whole_of m told by.caches.items) 1 m.caches)),
           ),
           anew_row whole seg.0 (number_next m) p.pages
-              (ap (λ (xs : Caches). number_in 1 xs seg.0) whole_memory ∙ number_unseen m told by.caches.items by.kept.items (deque_capacity by.kept) by.regions.items thins.can.tied seg anew_by)
-              (whole_stored told m by.caches.items seg.0 p.pages (stored_as m told told_then by.caches.items by.kept.items (deque_capacity by.kept) by.regions.items thins.can.tied seg anew_by
+              (ap (λ (xs : Caches). number_in 1 xs seg.0) whole_memory ∙ number_unseen m told by.caches.items by.kept.items by.kept.room by.regions.items thins.can.tied seg anew_by)
+              (whole_stored told m by.caches.items seg.0 p.pages (stored_as m told told_then by.caches.items by.kept.items by.kept.room by.regions.items thins.can.tied seg anew_by
               (told_after M G by gmi middle after (OpenSegment seg) (Ok (replies.Cache cache)) thins.can call) (Some p.pages) p.held))
               ∙ ap (λ (x : Answered). x) (λ i. reply_cache (sym number_is i) next),
         ),
@@ -423,14 +428,14 @@ module _ {Manager X Chooser : Type 0} (M : GhostsOfMapper X) (G : GhostsOfGmi Ma
           is = record {
             step = step_whole (state_of G old (M.held before)) (state_of G final (M.held after)) (commands.Plain (OpenSegment seg)) (Ok (replies.Cache cache)) (counts_sum thins.rises open_rises) whole next
                 (λ h. leads h (counts_sum thins.rises open_rises))
-                (seen_opened told told_then m n' by.caches.items by.kept.items (deque_capacity by.kept) by.regions.items thins.can.tied seg anew_by p.pages d refl number_is refl
+                (seen_opened told told_then m n' by.caches.items by.kept.items by.kept.room by.regions.items thins.can.tied seg anew_by p.pages d refl number_is refl
                 (told_after M G by gmi middle after (OpenSegment seg) (Ok (replies.Cache cache)) thins.can call) p.next (blank_told (M.held middle) m thins.can.blank) (blank_told (M.held after) n' final_can.blank)
                 (state_of G old (M.held before)) (state_of G final (M.held after)) (sym seen_by) (ap (references_seen n' told_then) pushed));
             denied = open_denied ∙ thins.denied;
           };
         };
         kept = behind_not (HasNoRoom G old.gmi (M.held before) (OpenSegment seg)) (list_any (λ s. s == seg.0) (kept_segments old.kept.items)) seg.0 (kept_segments old.kept.items) (kept_segments final.kept.items) (Ok cache)
-            (not_kept m0 told0 old.caches.items old.kept.items (deque_capacity old.kept) old.regions.items can.tied seg anew) kept_behind;
+            (not_kept m0 told0 old.caches.items old.kept.items old.kept.room old.regions.items can.tied seg anew) kept_behind;
         again = λ k e. absurd (no_cache k e);
         too_many = λ e. absurd (cc e);
       }
@@ -448,8 +453,8 @@ module _ {Manager X Chooser : Type 0} (M : GhostsOfMapper X) (G : GhostsOfGmi Ma
       denied = refl;
     }) (λ h. (refl, tt, tt));
     kept = behind_not (HasNoRoom G old.gmi (M.held before) (OpenSegment seg)) (list_any (λ s. s == seg.0) (kept_segments old.kept.items)) seg.0 (kept_segments old.kept.items) (kept_segments start.kept.items) (Err troubles.Memory)
-        (not_kept m0 told0 old.caches.items old.kept.items (deque_capacity old.kept) old.regions.items can.tied seg anew) (inl (ap kept_segments kept));
-    again = λ k e. absurd (let wrong : None ≡ Some k = sym (number_below m0 told0 old.caches.items old.kept.items (deque_capacity old.kept) old.regions.items can.tied seg anew) ∙ e in cc wrong);
+        (not_kept m0 told0 old.caches.items old.kept.items old.kept.room old.regions.items can.tied seg anew) (inl (ap kept_segments kept));
+    again = λ k e. absurd (let wrong : None ≡ Some k = sym (number_below m0 told0 old.caches.items old.kept.items old.kept.room old.regions.items can.tied seg anew) ∙ e in cc wrong);
     too_many = λ e. absurd (cc e);
   }
 
@@ -463,13 +468,23 @@ module _ {Manager X Chooser : Type 0} (M : GhostsOfMapper X) (G : GhostsOfGmi Ma
       in_vain v.tries.middle v.tries.by v.tries.trying v.middle v.by.gmi v.tries.call t after s2
       (subst (λ (x : SegManager Manager). Fails M G v.middle x t after s2) v.tries.same v.fails)
 
-  pub tried_ok : (cache : CacheId) (after : X) (s2 new : SegManager Manager) → length s1.caches.items + 1 ≤ deque_capacity s1.kept → IsTried M G (OpenSegment seg) before start (Ok cache) after s2
+  pub tried_ok : (cache : CacheId) (after : X) (s2 new : SegManager Manager) → length s1.caches.items + 1 ≤ s1.kept.room → IsTried M G (OpenSegment seg) before start (Ok cache) after s2
       → new.caches.items ≡ s2.caches.items ++ (record { seg = seg; cache = cache; openings = 1 }) ∷ [] → new ≡ record s2 { caches = new.caches } → Acquires M G before old seg (Ok cache) after new
   tried_ok cache after s2 new all tr pushed same =
       subst (λ (x : SegManager Manager). Acquires M G before old seg (Ok cache) after x) (sym (same ∙ (λ i. record (tr.same i) { caches = new.caches })))
       (was_opened tr.middle tr.by tr.trying cache after s2.gmi tr.call new
       (pushed ∙ ap (λ (x : SegManager Manager). x.caches.items ++ (record { seg = seg; cache = cache; openings = 1 }) ∷ []) tr.same)
       (omega (arith, all, tr.trying.thins.few, tr.trying.thins.fits)))
+
+  pub tried_named : (cache : CacheId) (after : X) (s2 : SegManager Manager) → length s1.caches.items + 1 ≤ s1.kept.room → IsTried M G (OpenSegment seg) before start (Ok cache) after s2
+      → AreNamed (s2.caches.items ++ (record { seg = seg; cache = cache; openings = 1 }) ∷ [])
+  tried_named cache after s2 all tr =
+      subst (λ (x : SegManager Manager). AreNamed (x.caches.items ++ (record { seg = seg; cache = cache; openings = 1 }) ∷ [])) (sym tr.same)
+      (named_final tr.middle tr.by tr.trying cache after s2.gmi tr.call (record tr.by { caches = record tr.by.caches { items = tr.by.caches.items ++ (record { seg = seg; cache = cache; openings = 1 }) ∷ [] } }) refl
+      (omega (arith, all, tr.trying.thins.few, tr.trying.thins.fits)))
+
+  pub tried_spare : (cache : CacheId) (after : X) (s2 : SegManager Manager) → 1 ≤ s1.caches.spare → IsTried M G (OpenSegment seg) before start (Ok cache) after s2 → 1 ≤ s2.caches.spare
+  tried_spare cache after s2 some tr = omega (arith, some, tr.trying.thins.spare, ap (λ (x : SegManager Manager). x.caches.spare) tr.same)
 
   -- The same by the calls that it makes
   module _ (is : s1 ≡ start) where
@@ -485,6 +500,13 @@ module _ {Manager X Chooser : Type 0} (M : GhostsOfMapper X) (G : GhostsOfGmi Ma
     pub not_by : (t : Trouble) (after : X) (s2 : SegManager Manager) → IsTried M G (OpenSegment seg) before s1 (Err t) after s2 → Acquires M G before old seg (Err t) after s2
     not_by t after s2 tried = tried_not t after s2 (subst (λ (x : SegManager Manager). IsTried M G (OpenSegment seg) before x (Err t) after s2) is tried)
 
-    pub ok_by : (cache : CacheId) (after : X) (s2 new : SegManager Manager) → length s1.caches.items + 1 ≤ deque_capacity s1.kept → IsTried M G (OpenSegment seg) before s1 (Ok cache) after s2
+    pub named_by : (cache : CacheId) (after : X) (s2 : SegManager Manager) → length s1.caches.items + 1 ≤ s1.kept.room → IsTried M G (OpenSegment seg) before s1 (Ok cache) after s2
+        → AreNamed (s2.caches.items ++ (record { seg = seg; cache = cache; openings = 1 }) ∷ [])
+    named_by cache after s2 all tried = tried_named cache after s2 all (subst (λ (x : SegManager Manager). IsTried M G (OpenSegment seg) before x (Ok cache) after s2) is tried)
+
+    pub spare_by : (cache : CacheId) (after : X) (s2 : SegManager Manager) → 1 ≤ s1.caches.spare → IsTried M G (OpenSegment seg) before s1 (Ok cache) after s2 → 1 ≤ s2.caches.spare
+    spare_by cache after s2 some tried = tried_spare cache after s2 some (subst (λ (x : SegManager Manager). IsTried M G (OpenSegment seg) before x (Ok cache) after s2) is tried)
+
+    pub ok_by : (cache : CacheId) (after : X) (s2 new : SegManager Manager) → length s1.caches.items + 1 ≤ s1.kept.room → IsTried M G (OpenSegment seg) before s1 (Ok cache) after s2
         → new.caches.items ≡ s2.caches.items ++ (record { seg = seg; cache = cache; openings = 1 }) ∷ [] → new ≡ record s2 { caches = new.caches } → Acquires M G before old seg (Ok cache) after new
     ok_by cache after s2 new all tried pushed same = tried_ok cache after s2 new all (subst (λ (x : SegManager Manager). IsTried M G (OpenSegment seg) before x (Ok cache) after s2) is tried) pushed same

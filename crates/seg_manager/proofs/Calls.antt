@@ -1,7 +1,6 @@
 -- After a call of the manager below its caller can call it again.
 use Rattle.std.proofs.Common.{◌≡◌, ℕ, ◌+◌, ◌*◌, ◌≤◌, true, List, [], ◌∷◌, length, map, Option, Some, None, refl, sym, ap, subst, ◌∙◌, arith}
 use Rattle.std.specs.Prelude.{is_some, option_map, IfSome, Ok, Err}
-use Rattle.std.specs.VecDeque.{deque_capacity}
 use Rattle.vm_ids.specs.Counting.{MapperCounts}
 use Rattle.vm_ids.specs.Held.{Held, Segments, segments_of}
 use Rattle.vm_ids.specs.declared.command.Command.{Command}
@@ -126,7 +125,7 @@ module _ {Manager X Chooser : Type 0} (M : GhostsOfMapper X) (G : GhostsOfGmi Ma
   seen_after caches = seen_pushed m (segments_of (M.held before)) (segments_of (M.held after)) caches told_after
 
   -- Whoever is tied to the manager as it is then can call it.
-  pub able_after : (later : SegManager Manager) → length n.caches ≤ MOST_MADE → AreTied n (segments_of (M.held after)) later.caches.items later.kept.items (deque_capacity later.kept) later.regions.items
+  pub able_after : (later : SegManager Manager) → length n.caches ≤ MOST_MADE → AreTied n (segments_of (M.held after)) later.caches.items later.kept.items later.kept.room later.regions.items
       → CanCall G (record later { gmi = gmi }) (M.held after) (M.page_bytes after)
   able_after later few tied = record {
     valid = call.valid;

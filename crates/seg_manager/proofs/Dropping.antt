@@ -4,7 +4,6 @@ use Rattle.std.proofs.Common.{◌≡◌, ◌==◌, ℕ, zero, suc, ◌+◌, ◌�
 use Rattle.std.specs.Prelude.{◌||◌, ◌&&◌, IfSome, nat_lt, not, slice_index_or}
 use Rattle.std.specs.List.{AllByRecursion, list_any, position_from}
 use Rattle.std.specs.Option.{option_map_or}
-use Rattle.std.specs.VecDeque.{deque_capacity}
 use Rattle.std.proofs.lemmas.Bool.{eq-eqb, ne_eqb}
 use Rattle.std.proofs.lemmas.List.{append-nil, append_assoc, length-append, map-append}
 use Rattle.std.proofs.lemmas.List.Folds.{list_any-append}
@@ -111,17 +110,29 @@ unused_first cs l rs p f =
 
 -- The loop
 
+once_front : (ks ls : List Kept) → AreOnce (ks ++ ls) → AreOnce ks
+once_front [] ls once = tt
+once_front (k ∷ ks) ls once = (by ks once.0, once_front ks ls once.1)
+  where
+    by : (ks : List Kept) → is_kept (ks ++ ls) k.cache.0 ≡ false → is_kept ks k.cache.0 ≡ false
+    by [] e = refl
+    by (j ∷ ks) e = first (j.cache.0 == k.cache.0) e (by ks)
+      where
+        first : (b : Bool) → (b || is_kept (ks ++ ls) k.cache.0) ≡ false → (is_kept (ks ++ ls) k.cache.0 ≡ false → is_kept ks k.cache.0 ≡ false) → (b || is_kept ks k.cache.0) ≡ false
+        first true e rest = absurd (cc e)
+        first false e rest = rest e
+
 -- Some of the regions that go are gone.
 pub record IsDropping {Manager : Type 0} (old : SegManager Manager) (l : Leaving) (now : SegManager Manager) : Type 0 where
   pub stay : staying l now.regions.items ≡ staying l old.regions.items
   pub kept : now.kept.items ++ unused_then old.caches.items l now.regions.items ≡ old.kept.items ++ unused_then old.caches.items l old.regions.items
-  pub capacity : deque_capacity now.kept ≡ deque_capacity old.kept
+  pub capacity : now.kept.room ≡ old.kept.room
   pub same : now ≡ record old { kept = now.kept; regions = now.regions }
 
 pub dropping_none : {Manager : Type 0} (old : SegManager Manager) (l : Leaving) → IsDropping old l old
 dropping_none old l = record { stay = refl; kept = refl; capacity = refl; same = refl }
 
-module _ {Manager : Type 0} (old : SegManager Manager) (l : Leaving) (now : SegManager Manager) (d : IsDropping old l now) (room : length old.kept.items + length (unused_then old.caches.items l old.regions.items) ≤ deque_capacity old.kept) where
+module _ {Manager : Type 0} (old : SegManager Manager) (l : Leaving) (now : SegManager Manager) (d : IsDropping old l now) (room : length old.kept.items + length (unused_then old.caches.items l old.regions.items) ≤ old.kept.room) where
   caches_same : now.caches ≡ old.caches
   caches_same = ap (λ (x : SegManager Manager). x.caches) d.same
 
@@ -139,7 +150,7 @@ module _ {Manager : Type 0} (old : SegManager Manager) (l : Leaving) (now : SegM
         ∙ (λ i. unused_in (sym caches_same i).items (sym gone i) (sym (is ∙ (first p at).there x) i).cache ++ unused_then old.caches.items l (sym gone i))
 
     -- there is room to keep one more
-    pub room_more : length now.kept.items + length more ≤ deque_capacity now.kept
+    pub room_more : length now.kept.items + length more ≤ now.kept.room
     room_more = omega (
       arith,
       room,
@@ -151,7 +162,12 @@ module _ {Manager : Type 0} (old : SegManager Manager) (l : Leaving) (now : SegM
       length-append more (unused_then old.caches.items l rest),
     )
 
-    pub dropping_more : (new : SegManager Manager) → new.regions.items ≡ rest → new.kept.items ≡ now.kept.items ++ more → deque_capacity new.kept ≡ deque_capacity now.kept
+    pub once_more : AreOnce (old.kept.items ++ unused_then old.caches.items l old.regions.items) → AreOnce (now.kept.items ++ more)
+    once_more once =
+        once_front (now.kept.items ++ more) (unused_then old.caches.items l rest)
+        (subst AreOnce (sym d.kept ∙ ap (λ (ks : List Kept). now.kept.items ++ ks) parts ∙ sym (append_assoc now.kept.items more (unused_then old.caches.items l rest))) once)
+
+    pub dropping_more : (new : SegManager Manager) → new.regions.items ≡ rest → new.kept.items ≡ now.kept.items ++ more → new.kept.room ≡ now.kept.room
         → new ≡ record now { kept = new.kept; regions = new.regions } → IsDropping old l new
     dropping_more new regions kept capacity same = record {
       stay = ap (staying l) (regions ∙ gone) ∙ (first p at).stay ∙ d.stay;

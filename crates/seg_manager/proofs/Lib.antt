@@ -1,3 +1,7 @@
+pub mod Named
+pub mod Rings
+pub mod Placed
+pub mod Linking
 pub mod Naming
 pub mod Played
 pub mod Reopening

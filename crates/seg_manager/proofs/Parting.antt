@@ -3,7 +3,6 @@ use Rattle.std.proofs.Common.{◌≡◌, ◌≢◌, ◌==◌, ◌⊎◌, ℕ, ze
 use Rattle.std.specs.Prelude.{◌||◌, IfNone, Result, Ok, Err, nat_lt, not, option_map, slice_get, slice_set}
 use Rattle.std.specs.List.{AllByRecursion, list_any}
 use Rattle.std.specs.Option.{option_map_or}
-use Rattle.std.specs.VecDeque.{deque_capacity}
 use Rattle.std.proofs.lemmas.Bool.{eq-eqb, ne_eqb}
 use Rattle.std.proofs.lemmas.List.{map-append}
 use Rattle.std.proofs.lemmas.List.Folds.{list_any-append}
@@ -42,7 +41,7 @@ use Rattle.seg_manager.specs.Outcome.{Gives, Outcome}
 use Rattle.seg_manager.specs.ReferenceMachine.{ReferenceMachine, let_go}
 use Rattle.seg_manager.specs.Seen.{kept_segments, maps, openings_in, references_seen, state_of, whole_of}
 use Rattle.seg_manager.specs.Thinning.{Trims, credit}
-use Rattle.seg_manager.specs.Tying.{AreTied, CanCall, Noted, noted_at, noted_of, noted_region, noted_regions}
+use Rattle.seg_manager.specs.Tying.{AreOnce, AreTied, CanCall, Noted, noted_at, noted_of, noted_region, noted_regions}
 use Rattle.seg_manager.specs.declared.manager.SegManager.{SegManager}
 use Rattle.seg_manager.specs.declared.tables.Kept.{Kept}
 use Rattle.seg_manager.specs.declared.tables.Leaving.{Leaving}
@@ -362,8 +361,14 @@ module _ {Manager X Chooser : Type 0} (M : GhostsOfMapper X) (G : GhostsOfGmi Ma
   rs = old.regions.items
 
   -- there is room to keep all
-  pub drop_room : length old.kept.items + length (unused_then cs l rs) ≤ deque_capacity old.kept
-  drop_room = room_then m cs old.kept.items (deque_capacity old.kept) rs l (tied_noted m told cs old.kept.items (deque_capacity old.kept) rs can.tied)
+  pub drop_room : length old.kept.items + length (unused_then cs l rs) ≤ old.kept.room
+  drop_room = room_then m cs old.kept.items old.kept.room rs l (tied_noted m told cs old.kept.items old.kept.room rs can.tied)
+
+  -- and none is kept twice
+  pub drop_once : AreOnce (old.kept.items ++ unused_then cs l rs)
+  drop_once =
+      let t = noted_then m cs old.kept.items old.kept.room rs l (tied_noted m told cs old.kept.items old.kept.room rs can.tied) in
+      t.once
 
   module _ (gmi : Manager) where
     abbrev n : Machine
@@ -379,7 +384,7 @@ module _ {Manager X Chooser : Type 0} (M : GhostsOfMapper X) (G : GhostsOfGmi Ma
 
     -- Done
     module _ (call : CallDone (meanings_of G) old.gmi (command_of l) (Ok replies.Done) gmi) (kept : SegManager Manager) (regions_are : kept.regions.items ≡ staying l rs)
-        (kept_are : kept.kept.items ≡ old.kept.items ++ unused_then cs l rs) (capacity : deque_capacity kept.kept ≡ deque_capacity old.kept) (same : kept ≡ record old { gmi = gmi; kept = kept.kept; regions = kept.regions }) where
+        (kept_are : kept.kept.items ≡ old.kept.items ++ unused_then cs l rs) (capacity : kept.kept.room ≡ old.kept.room) (same : kept ≡ record old { gmi = gmi; kept = kept.kept; regions = kept.regions }) where
       done : IsDone l m (Ok replies.Done) n
       done = elim (answered_here (Ok replies.Done) call) [
         | inl d ↦ d
@@ -392,14 +397,14 @@ module _ {Manager X Chooser : Type 0} (M : GhostsOfMapper X) (G : GhostsOfGmi Ma
       stay_are : map noted_of (staying l rs) ≡ noted_regions 1 done.actors
       stay_are = stay_noted l m.actors done.actors rs done.by can.tied.regions
 
-      tied_then : AreTied n told cs kept.kept.items (deque_capacity kept.kept) kept.regions.items
+      tied_then : AreTied n told cs kept.kept.items kept.kept.room kept.regions.items
       tied_then =
-          subst (λ (x : Machine). AreTied x told cs kept.kept.items (deque_capacity kept.kept) kept.regions.items) (sym done.next)
+          subst (λ (x : Machine). AreTied x told cs kept.kept.items kept.kept.room kept.regions.items) (sym done.next)
           (subst (λ (k : ℕ). AreTied (record m { actors = done.actors }) told cs kept.kept.items k kept.regions.items) (sym capacity)
-          (subst (λ (ks : List Kept). AreTied (record m { actors = done.actors }) told cs ks (deque_capacity old.kept) kept.regions.items) (sym kept_are)
-          (subst (λ (xs : List Mapped). AreTied (record m { actors = done.actors }) told cs (old.kept.items ++ unused_then cs l rs) (deque_capacity old.kept) xs) (sym regions_are)
-          (noted_tied m done.actors told cs (old.kept.items ++ unused_then cs l rs) (deque_capacity old.kept) (staying l rs)
-          (noted_then m cs old.kept.items (deque_capacity old.kept) rs l (tied_noted m told cs old.kept.items (deque_capacity old.kept) rs can.tied)) stay_are can.tied.backed))))
+          (subst (λ (ks : List Kept). AreTied (record m { actors = done.actors }) told cs ks old.kept.room kept.regions.items) (sym kept_are)
+          (subst (λ (xs : List Mapped). AreTied (record m { actors = done.actors }) told cs (old.kept.items ++ unused_then cs l rs) old.kept.room xs) (sym regions_are)
+          (noted_tied m done.actors told cs (old.kept.items ++ unused_then cs l rs) old.kept.room (staying l rs)
+          (noted_then m cs old.kept.items old.kept.room rs l (tied_noted m told cs old.kept.items old.kept.room rs can.tied)) stay_are can.tied.backed))))
 
       caches_same : m.caches ≡ n.caches
       caches_same = ap (λ (x : Machine). x.caches) (sym done.next)
@@ -489,7 +494,7 @@ module _ {Manager X Chooser : Type 0} (M : GhostsOfMapper X) (G : GhostsOfGmi Ma
       refused_call : SegmentCall M G before old (commands.Plain (command_of l)) (Err trouble) before (record old { gmi = gmi })
       refused_call = subst (λ (t : Answer). SegmentCall M G before old (commands.Plain (command_of l)) t before (record old { gmi = gmi })) (sym not_done.answer) (record {
         can = able_after M G old gmi before before (command_of l) (Err trouble) can (with_mapper (Err trouble) call) old (omega (arith, can.few, ap (λ (x : Machine). length x.caches) not_done.next))
-            (subst (λ (x : Machine). AreTied x told cs old.kept.items (deque_capacity old.kept) rs) (sym not_done.next) can.tied);
+            (subst (λ (x : Machine). AreTied x told cs old.kept.items old.kept.room rs) (sym not_done.next) can.tied);
         made = omega (arith, made_after M G old gmi before before (command_of l) (Err trouble) can (with_mapper (Err trouble) call));
         limit = refl;
         one = omega (arith, ap (λ (x : Machine). length x.caches) not_done.next);

@@ -2,7 +2,6 @@
 use Rattle.std.proofs.Common.{◌≡◌, ℕ, zero, suc, ◌+◌, ◌-◌, ◌^◌, ◌≤◌, Bool, true, false, cond, List, [], ◌∷◌, ◌++◌, length, Option, Some, None, refl, sym, ap, subst, ◌∙◌, arith}
 use Rattle.std.specs.Prelude.{IfNone, nat_lt, Ok, Err, slice_get}
 use Rattle.std.specs.Option.{option_map_or}
-use Rattle.std.specs.VecDeque.{deque_capacity}
 use Rattle.std.proofs.lemmas.List.{append-nil, length-append, map-append}
 use Rattle.vm_ids.specs.Counting.{no_counts}
 use Rattle.vm_ids.specs.Held.{Held, Segments, segments_of}
@@ -27,7 +26,7 @@ use Rattle.seg_manager.specs.Keeping.{AreLast, cache_for, left_by, left_one, ref
 use Rattle.seg_manager.specs.ReferenceMachine.{ReferenceMachine, close_one, is_open, let_go, number_in}
 use Rattle.seg_manager.specs.Seen.{kept_segments, openings_in, references_seen, state_of, stored_beside, whole_of}
 use Rattle.seg_manager.specs.Thinning.{Trims, credit}
-use Rattle.seg_manager.specs.Tying.{AreTied, CanCall, IsUntoldBlank}
+use Rattle.seg_manager.specs.Tying.{AreOnce, AreTied, CanCall, IsUntoldBlank}
 use Rattle.seg_manager.specs.declared.manager.SegManager.{SegManager}
 use Rattle.seg_manager.specs.declared.tables.Kept.{Kept}
 use Rattle.seg_manager.specs.declared.tables.Mapped.{Mapped}
@@ -108,12 +107,18 @@ module _ {Manager X Chooser : Type 0} (M : GhostsOfMapper X) (G : GhostsOfGmi Ma
   told = segments_of (M.held before)
 
   -- there is room to keep the cache
-  pub keep_room : length old.kept.items + length (unused_in later.caches.items old.regions.items cache) ≤ deque_capacity old.kept
+  pub keep_room : length old.kept.items + length (unused_in later.caches.items old.regions.items cache) ≤ old.kept.room
   keep_room =
-      let t : AreTied m told later.caches.items (old.kept.items ++ unused_in later.caches.items old.regions.items cache) (deque_capacity old.kept) old.regions.items = tied_closed m told old.caches.items old.kept.items (deque_capacity old.kept) old.regions.items can.tied seg cache later.caches.items c in
-      omega (arith, t.fits, length-append old.kept.items (unused_in later.caches.items old.regions.items cache), closed_few m told old.caches.items old.kept.items (deque_capacity old.kept) old.regions.items can.tied seg cache later.caches.items c)
+      let t : AreTied m told later.caches.items (old.kept.items ++ unused_in later.caches.items old.regions.items cache) old.kept.room old.regions.items = tied_closed m told old.caches.items old.kept.items old.kept.room old.regions.items can.tied seg cache later.caches.items c in
+      omega (arith, t.fits, length-append old.kept.items (unused_in later.caches.items old.regions.items cache), closed_few m told old.caches.items old.kept.items old.kept.room old.regions.items can.tied seg cache later.caches.items c)
 
-  module _ (kept : later.kept.items ≡ old.kept.items ++ unused_in later.caches.items old.regions.items cache) (capacity : deque_capacity later.kept ≡ deque_capacity old.kept) where
+  -- and none is kept twice
+  pub keep_once : AreOnce (old.kept.items ++ unused_in later.caches.items old.regions.items cache)
+  keep_once =
+      let t : AreTied m told later.caches.items (old.kept.items ++ unused_in later.caches.items old.regions.items cache) old.kept.room old.regions.items = tied_closed m told old.caches.items old.kept.items old.kept.room old.regions.items can.tied seg cache later.caches.items c in
+      t.once
+
+  module _ (kept : later.kept.items ≡ old.kept.items ++ unused_in later.caches.items old.regions.items cache) (capacity : later.kept.room ≡ old.kept.room) where
     abbrev mid : SegManager Manager
     mid = record old { caches = later.caches; kept = later.kept }
 
@@ -124,9 +129,9 @@ module _ {Manager X Chooser : Type 0} (M : GhostsOfMapper X) (G : GhostsOfGmi Ma
       fits = can.fits;
       live = can.live;
       few = can.few;
-      tied = subst (λ (ks : List Kept). AreTied m told later.caches.items ks (deque_capacity later.kept) old.regions.items) (sym kept)
+      tied = subst (λ (ks : List Kept). AreTied m told later.caches.items ks later.kept.room old.regions.items) (sym kept)
           (subst (λ (k : ℕ). AreTied m told later.caches.items (old.kept.items ++ unused_in later.caches.items old.regions.items cache) k old.regions.items) (sym capacity)
-          (tied_closed m told old.caches.items old.kept.items (deque_capacity old.kept) old.regions.items can.tied seg cache later.caches.items c));
+          (tied_closed m told old.caches.items old.kept.items old.kept.room old.regions.items can.tied seg cache later.caches.items c));
       blank = can.blank;
     }
 
@@ -135,21 +140,21 @@ module _ {Manager X Chooser : Type 0} (M : GhostsOfMapper X) (G : GhostsOfGmi Ma
 
     module _ (after : X) (new : SegManager Manager) (trims : Trims M G before mid after new) where
       abbrev next : ReferenceMachine
-      next = let_go (closed m told old.caches.items old.kept.items (deque_capacity old.kept) old.regions.items can.tied seg cache later.caches.items c)
+      next = let_go (closed m told old.caches.items old.kept.items old.kept.room old.regions.items can.tied seg cache later.caches.items c)
 
       abbrev seen : ReferenceMachine
       seen = references_seen m told old.caches.items
 
       row : close_of seen seg.0 ≡ reply replies.Done next
-      row = close_row seen seg.0 (ap (λ (f : ℕ → ℕ). nat_lt 0 (f seg.0)) (seen_openings told m old.caches.items) ∙ was_open m told old.caches.items old.kept.items (deque_capacity old.kept) old.regions.items can.tied seg cache later.caches.items c)
+      row = close_row seen seg.0 (ap (λ (f : ℕ → ℕ). nat_lt 0 (f seg.0)) (seen_openings told m old.caches.items) ∙ was_open m told old.caches.items old.kept.items old.kept.room old.regions.items can.tied seg cache later.caches.items c)
 
       left : kept_segments (unused_in later.caches.items old.regions.items cache) ≡ left_by (referred (below G old (M.held before)) (below G new (M.held after))) (cache_for m seg.0)
       left =
-          left_is m told later.caches.items old.regions.items (noted m told old.caches.items old.kept.items (deque_capacity old.kept) old.regions.items can.tied seg cache later.caches.items c) can.tied.regions can.tied.apart cache
+          left_is m told later.caches.items old.regions.items (noted m told old.caches.items old.kept.items old.kept.room old.regions.items can.tied seg cache later.caches.items c) can.tied.regions can.tied.apart cache
           ∙ sym (left_same M G before old mid before after new trims mid_can refl cache.0)
           ∙ sym (append-nil (left_one (referred (below G old (M.held before)) (below G new (M.held after))) cache.0))
           ∙ sym (ap (λ (o : Option ℕ). left_by (referred (below G old (M.held before)) (below G new (M.held after))) (option_map_or (λ n. n ∷ []) o []))
-          (number_is m can.tied.apart cache.0 seg.0 (of m told old.caches.items old.kept.items (deque_capacity old.kept) old.regions.items can.tied seg cache later.caches.items c)))
+          (number_is m can.tied.apart cache.0 seg.0 (of m told old.caches.items old.kept.items old.kept.room old.regions.items can.tied seg cache later.caches.items c)))
 
       all : kept_segments later.kept.items ≡ kept_segments old.kept.items ++ left_by (referred (below G old (M.held before)) (below G new (M.held after))) (cache_for m seg.0)
       all = ap kept_segments kept ∙ map-append (λ (k : Kept). k.seg.0) old.kept.items (unused_in later.caches.items old.regions.items cache) ∙ ap (λ (xs : List ℕ). kept_segments old.kept.items ++ xs) left
@@ -166,7 +171,7 @@ module _ {Manager X Chooser : Type 0} (M : GhostsOfMapper X) (G : GhostsOfGmi Ma
           is = record {
             step = step_by (state_of G old (M.held before)) (state_of G new (M.held after)) (commands.Close seg) (Ok replies.Done) trims.rises next (λ h. (0, (tt, row)))
                 (told_both told (segments_of (M.held after)) trims.denied (state_of G old (M.held before)) (state_of G mid (M.held before)) (state_of G new (M.held after)) next trims.seen
-                (closed_seen told m old.caches.items old.kept.items (deque_capacity old.kept) old.regions.items can.tied seg cache later.caches.items c (blank_told (M.held before) m can.blank)));
+                (closed_seen told m old.caches.items old.kept.items old.kept.room old.regions.items can.tied seg cache later.caches.items c (blank_told (M.held before) m can.blank)));
             denied = trims.denied;
           };
         };
@@ -204,12 +209,17 @@ not_released M G before old seg can none = record {
 -- The same by the calls that it makes
 module _ {Manager X Chooser : Type 0} (M : GhostsOfMapper X) (G : GhostsOfGmi Manager X Chooser) (before : X) (old then_closed : SegManager Manager) (seg : SegId) (cache : CacheId) (can : CanCall G old (M.held before) (M.page_bytes before))
     (c : Closes old.caches.items seg cache then_closed.caches.items) (same : then_closed ≡ record old { caches = then_closed.caches }) where
-  pub keep_may : length then_closed.kept.items + length (unused_in then_closed.caches.items then_closed.regions.items cache) ≤ deque_capacity then_closed.kept
+  pub keep_may : length then_closed.kept.items + length (unused_in then_closed.caches.items then_closed.regions.items cache) ≤ then_closed.kept.room
   keep_may =
-      subst (λ (x : SegManager Manager). length x.kept.items + length (unused_in then_closed.caches.items x.regions.items cache) ≤ deque_capacity x.kept) (sym same)
+      subst (λ (x : SegManager Manager). length x.kept.items + length (unused_in then_closed.caches.items x.regions.items cache) ≤ x.kept.room) (sym same)
       (keep_room M G before old then_closed seg cache can c)
 
-  module _ (then_kept : SegManager Manager) (kept : then_kept.kept.items ≡ then_closed.kept.items ++ unused_in then_closed.caches.items then_closed.regions.items cache) (capacity : deque_capacity then_kept.kept ≡ deque_capacity then_closed.kept)
+  pub keep_once_may : AreOnce (then_closed.kept.items ++ unused_in then_closed.caches.items then_closed.regions.items cache)
+  keep_once_may =
+      subst (λ (x : SegManager Manager). AreOnce (x.kept.items ++ unused_in then_closed.caches.items x.regions.items cache)) (sym same)
+      (keep_once M G before old then_closed seg cache can c)
+
+  module _ (then_kept : SegManager Manager) (kept : then_kept.kept.items ≡ then_closed.kept.items ++ unused_in then_closed.caches.items then_closed.regions.items cache) (capacity : then_kept.kept.room ≡ then_closed.kept.room)
       (same_kept : then_kept ≡ record then_closed { kept = then_kept.kept }) where
     abbrev later : SegManager Manager
     later = record old { caches = then_closed.caches; kept = then_kept.kept }
@@ -220,8 +230,8 @@ module _ {Manager X Chooser : Type 0} (M : GhostsOfMapper X) (G : GhostsOfGmi Ma
     kept_is : later.kept.items ≡ old.kept.items ++ unused_in later.caches.items old.regions.items cache
     kept_is = kept ∙ (λ i. (same i).kept.items ++ unused_in then_closed.caches.items (same i).regions.items cache)
 
-    capacity_is : deque_capacity later.kept ≡ deque_capacity old.kept
-    capacity_is = capacity ∙ (λ i. deque_capacity (same i).kept)
+    capacity_is : later.kept.room ≡ old.kept.room
+    capacity_is = capacity ∙ (λ i. (same i).kept.room)
 
     pub trim_can : CanCall G then_kept (M.held before) (M.page_bytes before)
     trim_can = subst (λ (x : SegManager Manager). CanCall G x (M.held before) (M.page_bytes before)) (sym is) (mid_can M G before old later seg cache can c kept_is capacity_is)

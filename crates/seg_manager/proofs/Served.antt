@@ -3,7 +3,6 @@ use Rattle.std.proofs.Common.{◌≡◌, ℕ, false, cond, List, length, Option,
 use Rattle.std.specs.Prelude.{option_map}
 use Rattle.std.specs.FinMap.{get}
 use Rattle.std.specs.Option.{option_map_or}
-use Rattle.std.specs.VecDeque.{deque_capacity}
 use Rattle.std.proofs.lemmas.List.{length-map}
 use Rattle.vm_ids.specs.Counting.{MapperCounts}
 use Rattle.vm_ids.specs.Held.{Segments, segments_of}
@@ -148,10 +147,10 @@ module _ {Manager X Chooser : Type 0} (M : GhostsOfMapper X) (G : GhostsOfGmi Ma
 
   -- whoever notes the regions as they are then
   pub answered_call : (later : SegManager Manager) → later.caches ≡ old.caches → later.limit ≡ old.limit
-      → (segments_in y.caches ≡ segments_in x.caches → AreTied y (segments_of (M.held after)) old.caches.items later.kept.items (deque_capacity later.kept) later.regions.items) → SegmentCall M G before old (Plain command) a after (record later { gmi = gmi })
+      → (segments_in y.caches ≡ segments_in x.caches → AreTied y (segments_of (M.held after)) old.caches.items later.kept.items later.kept.room later.regions.items) → SegmentCall M G before old (Plain command) a after (record later { gmi = gmi })
   answered_call later same limit tied = record {
     can = able_after M G old gmi before after c a able call later (omega (arith, as_many, able.few))
-        (subst (λ (cs : List Named). AreTied y (segments_of (M.held after)) cs later.kept.items (deque_capacity later.kept) later.regions.items) (sym (ap (λ v. v.items) same)) (tied segments));
+        (subst (λ (cs : List Named). AreTied y (segments_of (M.held after)) cs later.kept.items later.kept.room later.regions.items) (sym (ap (λ v. v.items) same)) (tied segments));
     made = omega (arith, made_after M G old gmi before after c a able call);
     limit = limit;
     one = omega (arith, as_many);
@@ -169,7 +168,7 @@ module _ {Manager X Chooser : Type 0} (M : GhostsOfMapper X) (G : GhostsOfGmi Ma
   pub answered_same : ((x : Machine) → IsHiding (openings_in old.caches.items) x old.kept.items → (f : PageForest) (h : Segments) → SameRegions (openings_in old.caches.items) x (plain.answer_of x f c h).next)
       → SegmentCall M G before old (Plain command) a after (record old { gmi = gmi })
   answered_same same = answered_call old refl refl (λ e.
-      tied_alike x y (segments_of (M.held before)) (segments_of (M.held after)) old.caches.items old.kept.items (deque_capacity old.kept) old.regions.items old.regions.items able.tied e
+      tied_alike x y (segments_of (M.held before)) (segments_of (M.held after)) old.caches.items old.kept.items old.kept.room old.regions.items old.regions.items able.tied e
       (able.tied.regions ∙ sym (regions_then old.caches.items old.kept.items c command answered same (segments_of (M.held after)) x y (forest M G old gmi before after c a able call) a
       (call_is M G old gmi before after c a able call).rises able.tied.kept (call_is M G old gmi before after c a able call).is.outcome))
       (λ q. refl) (backed_next M G old gmi before after c a able call))

@@ -8,7 +8,6 @@ use Rattle.vm_model.specs.Outcome.{blank}
 use Rattle.vm_model.specs.declared.limits.TheConstants.{LIVE_PAGES}
 use Rattle.gmi_calls.specs.Backing.{AreBacked}
 use Rattle.gmi_calls.specs.declared.gmi.Gmi.{Ghosts as GhostsOfGmi}
-use Rattle.std.specs.VecDeque.{deque_capacity}
 use Rattle.seg_manager.specs.Calling.{beginning}
 use Rattle.seg_manager.specs.ReferenceMachine.{goes, stored_from, used}
 use Rattle.seg_manager.specs.Seen.{known, references_seen, state_of, stored_beside, whole_of}
@@ -81,10 +80,10 @@ module _ {Manager Mapper Chooser : Type 0} (G : GhostsOfGmi Manager Mapper Choos
     fits = bare.fits;
     live = subst (λ (n : ℕ). n ≤ LIVE_PAGES) (sym (ap (λ (cs : List (Option Cache)). live_pages (record m { caches = cs })) bare.caches)) (omega arith);
     few = omega (arith, ap length bare.caches);
-    tied = subst (λ (cs : List Named). AreTied m (segments_of told) cs manager.kept.items (deque_capacity manager.kept) manager.regions.items) (sym caches)
-        (subst (λ (ks : List Kept). AreTied m (segments_of told) [] ks (deque_capacity manager.kept) manager.regions.items) (sym kept)
-        (subst (λ (rs : List Mapped). AreTied m (segments_of told) [] [] (deque_capacity manager.kept) rs) (sym regions)
-        (tied_none m bare.caches (segments_of told) (deque_capacity manager.kept) bare.actors)));
+    tied = subst (λ (cs : List Named). AreTied m (segments_of told) cs manager.kept.items manager.kept.room manager.regions.items) (sym caches)
+        (subst (λ (ks : List Kept). AreTied m (segments_of told) [] ks manager.kept.room manager.regions.items) (sym kept)
+        (subst (λ (rs : List Mapped). AreTied m (segments_of told) [] [] manager.kept.room rs) (sym regions)
+        (tied_none m bare.caches (segments_of told) manager.kept.room bare.actors)));
     blank = blank_none m bare.caches told;
   }
 

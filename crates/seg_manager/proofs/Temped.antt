@@ -1,7 +1,6 @@
 -- A temporary cache is made: what that call of the manager of segments comes to.
 use Rattle.std.proofs.Common.{◌≡◌, ◌⊎◌, inl, inr, ℕ, ◌+◌, ◌^◌, ◌<◌, ◌≤◌, Bool, true, false, List, [], ◌∷◌, ◌++◌, length, map, Option, Some, None, refl, sym, ap, subst, ◌∙◌, arith}
 use Rattle.std.specs.Prelude.{◌||◌, IfNone, IfSome, Ok, Err, Result, nat_le, nat_lt, option_map}
-use Rattle.std.specs.VecDeque.{deque_capacity}
 use Rattle.std.proofs.lemmas.Bool.Decides.{nat_tests}
 use Rattle.std.proofs.lemmas.List.{drop-map, length-append, length-map, map-append}
 use Rattle.vm_ids.specs.Counting.{MapperCounts, counts_sum}
@@ -317,7 +316,7 @@ module _ {Manager X Chooser : Type 0} (M : GhostsOfMapper X) (G : GhostsOfGmi Ma
             step = step_whole (state_of G old (M.held before)) (state_of G final (M.held after)) (commands.Plain (MakeTemp pages)) (Ok (replies.Cache cache)) (counts_sum thins.rises temp_rises) R next
                 (λ h. (number_next m, gives h))
                 (subst (λ (r : ReferenceMachine). AreSeen told_then (state_of G old (M.held before)) (state_of G final (M.held after)) r (add_cache r (number_next m) (temporary m.page_bytes pages))) thins.seen
-                (seen_temp m zeros told told_then n by.caches.items by.kept.items (deque_capacity by.kept) by.regions.items thins.can.tied
+                (seen_temp m zeros told told_then n by.caches.items by.kept.items by.kept.room by.regions.items thins.can.tied
                 (told_after M G by gmi middle after (MakeTemp pages) (Ok (replies.Cache cache)) thins.can call) made.next (blank_told (M.held middle) m thins.can.blank)
                 (state_of G old (M.held before)) (state_of G final (M.held after)) (sym thins.seen) refl));
             denied = denied_after M G by gmi middle after (MakeTemp pages) (Ok (replies.Cache cache)) thins.can call ∙ thins.denied;
@@ -329,10 +328,10 @@ module _ {Manager X Chooser : Type 0} (M : GhostsOfMapper X) (G : GhostsOfGmi Ma
           one_more : length n.caches ≡ length m.caches + 1
           one_more = omega (arith, ap (λ (x : Machine). length x.caches) more.1, length-append m.caches (Some (nameless more.0) ∷ []))
 
-          tied : AreTied n told_then by.caches.items by.kept.items (deque_capacity by.kept) by.regions.items
+          tied : AreTied n told_then by.caches.items by.kept.items by.kept.room by.regions.items
           tied =
-              subst (λ (x : Machine). AreTied x told_then by.caches.items by.kept.items (deque_capacity by.kept) by.regions.items) (sym more.1)
-              (tied_temp m more.0 told told_then by.caches.items by.kept.items (deque_capacity by.kept) by.regions.items thins.can.tied
+              subst (λ (x : Machine). AreTied x told_then by.caches.items by.kept.items by.kept.room by.regions.items) (sym more.1)
+              (tied_temp m more.0 told told_then by.caches.items by.kept.items by.kept.room by.regions.items thins.can.tied
               (subst (λ (x : Machine). IfSome told_then (λ t. AreBacked x.caches t)) more.1 (backed_next M G by gmi middle after (MakeTemp pages) (Ok (replies.Cache cache)) thins.can call)))
 
   -- What the tries came to

@@ -2,8 +2,6 @@
 use Rattle.std.proofs.Common.{◌≡◌, ◌⊎◌, inl, inr, ℕ, zero, suc, ◌+◌, ◌-◌, ◌*◌, ◌≤◌, false, List, [], ◌∷◌, length, drop, Option, Some, None, refl, sym, ap, subst, ◌∙◌, arith}
 use Rattle.std.specs.Prelude.{IfSome, Ok, Err, slice_index_or}
 use Rattle.std.specs.List.{AllByRecursion}
-use Rattle.std.specs.Vec.{vec_capacity}
-use Rattle.std.specs.VecDeque.{deque_capacity}
 use Rattle.std.proofs.lemmas.List.{length-set}
 use Rattle.vm_ids.specs.Counting.{counts_sum, no_counts}
 use Rattle.vm_ids.specs.Held.{Segments, segments_of}
@@ -72,7 +70,7 @@ module _ {Manager X Chooser : Type 0} (M : GhostsOfMapper X) (G : GhostsOfGmi Ma
     kept = (0, refl);
     among = λ test h. h;
     few = omega arith;
-    room = refl;
+    spare = omega arith;
     fits = refl;
     credit = omega arith;
     rises = no_counts;
@@ -92,7 +90,7 @@ module _ {Manager X Chooser : Type 0} (M : GhostsOfMapper X) (G : GhostsOfGmi Ma
     kept = (f.kept.0 + g.kept.0, g.kept.1 ∙ ap (drop g.kept.0) f.kept.1 ∙ drop_drop f.kept.0 g.kept.0 old.kept.items);
     among = λ test h. g.among test (f.among test h);
     few = omega (arith, f.few, g.few);
-    room = g.room ∙ f.room;
+    spare = omega (arith, f.spare, g.spare);
     fits = g.fits ∙ f.fits;
     credit = omega (arith, f.credit, g.credit);
     rises = counts_sum f.rises g.rises;
@@ -120,7 +118,7 @@ module _ {Manager X Chooser : Type 0} (M : GhostsOfMapper X) (G : GhostsOfGmi Ma
     regions = manager.regions.items
 
     abbrev room : ℕ
-    room = deque_capacity manager.kept
+    room = manager.kept.room
 
     abbrev tied : AreTied m was caches (first ∷ rest) room regions
     tied = subst (λ (ks : List Kept). AreTied m was caches ks room regions) at can.tied
@@ -137,8 +135,8 @@ module _ {Manager X Chooser : Type 0} (M : GhostsOfMapper X) (G : GhostsOfGmi Ma
     pushed_then None B p = tt
     pushed_then (Some u) B p = all_pushed m u first.cache.0 first.seg.0 it.0 B it.1 it.2 p
 
-    module _ (g : IsGone m first.cache.0 a n) (later : SegManager Manager) (limit : later.limit ≡ manager.limit) (same : later.regions ≡ manager.regions) (kept : later.kept.items ≡ rest) (fits : deque_capacity later.kept ≡ room)
-        (left_is : later.caches.items ≡ left m was caches first rest room regions tied) (roomy : vec_capacity later.caches ≡ vec_capacity manager.caches) where
+    module _ (g : IsGone m first.cache.0 a n) (later : SegManager Manager) (limit : later.limit ≡ manager.limit) (same : later.regions ≡ manager.regions) (kept : later.kept.items ≡ rest) (fits : later.kept.room ≡ room)
+        (left_is : later.caches.items ≡ left m was caches first rest room regions tied) (roomy : manager.caches.spare ≤ later.caches.spare) where
       pushed : IsPushed m was caches first rest room regions tied now
       pushed =
           pushed_then now (backed_before M G manager gmi before after (commands.Destroy first.cache) a can call)
@@ -147,11 +145,11 @@ module _ {Manager X Chooser : Type 0} (M : GhostsOfMapper X) (G : GhostsOfGmi Ma
       backed : IfSome now (λ t. AreBacked (without m first.cache.0).caches t)
       backed = subst (λ (x : Machine). IfSome now (λ t. AreBacked x.caches t)) g.next (backed_next M G manager gmi before after (commands.Destroy first.cache) a can call)
 
-      tied_then : AreTied n now later.caches.items later.kept.items (deque_capacity later.kept) later.regions.items
+      tied_then : AreTied n now later.caches.items later.kept.items later.kept.room later.regions.items
       tied_then =
-          subst (λ (x : Machine). AreTied x now later.caches.items later.kept.items (deque_capacity later.kept) later.regions.items) (sym g.next)
-          (subst (λ (cs : List Named). AreTied (without m first.cache.0) now cs later.kept.items (deque_capacity later.kept) later.regions.items) (sym left_is)
-          (subst (λ (ks : List Kept). AreTied (without m first.cache.0) now (left m was caches first rest room regions tied) ks (deque_capacity later.kept) later.regions.items) (sym kept)
+          subst (λ (x : Machine). AreTied x now later.caches.items later.kept.items later.kept.room later.regions.items) (sym g.next)
+          (subst (λ (cs : List Named). AreTied (without m first.cache.0) now cs later.kept.items later.kept.room later.regions.items) (sym left_is)
+          (subst (λ (ks : List Kept). AreTied (without m first.cache.0) now (left m was caches first rest room regions tied) ks later.kept.room later.regions.items) (sym kept)
           (subst (λ (k : ℕ). AreTied (without m first.cache.0) now (left m was caches first rest room regions tied) rest k later.regions.items) (sym fits)
           (subst (λ (rs : List Mapped). AreTied (without m first.cache.0) now (left m was caches first rest room regions tied) rest room rs) (sym (ap (λ v. v.items) same))
           (tied_without m was caches first rest room regions tied now backed)))))
@@ -175,7 +173,7 @@ module _ {Manager X Chooser : Type 0} (M : GhostsOfMapper X) (G : GhostsOfGmi Ma
         kept = (1, kept ∙ ap (drop 1) (sym at));
         among = λ test h. subst (AllByRecursion (λ (c : Named). test c ≡ false)) (sym left_is) (still_all (λ (c : Named). test c ≡ false) (is_other first.cache.0) caches h);
         few = omega (arith, ap length left_is, filter_few (is_other first.cache.0) caches);
-        room = roomy;
+        spare = roomy;
         fits = fits;
         credit = omega (arith, ap length kept, ap length at, less_credit (pages_in (cache_of m first.cache.0)) (live_pages m) (live_pages n) (length rest) (G.made manager.gmi) (G.made gmi) (live_pages n - live_pages m) swapped refl raised);
         rises = (call_is M G manager gmi before after (commands.Destroy first.cache) a can call).rises;

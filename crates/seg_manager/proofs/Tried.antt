@@ -2,7 +2,6 @@
 use Rattle.std.proofs.Common.{◌≡◌, ◌⊎◌, inl, inr, Option, ℕ, ◌+◌, ◌≤◌, Bool, true, false, cond, List, [], ◌∷◌, length, Some, None, refl, sym, ap, subst, ◌∙◌, arith}
 use Rattle.std.specs.Prelude.{◌==◌, ◌^◌, Ok, Err}
 use Rattle.std.specs.List.{AllByRecursion, position_from}
-use Rattle.std.specs.VecDeque.{deque_capacity}
 use Rattle.vm_ids.specs.Counting.{MapperCounts, no_counts}
 use Rattle.vm_ids.specs.Held.{Segments, segments_of}
 use Rattle.vm_ids.specs.declared.command.Command.{Command}
@@ -50,8 +49,8 @@ module _ {Manager X Chooser : Type 0} (M : GhostsOfMapper X) (G : GhostsOfGmi Ma
     pub can_same : CanCall G (record manager { gmi = gmi }) (M.held after) (M.page_bytes after)
     can_same = able_after M G manager gmi before after c a can call manager
         (omega (arith, ap (λ (x : Machine). length x.caches) same, can.few))
-        (subst (λ (x : Machine). AreTied x (segments_of (M.held after)) manager.caches.items manager.kept.items (deque_capacity manager.kept) manager.regions.items) (sym same)
-        (retold m (segments_of (M.held before)) (segments_of (M.held after)) manager.caches.items manager.kept.items (deque_capacity manager.kept) manager.regions.items can.tied (backed_before M G manager gmi before after c a can call)))
+        (subst (λ (x : Machine). AreTied x (segments_of (M.held after)) manager.caches.items manager.kept.items manager.kept.room manager.regions.items) (sym same)
+        (retold m (segments_of (M.held before)) (segments_of (M.held after)) manager.caches.items manager.kept.items manager.kept.room manager.regions.items can.tied (backed_before M G manager gmi before after c a can call)))
 
     pub seen_same : seen_with M G (record manager { gmi = gmi }) after ≡ seen_with M G manager before
     seen_same = ap (λ (x : Machine). references_seen x (segments_of (M.held after)) manager.caches.items) same ∙ seen_after M G manager gmi before after c a can call manager.caches.items
@@ -68,7 +67,7 @@ module _ {Manager X Chooser : Type 0} (M : GhostsOfMapper X) (G : GhostsOfGmi Ma
           kept = (0, refl);
           among = λ test h. h;
           few = omega arith;
-          room = refl;
+          spare = omega arith;
           fits = refl;
           credit = omega (arith, made_same, ap live_pages same);
           rises = (call_is M G manager gmi before after c a can call).rises;
@@ -186,7 +185,7 @@ module _ {Manager X Chooser : Type 0} (M : GhostsOfMapper X) (G : GhostsOfGmi Ma
   open_ended a after gmi call =
       let it = call_is M G manager gmi mapper after (vm_commands.OpenSegment seg) a can call in
       open_ends (segments_of (M.held after)) (G.machine manager.gmi (M.held mapper)) (forest M G manager gmi mapper after (vm_commands.OpenSegment seg) a can call) seg a (G.machine gmi (M.held after)) it.rises
-      (unnamed (G.machine manager.gmi (M.held mapper)) (segments_of (M.held mapper)) manager.caches.items manager.kept.items (deque_capacity manager.kept) manager.regions.items can.tied seg (sym anew))
+      (unnamed (G.machine manager.gmi (M.held mapper)) (segments_of (M.held mapper)) manager.caches.items manager.kept.items manager.kept.room manager.regions.items can.tied seg (sym anew))
       it.is.outcome
 
   pub open_leaves : Leaves M G mapper manager (vm_commands.OpenSegment seg) manager.gmi mapper
@@ -202,4 +201,4 @@ module _ {Manager X Chooser : Type 0} (M : GhostsOfMapper X) (G : GhostsOfGmi Ma
   pub open_row : IsSameRow (vm_commands.OpenSegment seg) (G.machine manager.gmi (M.held mapper))
   open_row f h u follow =
       ap (open_of (G.machine manager.gmi (M.held mapper)) seg.0) (sym (follow.beside seg.0
-      (unnamed (G.machine manager.gmi (M.held mapper)) (segments_of (M.held mapper)) manager.caches.items manager.kept.items (deque_capacity manager.kept) manager.regions.items can.tied seg (sym anew))))
+      (unnamed (G.machine manager.gmi (M.held mapper)) (segments_of (M.held mapper)) manager.caches.items manager.kept.items manager.kept.room manager.regions.items can.tied seg (sym anew))))

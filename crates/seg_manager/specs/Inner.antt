@@ -5,7 +5,6 @@ use Rattle.vm_ids.specs.declared.command.Mapping.{Mapping}
 use Rattle.vm_ids.specs.declared.command.Span.{Span}
 use Rattle.vm_ids.specs.declared.numbers.CacheId.{CacheId}
 use Rattle.vm_ids.specs.declared.numbers.SegId.{SegId}
-use Rattle.std.specs.VecDeque.{deque_capacity}
 use Rattle.vm_ids.specs.declared.reply.Trouble.{Trouble}
 use Rattle.vm_ids.specs.declared.reply.Trouble.TheVariants.{Memory, Refused}
 use Rattle.seg_manager.specs.declared.manager.SegManager.{SegManager}
@@ -113,7 +112,7 @@ pub record OpensAgain {Manager : Type 0} (old : SegManager Manager) (place : ℕ
   pub caches : new.caches.items
       ≡ slice_set old.caches.items place (record named { openings = named.openings + 1 })
   pub kept : new.kept.items ≡ filter (λ k. not (is_of named.cache.0 k)) old.kept.items
-  pub capacity : deque_capacity new.kept ≡ deque_capacity old.kept
+  pub capacity : new.kept.room ≡ old.kept.room
   pub same : new ≡ record old { caches = new.caches; kept = new.kept }
 
 -- It is opened once more, or its openings can't be counted.

@@ -5,6 +5,10 @@ pub mod Rows
 pub mod Laws
 pub mod Limits
 pub mod Stepping
+pub mod Names
+pub mod Keeps
+pub mod Linked
+pub mod Ring
 pub mod Seen
 pub mod Tying
 pub mod Inner

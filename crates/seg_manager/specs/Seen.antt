@@ -7,14 +7,11 @@ use Rattle.vm_model.specs.Machine.{Machine, cache_named}
 use Rattle.gmi_calls.specs.declared.gmi.Gmi.{Ghosts as GhostsOfGmi}
 use Rattle.seg_manager.specs.ReferenceMachine.{ReferenceMachine, Stored, let_go}
 use Rattle.seg_manager.specs.Stepping.{State}
+pub use Rattle.seg_manager.specs.Keeps.{is_kept}
 use Rattle.seg_manager.specs.declared.manager.SegManager.{SegManager}
 use Rattle.seg_manager.specs.declared.tables.Kept.{Kept}
 use Rattle.seg_manager.specs.declared.tables.Mapped.{Mapped}
 use Rattle.seg_manager.specs.declared.tables.Named.{Named}
-
--- a cache with this number is kept
-abbrev pub is_kept : List Kept → ℕ → Bool
-is_kept kept cache = list_any (λ (k : Kept). k.cache.0 == cache) kept
 
 -- the segments whose caches are kept, the least recently used first
 abbrev pub kept_segments : List Kept → List ℕ

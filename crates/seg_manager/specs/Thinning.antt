@@ -1,8 +1,6 @@
 -- What it comes to that caches which are kept are destroyed, the least recently used first.
 use Rattle.std.specs.Prelude.{◌≡◌, ◌≤◌, ◌<◌, ◌⊎◌, [], ℕ, ◌+◌, ◌*◌, List, Bool, false, drop, length, option_map, Option, Result, Ok, Err}
 use Rattle.std.specs.List.{AllByRecursion}
-use Rattle.std.specs.Vec.{vec_capacity}
-use Rattle.std.specs.VecDeque.{deque_capacity}
 use Rattle.vm_ids.specs.Counting.{MapperCounts, Rise}
 use Rattle.vm_ids.specs.Held.{Segments, segments_of}
 use Rattle.vm_ids.specs.declared.reply.FaultAt.TheVariants as faults
@@ -66,8 +64,8 @@ module _ {Manager Mapper Chooser : Type 0} (M : GhostsOfMapper Mapper)
     pub among : (test : Named → Bool) → AllByRecursion (λ c. test c ≡ false) old.caches.items
         → AllByRecursion (λ c. test c ≡ false) new.caches.items
     pub few : length new.caches.items ≤ length old.caches.items
-    pub room : vec_capacity new.caches ≡ vec_capacity old.caches
-    pub fits : deque_capacity new.kept ≡ deque_capacity old.kept
+    pub spare : old.caches.spare ≤ new.caches.spare
+    pub fits : new.kept.room ≡ old.kept.room
     pub credit : credit new after ≤ credit old before
     pub rises : MapperCounts
     pub rose : Rise (M.counts before) (M.counts after) rises

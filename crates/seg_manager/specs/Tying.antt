@@ -2,7 +2,6 @@
 use Rattle.std.specs.Prelude.{◌≡◌, ◌≤◌, ℕ, ◌+◌, Bool, false, List, [], ◌∷◌, ◌++◌, length, map, Option, Some, None, IfNone, IfSome}
 use Rattle.std.specs.List.{AllByRecursion}
 use Rattle.std.specs.Option.{option_map_or}
-use Rattle.std.specs.VecDeque.{deque_capacity}
 use Rattle.vm_ids.specs.Held.{Held, Segments, segments_of}
 use Rattle.vm_model.specs.Machine.{Actor, Cache, Machine, Region, cache_of, live_pages, segment_of}
 use Rattle.vm_model.specs.Outcome.{blank}
@@ -11,6 +10,7 @@ use Rattle.gmi_calls.specs.Backing.{AreBacked}
 use Rattle.gmi_calls.specs.Calling.{Fits}
 use Rattle.gmi_calls.specs.declared.gmi.Gmi.{Ghosts as GhostsOfGmi}
 use Rattle.seg_manager.specs.ReferenceMachine.{ReferenceMachine, goes}
+pub use Rattle.seg_manager.specs.Keeps.{AreOnce}
 use Rattle.seg_manager.specs.Seen.{is_kept, whole_of}
 use Rattle.seg_manager.specs.declared.manager.SegManager.{SegManager}
 use Rattle.seg_manager.specs.declared.tables.Kept.{Kept}
@@ -63,11 +63,6 @@ noted_regions actor (a ∷ actors) = noted_at actor a ++ noted_regions (actor + 
 abbrev pub is_unreferenced : ReferenceMachine → ℕ → Bool
 is_unreferenced m n = option_map_or (goes m n) (cache_of m.memory n) false
 
--- no cache is kept twice
-abbrev pub AreOnce : List Kept → Type 0
-AreOnce [] = Unit {0}
-AreOnce (k ∷ ks) = (is_kept ks k.cache.0 ≡ false) × AreOnce ks
-
 -- Each cache that a segment names is noted, and each region. No two caches are of one segment.
 -- Those to which nothing refers are kept, each once, and there is room to keep all. Where the
 -- mapper tells what it holds, the segments back their caches.
@@ -96,7 +91,7 @@ pub record CanCall {Manager Mapper Chooser : Type 0} (G : GhostsOfGmi Manager Ma
   pub live : live_pages (G.machine manager.gmi told) ≤ LIVE_PAGES
   pub few : length (G.machine manager.gmi told).caches ≤ MOST_MADE
   pub tied : AreTied (G.machine manager.gmi told) (segments_of told) manager.caches.items
-      manager.kept.items (deque_capacity manager.kept) manager.regions.items
+      manager.kept.items manager.kept.room manager.regions.items
   pub blank : IsUntoldBlank told (G.machine manager.gmi told)
 
 -- A manager without caches and actors whose room isn't limited.

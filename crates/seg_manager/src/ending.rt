@@ -1,10 +1,9 @@
 // Actors that end and regions that go.
 ghost use Rattle.std.specs.Prelude.{◌≡◌, ◌≤◌, ◌+◌, ◌++◌, ◌^◌, length};
-ghost use Rattle.std.specs.VecDeque.{deque_capacity};
 ghost use Rattle.gmi_calls.specs.Calling.{done_by};
 ghost use Rattle.seg_manager.specs.Calling.{Serves};
 ghost use Rattle.seg_manager.specs.Inner.{staying, unused_then};
-ghost use Rattle.seg_manager.specs.Tying.{CanCall};
+ghost use Rattle.seg_manager.specs.Tying.{AreOnce, CanCall};
 
 use crate::SegManager;
 use crate::tables::{Leaving, first_leaving};
@@ -62,13 +61,15 @@ impl<G> SegManager<G> {
     // Takes the regions away that go, in order of address, and keeps the caches to which nothing
     // refers any more.
     fn drop_regions(&mut self, leaving: Leaving)
+        requires once { AreOnce (self.old.kept.items
+            ++ unused_then self.old.caches.items leaving self.old.regions.items) }
         requires room { length self.old.kept.items
             + length (unused_then self.old.caches.items leaving self.old.regions.items)
-            ≤ deque_capacity self.old.kept }
+            ≤ self.old.kept.room }
         ensures regions { self.new.regions.items ≡ staying leaving self.old.regions.items }
         ensures kept { self.new.kept.items ≡ self.old.kept.items
             ++ unused_then self.old.caches.items leaving self.old.regions.items }
-        ensures capacity { deque_capacity self.new.kept ≡ deque_capacity self.old.kept }
+        ensures capacity { self.new.kept.room ≡ self.old.kept.room }
         ensures same { self.new
             ≡ record self.old { kept = self.new.kept; regions = self.new.regions } }
     {

@@ -1,12 +1,11 @@
 // Caches that are kept, and that go.
 ghost use Rattle.std.specs.Prelude.{◌≡◌, ◌≤◌, ◌+◌, ◌++◌, ◌^◌, length, OnErr};
-ghost use Rattle.std.specs.VecDeque.{deque_capacity};
 ghost use Rattle.seg_manager.specs.Inner.{IsClosed, is_too_many, unused_in};
 ghost use Rattle.seg_manager.specs.Thinning.{IsDestroyed, IsRoomMade, Trims, credit};
-ghost use Rattle.seg_manager.specs.Tying.{CanCall};
+ghost use Rattle.seg_manager.specs.Tying.{AreOnce, CanCall};
 
 use crate::SegManager;
-use crate::tables::{Kept, drop_named, is_mapped, named_with, place_of};
+use crate::tables::{Kept, is_mapped};
 use gmi_calls::Gmi;
 use vm_ids::{CacheId, Refusal, SegId, Trouble};
 use vm_port::{Chooser, Mapper};
@@ -18,33 +17,35 @@ impl<G> SegManager<G> {
         ensures same { self.new ≡ record self.old { caches = self.new.caches } }
         ensures refused { OnErr result (self.new ≡ self.old) }
     {
-        let Some(place) = place_of(&self.caches, seg) else {
+        let Some(place) = self.caches.place_of(seg) else {
             return Err(Refusal::NotOpen);
         };
-        let named = self.caches[place];
+        let named = self.caches.at(place);
         if named.openings == 0 {
             return Err(Refusal::NotOpen);
         }
-        self.caches[place].openings = named.openings - 1;
+        self.caches.set_openings(place, named.openings - 1);
         Ok(named.cache)
     }
 
     // Keeps a cache to which something referred until now, if a segment names it and nothing refers
     // to it any more.
     pub(crate) fn keep_unused(&mut self, cache: CacheId)
+        requires once { AreOnce (self.old.kept.items
+            ++ unused_in self.old.caches.items self.old.regions.items cache) }
         requires room { length self.old.kept.items
             + length (unused_in self.old.caches.items self.old.regions.items cache)
-            ≤ deque_capacity self.old.kept }
+            ≤ self.old.kept.room }
         ensures kept { self.new.kept.items ≡ self.old.kept.items
             ++ unused_in self.old.caches.items self.old.regions.items cache }
-        ensures capacity { deque_capacity self.new.kept ≡ deque_capacity self.old.kept }
+        ensures capacity { self.new.kept.room ≡ self.old.kept.room }
         ensures same { self.new ≡ record self.old { kept = self.new.kept } }
     {
-        let Some(named) = named_with(&self.caches, cache) else {
+        let Some(named) = self.caches.named_with(cache) else {
             return;
         };
         if named.openings == 0 && !is_mapped(&self.regions, cache) {
-            self.kept.push_back_reserved(Kept {
+            self.kept.push(Kept {
                 seg: named.seg,
                 cache,
             });
@@ -105,7 +106,7 @@ impl<G> SegManager<G> {
         requires made { G.made self.old.gmi ≤ 2 ^ 62 }
         ensures { IsDestroyed M.Mapper G.Gmi mapper.old self.old result mapper.new self.new }
     {
-        let cache = match self.kept.front() {
+        let cache = match self.kept.first() {
             Some(first) => first.cache,
             None => unreachable!(),
         };
@@ -113,8 +114,8 @@ impl<G> SegManager<G> {
             Ok(()) => {}
             Err(trouble) => return Err(trouble),
         }
-        let _ = self.kept.pop_front();
-        drop_named(&mut self.caches, cache);
+        self.kept.remove_first();
+        self.caches.remove(cache);
         Ok(())
     }
 }

@@ -7,15 +7,19 @@
 //! that is kept for the next opening, and no manager. [`SegManager`] keeps such caches over any
 //! manager of the interface. [`laws`] has worked scripts, that opening anew finds what was left,
 //! and that runs in which caches get other numbers, as where more or fewer are kept, answer alike.
-//! The crate stands on the interface and the plain types alone, and names no manager.
+//! The crate stands on the interface and the plain types, and on `linear_index`, by which a cache
+//! that is kept is found; it names no manager.
 #![tactic(auto)]
 
 mod answering;
 mod commands;
 mod ending;
 mod keeping;
+mod kept_caches;
 pub mod laws;
+mod links;
 mod manager;
+mod named_caches;
 mod openings;
 mod tables;
 

@@ -5,10 +5,11 @@ ghost use Rattle.seg_manager.specs.Calling.{Acquires, Releases, beginning, made_
 ghost use Rattle.seg_manager.specs.Seen.{is_kept, state_of};
 ghost use Rattle.seg_manager.specs.Tying.{CanCall, IsBare};
 
-use crate::tables::{Kept, Mapped, Named, is_kept, place_of};
+use crate::kept_caches::KeptCaches;
+use crate::named_caches::NamedCaches;
+use crate::tables::Mapped;
 use gmi_calls::Gmi;
 use std::alloc::Global;
-use std::collections::VecDeque;
 use vm_ids::{CacheId, SegId, Trouble};
 use vm_port::{Chooser, Mapper};
 
@@ -21,9 +22,9 @@ pub struct SegManager<G> {
     pub(crate) gmi: G,
     pub(crate) limit: u32,
     // All caches that segments name, in the order of their numbers.
-    pub(crate) caches: Vec<Named>,
+    pub(crate) caches: NamedCaches,
     // Those to which nothing refers, the least recently used first.
-    pub(crate) kept: VecDeque<Kept>,
+    pub(crate) kept: KeptCaches,
     // The regions of each actor in order of address, the actors in order of their numbers.
     pub(crate) regions: Vec<Mapped>,
 }
@@ -42,8 +43,8 @@ impl<G> SegManager<G> {
         ensures made { made_by G.Gmi result ≡ G.made gmi }
         ensures limit { result.limit ≡ limit }
     {
-        let caches = Vec::new(alloc);
-        let kept = VecDeque::new(alloc);
+        let caches = NamedCaches::new(alloc);
+        let kept = KeptCaches::new(alloc);
         let regions = Vec::new(alloc);
         SegManager {
             gmi,
@@ -58,7 +59,7 @@ impl<G> SegManager<G> {
     pub fn hidden(&self, cache: CacheId) -> bool
         ensures { result ≡ is_kept self.now.kept.items cache.0 }
     {
-        is_kept(&self.kept, cache)
+        self.kept.contains(cache)
     }
 
     /// Opens a segment, and gives its cache: the one that it has, which keeps its number, or a new
@@ -76,7 +77,7 @@ impl<G> SegManager<G> {
         requires made { G.made self.old.gmi ≤ 2 ^ 61 }
         ensures { Acquires M.Mapper G.Gmi mapper.old self.old seg result mapper.new self.new }
     {
-        match place_of(&self.caches, seg) {
+        match self.caches.place_of(seg) {
             Some(place) => self.open_again(place),
             None => self.open_anew(seg, mapper, chooser),
         }

@@ -1,14 +1,12 @@
 // Openings of segments.
 ghost use Rattle.std.specs.Prelude.{◌≡◌, ◌≤◌, ◌<◌, ◌+◌, ◌^◌, None, length, OnOk};
-ghost use Rattle.std.specs.Vec.{vec_capacity, vec_len};
-ghost use Rattle.std.specs.VecDeque.{deque_capacity};
 ghost use Rattle.seg_manager.specs.Calling.{Acquires};
 ghost use Rattle.seg_manager.specs.Inner.{IsOpenedAgain, StandsAt, first_of};
 ghost use Rattle.seg_manager.specs.Thinning.{IsTried, credit};
 ghost use Rattle.seg_manager.specs.Tying.{CanCall};
 
 use crate::SegManager;
-use crate::tables::{Named, drop_kept};
+use crate::tables::Named;
 use gmi_calls::Gmi;
 use vm_ids::{CacheId, Command, NoMemory, SegId, Trouble};
 use vm_port::{Chooser, Mapper};
@@ -20,12 +18,12 @@ impl<G> SegManager<G> {
         requires { place < length self.old.caches.items }
         ensures { IsOpenedAgain self.old place result self.new }
     {
-        let named = self.caches[place];
+        let named = self.caches.at(place);
         let Some(openings) = named.openings.checked_add(1) else {
             return Err(Trouble::Memory);
         };
-        self.caches[place].openings = openings;
-        drop_kept(&mut self.kept, named.cache);
+        self.caches.set_openings(place, openings);
+        self.kept.remove(named.cache);
         Ok(named.cache)
     }
 
@@ -51,7 +49,7 @@ impl<G> SegManager<G> {
             Ok(cache) => cache,
             Err(trouble) => return Err(trouble),
         };
-        self.caches.push_reserved(Named {
+        self.caches.push(Named {
             seg,
             cache,
             openings: 1,
@@ -61,20 +59,16 @@ impl<G> SegManager<G> {
 
     // Makes room for one cache more that a segment names, and for keeping each of them.
     fn reserve_cache(&mut self) -> Result<(), NoMemory>
-        requires { length self.old.kept.items ≤ length self.old.caches.items }
         ensures caches { self.new.caches.items ≡ self.old.caches.items }
         ensures kept { self.new.kept.items ≡ self.old.kept.items }
-        ensures room { OnOk result (vec_len self.new.caches + 1 ≤ vec_capacity self.new.caches) }
-        ensures all { OnOk result (length self.new.caches.items + 1
-            ≤ deque_capacity self.new.kept) }
-        ensures less { deque_capacity self.old.kept ≤ deque_capacity self.new.kept }
+        ensures spare { OnOk result (1 ≤ self.new.caches.spare) }
+        ensures all { OnOk result (length self.new.caches.items + 1 ≤ self.new.kept.room) }
+        ensures less { self.old.kept.room ≤ self.new.kept.room }
         ensures same { self.new
             ≡ record self.old { caches = self.new.caches; kept = self.new.kept } }
     {
-        self.caches.reserve(1)?;
-        let more = self.caches.len() - self.kept.len() + 1;
-        self.kept.reserve(more)?;
-        Ok(())
+        self.caches.reserve_one()?;
+        self.kept.reserve(self.caches.len() + 1)
     }
 
     // Opens a segment of the manager; caches that are kept make room.

@@ -1,12 +1,9 @@
 // What is noted of the caches that segments name, and of all regions.
-ghost use Rattle.std.specs.Prelude.{◌≡◌, ◌≤◌, filter, length, not};
-ghost use Rattle.std.specs.Vec.{vec_capacity};
-ghost use Rattle.std.specs.VecDeque.{deque_capacity};
+ghost use Rattle.std.specs.Prelude.{◌≡◌, ◌≤◌, length};
 ghost use Rattle.std.specs.List.{list_any};
-ghost use Rattle.seg_manager.specs.Inner.{StandsAt, first_of, first_with, is_of, leaves, named_with, place_from};
-ghost use Rattle.seg_manager.specs.Seen.{is_kept, maps};
+ghost use Rattle.seg_manager.specs.Inner.{StandsAt, leaves, place_from};
+ghost use Rattle.seg_manager.specs.Seen.{maps};
 
-use std::collections::VecDeque;
 use vm_ids::{ActorId, CacheId, RegionId, SegId};
 
 // A cache that a segment names, and how many openings of the segment weren't taken back.
@@ -38,44 +35,6 @@ pub(crate) struct Mapped {
 pub(crate) enum Leaving {
     Actor(ActorId),
     Region(RegionId),
-}
-
-// Where the cache of a segment stands.
-pub(crate) fn place_of(caches: &[Named], seg: SegId) -> Option<usize>
-    ensures { StandsAt caches.now (first_of seg.0) result }
-{
-    for (place, named) in caches.iter().enumerate() {
-        if named.seg == seg {
-            return Some(place);
-        }
-    }
-    None
-}
-
-// A cache that a segment names.
-pub(crate) fn named_with(caches: &[Named], cache: CacheId) -> Option<Named>
-    ensures { result ≡ named_with cache.0 caches.now }
-{
-    for named in caches {
-        if named.cache == cache {
-            return Some(*named);
-        }
-    }
-    None
-}
-
-// Whether a cache is kept.
-pub(crate) fn is_kept(kept: &VecDeque<Kept>, cache: CacheId) -> bool
-    ensures { result ≡ is_kept kept.now.items cache.0 }
-{
-    let mut next = 0;
-    while let Some(kept) = kept.get(next) {
-        if kept.cache == cache {
-            return true;
-        }
-        next += 1;
-    }
-    false
 }
 
 // Whether a region maps a cache.
@@ -126,20 +85,4 @@ pub(crate) fn place_for(regions: &[Mapped], mapped: &Mapped) -> usize
         }
     }
     regions.len()
-}
-
-// A cache is noted no longer.
-pub(crate) fn drop_named(caches: &mut Vec<Named>, cache: CacheId)
-    ensures items { caches.new.items ≡ filter (λ c. not (first_with cache.0 c)) caches.old.items }
-    ensures capacity { vec_capacity caches.new ≡ vec_capacity caches.old }
-{
-    caches.retain(|named| named.cache.0 != cache.0);
-}
-
-// A cache is kept no longer.
-pub(crate) fn drop_kept(kept: &mut VecDeque<Kept>, cache: CacheId)
-    ensures items { kept.new.items ≡ filter (λ k. not (is_of cache.0 k)) kept.old.items }
-    ensures capacity { deque_capacity kept.new ≡ deque_capacity kept.old }
-{
-    kept.retain(|kept| kept.cache.0 != cache.0);
 }

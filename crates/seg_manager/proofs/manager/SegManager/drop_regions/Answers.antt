@@ -1,7 +1,7 @@
 use Rattle.std.proofs.Common.{ap, arith, refl, sym, ◌∙◌}
 use Rattle.std.specs.List.{position_from}
 use Rattle.seg_manager.specs.Inner.{leaves}
-use Rattle.seg_manager.proofs.Dropping.{dropped_kept, dropped_regions, dropping_more, room_more}
+use Rattle.seg_manager.proofs.Dropping.{dropped_kept, dropped_regions, dropping_more, once_more, room_more}
 use Rattle.seg_manager.proofs.Finding.{place_below}
 use Rattle.seg_manager.proofs.manager.SegManager.drop_regions.Goals as goal
 
@@ -11,6 +11,8 @@ remove-mapped-requires g c = omega (arith, place_below (leaves c.args.leaving) c
 pub keep_unused-requires : goal.keep_unused-requires
 keep_unused-requires g c =
     record {
+      once = once_more c.args.self.now c.args.leaving c.loop-place.self c.loop-place.invariant c.requires.room c.in-Some.place (c.in-Some.ensures ∙ ap (position_from (leaves c.args.leaving) 0) c.deref.ensures.value)
+          c.remove-mapped.new.self.items c.remove-mapped.ensures.items c.remove-mapped.result c.remove-mapped.ensures.value c.requires.once;
       room = room_more c.args.self.now c.args.leaving c.loop-place.self c.loop-place.invariant c.requires.room c.in-Some.place (c.in-Some.ensures ∙ ap (position_from (leaves c.args.leaving) 0) c.deref.ensures.value)
           c.remove-mapped.new.self.items c.remove-mapped.ensures.items c.remove-mapped.result c.remove-mapped.ensures.value;
     }

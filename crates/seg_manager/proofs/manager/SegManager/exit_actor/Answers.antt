@@ -1,9 +1,12 @@
 use Rattle.seg_manager.specs.declared.tables.Leaving.TheVariants.{Actor}
-use Rattle.seg_manager.proofs.Parting.{done_serves, drop_room, refused_serves, trim_can, trim_made}
+use Rattle.seg_manager.proofs.Parting.{done_serves, drop_once, drop_room, refused_serves, trim_can, trim_made}
 use Rattle.seg_manager.proofs.manager.SegManager.exit_actor.Goals as goal
 
 pub drop_regions-requires : goal.drop_regions-requires
-drop_regions-requires g c = record { room = drop_room g.M.Mapper g.G.Gmi c.args.mapper.now c.args.self.now (Actor c.args.actor) c.requires.can }
+drop_regions-requires g c = record {
+  once = drop_once g.M.Mapper g.G.Gmi c.args.mapper.now c.args.self.now (Actor c.args.actor) c.requires.can;
+  room = drop_room g.M.Mapper g.G.Gmi c.args.mapper.now c.args.self.now (Actor c.args.actor) c.requires.can;
+}
 
 pub trim-requires-clause-can : goal.trim-requires-clause-can
 trim-requires-clause-can g c =

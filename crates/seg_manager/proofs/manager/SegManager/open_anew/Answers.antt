@@ -1,11 +1,6 @@
 use Rattle.std.proofs.Common.{refl}
-use Rattle.seg_manager.proofs.Beginning.{can_by, credit_by, lacks_by, not_by, ok_by, start_anew}
-use Rattle.seg_manager.proofs.Closing.{kept_few}
+use Rattle.seg_manager.proofs.Beginning.{can_by, credit_by, lacks_by, named_by, not_by, ok_by, spare_by, start_anew}
 use Rattle.seg_manager.proofs.manager.SegManager.open_anew.Goals as goal
-
-pub reserve_cache-requires : goal.reserve_cache-requires
-reserve_cache-requires g c =
-    kept_few (g.G.Gmi.machine c.args.self.now.gmi (g.M.Mapper.held c.args.mapper.now)) c.args.self.now.caches.items c.args.self.now.kept.items c.requires.can.tied.caches c.requires.can.tied.once c.requires.can.tied.named
 
 pub returns-in-Err : goal.returns-in-Err
 returns-in-Err g c =
@@ -33,8 +28,20 @@ returns-in-Err-open_segment g c =
     c.reserve_cache.ensures.caches c.reserve_cache.ensures.kept c.reserve_cache.ensures.less c.reserve_cache.ensures.same
     c.in-Err-open_segment.trouble c.open_segment.new.mapper c.open_segment.new.self c.in-Err-open_segment.ensures
 
+pub push-requires-clause-named : goal.push-requires-clause-named
+push-requires-clause-named g c =
+    named_by g.M.Mapper g.G.Gmi c.args.mapper.now c.args.self.now c.reserve_cache.new.self c.args.seg c.requires.can c.requires.anew
+    c.reserve_cache.ensures.caches c.reserve_cache.ensures.kept c.reserve_cache.ensures.less c.reserve_cache.ensures.same
+    c.in-Ok-open_segment.cache c.open_segment.new.mapper c.open_segment.new.self c.in-Ok.ensures.all c.in-Ok-open_segment.ensures
+
+pub push-requires-clause-spare : goal.push-requires-clause-spare
+push-requires-clause-spare g c =
+    spare_by g.M.Mapper g.G.Gmi c.args.mapper.now c.args.self.now c.reserve_cache.new.self c.args.seg c.requires.can c.requires.anew
+    c.reserve_cache.ensures.caches c.reserve_cache.ensures.kept c.reserve_cache.ensures.less c.reserve_cache.ensures.same
+    c.in-Ok-open_segment.cache c.open_segment.new.mapper c.open_segment.new.self c.in-Ok.ensures.spare c.in-Ok-open_segment.ensures
+
 pub returns : goal.returns
 returns g c =
     ok_by g.M.Mapper g.G.Gmi c.args.mapper.now c.args.self.now c.reserve_cache.new.self c.args.seg c.requires.can c.requires.anew
     c.reserve_cache.ensures.caches c.reserve_cache.ensures.kept c.reserve_cache.ensures.less c.reserve_cache.ensures.same
-    c.in-Ok-open_segment.cache c.open_segment.new.mapper c.open_segment.new.self (record c.open_segment.new.self { caches = c.push_reserved.new.self }) c.in-Ok.ensures.all c.in-Ok-open_segment.ensures c.push_reserved.ensures.items refl
+    c.in-Ok-open_segment.cache c.open_segment.new.mapper c.open_segment.new.self (record c.open_segment.new.self { caches = c.push.new.self }) c.in-Ok.ensures.all c.in-Ok-open_segment.ensures c.push.ensures refl

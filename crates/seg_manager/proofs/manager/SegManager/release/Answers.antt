@@ -1,9 +1,12 @@
-use Rattle.seg_manager.proofs.Releasing.{keep_may, release_done, release_refused, trim_can, trim_made}
+use Rattle.seg_manager.proofs.Releasing.{keep_may, keep_once_may, release_done, release_refused, trim_can, trim_made}
 use Rattle.seg_manager.proofs.manager.SegManager.release.Goals as goal
 
 pub keep_unused-requires : goal.keep_unused-requires
 keep_unused-requires g c =
-    record { room = keep_may g.M.Mapper g.G.Gmi c.args.mapper.now c.args.self.now c.close.new.self c.args.seg c.in-Ok.cache c.requires.can c.in-Ok.ensures.closed c.close.ensures.same }
+    record {
+      once = keep_once_may g.M.Mapper g.G.Gmi c.args.mapper.now c.args.self.now c.close.new.self c.args.seg c.in-Ok.cache c.requires.can c.in-Ok.ensures.closed c.close.ensures.same;
+      room = keep_may g.M.Mapper g.G.Gmi c.args.mapper.now c.args.self.now c.close.new.self c.args.seg c.in-Ok.cache c.requires.can c.in-Ok.ensures.closed c.close.ensures.same;
+    }
 
 pub trim-requires-clause-can : goal.trim-requires-clause-can
 trim-requires-clause-can g c =
