@@ -135,21 +135,23 @@ fn without_forest(alloc: Global, script: &str) -> Result<String, NoMemory> {
     Ok(plain)
 }
 
-// The two managers answer such lines of a script the same, up to the first `Full`. How many lines
-// they do.
+// The two managers, by their words, answer such lines of a script the same, up to the first `Full`.
+// How many lines they do.
 fn answer_the_same(
     rt: &impl Abort,
     alloc: Global,
-    frames: &str,
+    flat: &[&str],
+    run: &[&str],
     script: &str,
-) -> Result<u32, NoMemory> {
+) -> Result<u32, NoMemory>
+    requires flat { PAGE ≡ page_size_of (map (λ w. w.now) flat.now) }
+    requires run { PAGE ≡ page_size_of (map (λ w. w.now) run.now) }
+{
     let plain = without_forest(alloc, script)?;
     let mut mapper = failing(alloc, &[])?;
     let mut other = failing(alloc, &[])?;
-    let flat = ["flat", "--frames", frames];
-    let run = ["run", "--frames", frames];
-    let first = written(rt, alloc, &flat, plain.as_str(), &mut mapper)?;
-    let second = written(rt, alloc, &run, plain.as_str(), &mut other)?;
+    let first = written(rt, alloc, flat, plain.as_str(), &mut mapper)?;
+    let second = written(rt, alloc, run, plain.as_str(), &mut other)?;
     let mut same = 0u32;
     for (reply, wanted) in text(rt, &first).lines().zip(text(rt, &second).lines()) {
         if said(reply) == "no Full" {
@@ -187,9 +189,11 @@ fn both_managers_answer_worked_scripts_the_same(rt: HostRuntime) -> Result<(), N
         segment_rows::INVALIDATE_AND_FLUSH,
     ] {
         let lines = without_forest(rt.alloc(), script)?.as_str().lines().count();
-        let same = answer_the_same(&rt, rt.alloc(), "64", script)?;
+        let (flat, run) = (["flat", "--frames", "64"], ["run", "--frames", "64"]);
+        let same = answer_the_same(&rt, rt.alloc(), &flat, &run, script)?;
         assert_eq!(&rt; same as usize, lines, "{script}");
-        let _ = answer_the_same(&rt, rt.alloc(), "12", script)?;
+        let (flat, run) = (["flat", "--frames", "12"], ["run", "--frames", "12"]);
+        let _ = answer_the_same(&rt, rt.alloc(), &flat, &run, script)?;
     }
     Ok(())
 }
@@ -200,9 +204,11 @@ fn both_managers_answer_drawn_scripts_the_same(rt: HostRuntime) -> Result<(), No
         let mut draws = Draws { state: seed };
         let script = drawn_script(rt.alloc(), &mut draws, Touched::All)?;
         let lines = script.as_str().lines().count();
-        let same = answer_the_same(&rt, rt.alloc(), "27", script.as_str())?;
+        let (flat, run) = (["flat", "--frames", "27"], ["run", "--frames", "27"]);
+        let same = answer_the_same(&rt, rt.alloc(), &flat, &run, script.as_str())?;
         assert_eq!(&rt; same as usize, lines);
-        let same = answer_the_same(&rt, rt.alloc(), "26", script.as_str())?;
+        let (flat, run) = (["flat", "--frames", "26"], ["run", "--frames", "26"]);
+        let same = answer_the_same(&rt, rt.alloc(), &flat, &run, script.as_str())?;
         assert_eq!(&rt; same, 5);
     }
     Ok(())
