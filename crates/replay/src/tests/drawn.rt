@@ -100,7 +100,7 @@ fn number_of(reply: &str) -> u32 {
 }
 
 // The lines of a script in the order in which these replies answer them.
-fn as_answered(alloc: Global, script: &str, replies: &str) -> Result<String, NoMemory> {
+pub(super) fn as_answered(alloc: Global, script: &str, replies: &str) -> Result<String, NoMemory> {
     let mut lines = Vec::new(alloc);
     for line in script.lines() {
         lines.push(line)?;
