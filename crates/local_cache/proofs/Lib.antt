@@ -1,20 +1,31 @@
 -- The page nodes: look-ups, changes of one node, own states.
+pub mod Nodes
 -- The page forest that is read off the caches.
+pub mod Forest
 -- Changes of single nodes, and what they leave.
+pub mod Changes
 -- A node comes, and a node goes.
+pub mod NewNode
 -- A node gets another name.
+pub mod Names
 -- The tables of the caches.
+pub mod Tables
 -- A cache is made.
+pub mod NewCache
 -- What holds between two commands.
+pub mod Whole
 -- A list of stretches when one number is set or cleared.
 pub mod Singles
--- The lists by which nodes are found.
 -- The caches without their page nodes.
+pub mod CacheList
 -- A node that gets another own state and another parent in one write.
+pub mod Rehung
 -- Many page nodes at once.
 pub mod ManyNodes
 -- The arena that page nodes as runs and the rows of caches stand for.
+pub mod ArenaBy
 -- What is known of some nodes and of some pages.
+pub mod Known
 -- What is done so many times.
 pub mod Each
 -- The thin nodes.

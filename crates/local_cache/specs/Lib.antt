@@ -1,5 +1,6 @@
 pub mod Arena
 pub mod ArenaBy
+pub mod CacheList
 pub mod Changes
 pub mod Changing
 pub mod Codes
@@ -22,6 +23,7 @@ pub mod Pages
 pub mod Placed
 pub mod Reading
 pub mod ReadingBy
+pub mod RowChanges
 pub mod Runs
 pub mod Singles
 pub mod Sound
