@@ -1,5 +1,5 @@
 -- The cells of page nodes: what a run says of its nodes, and what is done to a cell.
-use Rattle.std.specs.Prelude.{ℕ, ◌+◌, ◌<◌, ◌==◌, cond, List, [], ◌∷◌, Bool, true, false, Option, Some, None, unwrap_or, IsSome}
+use Rattle.std.specs.Prelude.{ℕ, ◌+◌, ◌<◌, ◌^◌, ◌==◌, cond, List, [], ◌∷◌, Bool, true, false, Option, Some, None, unwrap_or, IsSome}
 use Rattle.std.specs.List.{filter_map}
 use Rattle.std.specs.Ordering.{nat_cmp}
 use Rattle.std.specs.FinMap.{FinMap}
@@ -121,6 +121,10 @@ HasCell m n = IsSome (ids.get m n)
 -- so many numbers from one on have cells
 abbrev pub HaveCells : Cells → ℕ → ℕ → Type 0
 HaveCells m first count = (k : ℕ) → k < count → HasCell m (first + k)
+
+-- no number of a cell is near the greatest one
+abbrev pub AreFar : Cells → Type 0
+AreFar m = (n : ℕ) → HasCell m n → n + 2 ^ 61 < 2 ^ 64
 
 -- the cell of a number, or a blank one
 abbrev pub cell_at : Cells → ℕ → Cell

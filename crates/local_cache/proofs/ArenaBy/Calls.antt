@@ -131,21 +131,24 @@ module _ (m : PageNodes) (c : CacheRows) (right : ArePlaced m c.rows) (n : NodeI
       one_more now (nodes.as_working now (next_node n k)) c (many.as_working_many arena_now n k) (λ (b : Arena). arena.as_working b (next_node n k)) before
       (made_working now c before.right (next_node n k) there)
 
-  -- a leaf leaves its parent, if it has one
-  pub leaf_changed : (s : OwnState) → HasNode m n → IfSome (nodes.cell m n).links.parent (HasNode m) → StandFor (nodes.leaf_renewed m n s) c (on.leaf_renewed arena_now n s)
-  leaf_changed s held parent = record {
+-- A leaf leaves its parent, if it has one
+
+module _ (m : PageNodes) (c : CacheRows) (right : ArePlaced m c.rows) (n : NodeId) (s : OwnState) (held : HasNode m n) where
+  abbrev renewed_now : PageNodes
+  renewed_now = nodes.on_cell m n (renewed s)
+
+  still_held : (q : NodeId) → HasNode m q → HasNode renewed_now q
+  still_held q there = there_same m.cells renewed_now.cells (names_changed m.cells n.0 (renewed s) (λ d. refl) held) q.0 ∙ there
+
+  right_now : ArePlaced renewed_now c.rows
+  right_now = kept_names m renewed_now.cells c.rows (names_changed m.cells n.0 (renewed s) (λ d. refl) held) right
+
+  right_cut : (p : Option NodeId) → IfSome p (HasNode m) → ArePlaced (nodes.cut_from renewed_now p n None) c.rows
+  right_cut None there = right_now
+  right_cut (Some p) there = kept_names renewed_now _ c.rows (names_changed renewed_now.cells p.0 (with_child n None) (λ d. refl) (still_held p there)) right_now
+
+  pub leaf_changed : IfSome (nodes.cell m n).links.parent (HasNode m) → StandFor (nodes.leaf_renewed m n s) c (on.leaf_renewed (arena_by m c) n s)
+  leaf_changed parent = record {
     is = leaf_by m c n s;
-    right = by_parent (nodes.cell m n).links.parent parent;
-  } where
-    now : PageNodes
-    now = nodes.on_cell m n (renewed s)
-
-    same : (q : NodeId) → HasNode m q → HasNode now q
-    same q there = there_same m.cells now.cells (names_changed m.cells n.0 (renewed s) (λ d. refl) held) q.0 ∙ there
-
-    right_now : ArePlaced now c.rows
-    right_now = kept_names m now.cells c.rows (names_changed m.cells n.0 (renewed s) (λ d. refl) held) right
-
-    by_parent : (p : Option NodeId) → IfSome p (HasNode m) → ArePlaced (nodes.cut_from now p n None) c.rows
-    by_parent None there = right_now
-    by_parent (Some p) there = kept_names now _ c.rows (names_changed now.cells p.0 (with_child n None) (λ d. refl) (same p there)) right_now
+    right = right_cut (nodes.cell m n).links.parent parent;
+  }

@@ -1,6 +1,6 @@
 -- Nodes that get other names, and nodes that give way, on the arena.
 use Rattle.std.proofs.Common.{◌≡◌, ◌≢◌, ℕ, zero, suc, ◌+◌, ◌<◌, ◌≤◌, ◌^◌, true, Option, Some, None, IsSome, refl, ap, sym, subst, ◌∙◌, inl, inr, arith}
-use Rattle.std.specs.Prelude.{IfSome, is_some, unwrap_or}
+use Rattle.std.specs.Prelude.{IfSome, MatchOption, is_some, unwrap_or}
 use Rattle.std.proofs.lemmas.Bool.{cases_eq, false≢true}
 use Rattle.std.proofs.lemmas.Option.{none-some, same_Some}
 use Rattle.std.specs.FinMap as ids
@@ -10,21 +10,25 @@ use Rattle.vm_ids.specs.declared.numbers.CacheId.{CacheId}
 use Rattle.vm_ids.specs.declared.numbers.NodeId.{NodeId}
 use Rattle.vm_ids.specs.declared.numbers.PageNo.{PageNo}
 use Rattle.local_cache.specs.declared.own_state.OwnState.{OwnState}
-use Rattle.local_cache.specs.Arena.{Arena, Cell, blank}
+use Rattle.local_cache.specs.Arena.{Arena, Cell, NodesStay, blank}
 use Rattle.local_cache.specs.Arena as arena
 use Rattle.local_cache.specs.ArenaBy.{CacheRow, CacheRows, arena_by}
+use Rattle.local_cache.specs.Many.{AreNamed}
 use Rattle.local_cache.specs.ManyNodes.{next_node}
-use Rattle.local_cache.specs.NodeCells.{Cells, HasCell, changed, inheriting, is_page, named, with_child}
+use Rattle.local_cache.specs.NodeCells.{Cells, HasCell, changed, inheriting, is_page, named, renewed, with_child}
 use Rattle.local_cache.specs.NodeKeys.{key_at, page_key, page_number, page_of_name}
 use Rattle.local_cache.specs.OnCells as on
-use Rattle.local_cache.specs.PageNodes.{AreApart, ArePaged, HasNode, HaveNodes, PageNodes, as_working, cell, exchanged_many, exchanged_names, find, given_way, with_new}
+use Rattle.local_cache.specs.PageNodes.{AreApart, AreNamedFrom, ArePaged, HasNode, HaveNodes, PageNodes, as_working, cell, exchanged_many, exchanged_names, find, given_way, with_new}
 use Rattle.local_cache.specs.PageNodes as nodes
 use Rattle.local_cache.specs.Pages.{Pages, with_pages}
-use Rattle.local_cache.specs.Placed.{ArePlaced, IsNameOfPage, IsShort}
-use Rattle.local_cache.proofs.ArenaBy.Calls.{StandFor, freed, one_more}
+use Rattle.local_cache.specs.Placed.{ArePlaced, AreRight, HasRow, IsNameOfPage, IsShort}
+use Rattle.local_cache.proofs.ArenaBy.Calls.{StandFor, freed, leaf_changed, one_more}
 use Rattle.local_cache.proofs.ArenaBy.Nodes.{cut_by, exchanged_by, on_cell_by, page_come, replaced_by}
 use Rattle.local_cache.proofs.ArenaBy.Placed.{kept_as_working, kept_names, kept_new, named_short, placed_name}
+use Rattle.local_cache.proofs.ArenaBy.Rows.{page_short}
+use Rattle.local_cache.proofs.ArenaBy.Seen.{Seen, node_call}
 use Rattle.local_cache.proofs.Exchanged.{exchanged_is, node_kept, other_kept, paged_both}
+use Rattle.local_cache.proofs.Nodes.Cells.{stays-put}
 use Rattle.local_cache.proofs.NodesKept.{SameNames, names_changed, there_same}
 use Rattle.local_cache.proofs.PagesKept.{key_there, page_gone}
 use Rattle.local_cache.proofs.Stretched.{changed_here, changed_other}
@@ -112,6 +116,46 @@ module _ (m : PageNodes) (c : CacheRows) (right : ArePlaced m c.rows) (n o : Nod
         c1 c2 (record { 0 = p1 + k }) (record { 0 = p2 + k })
         (ap (λ (z : Option Cell). (unwrap_or z blank).name) mine ∙ names k less) (ap (λ (z : Option Cell). (unwrap_or z blank).name) theirs ∙ others k less))
 
+-- nodes of pages that follow one another are named from the first one on
+pub named_in : (m : PageNodes) (c : CacheRows) (a : Arena) → arena_by m c ≡ a → ArePlaced m c.rows → (n : NodeId) (count : ℕ)
+    → (cache : CacheId) × (page : PageNo) × AreNamed a n cache page count → AreNamedFrom m n count
+unfolding arena.cell
+named_in m c a is right n count told =
+    let P : Arena → Type 0 = λ b. AreNamed b n told.0 told.1 count in
+    let named : AreNamed (arena_by m c) n told.0 told.1 count = subst P (sym is) told.2 in
+    elim (cases_eq count 0) [
+      | inl none ↦ record {
+        cache = told.0;
+        page = 0;
+        few = omega (arith, none);
+        held = λ k less. absurd (omega (arith, none, less));
+        named = λ k less. absurd (omega (arith, none, less));
+      }
+      | inr some ↦
+          let last : count - 1 < count = omega (arith, some) in
+          let placed : HasRow c.rows told.0.0 (told.1.0 + (count - 1)) =
+            subst (IsNameOfPage c.rows) (named (count - 1) last).1 (placed_name m c.rows right (next_node n (count - 1)) (named (count - 1) last).0) in
+          let short = page_short m c told.0.0 (told.1.0 + (count - 1)) right.short placed in
+          record {
+            cache = told.0;
+            page = told.1.0;
+            few = omega (arith, some, short);
+            held = λ k less. (named k less).0;
+            named = λ k less. (named k less).1;
+          }
+    ]
+
+pub all_exchanged : (m : PageNodes) (c : CacheRows) (a : Arena) → arena_by m c ≡ a → AreRight m c → (n o : NodeId) (count : ℕ)
+    → (cache : CacheId) × (page : PageNo) × AreNamed a n cache page count → (cache : CacheId) × (page : PageNo) × AreNamed a o cache page count
+    → ((i j : ℕ) → i < count → j < count → next_node n i ≢ next_node o j) → (new : PageNodes) → new ≡ exchanged_many m n o count
+    → Seen new c (on.exchanged_many a n o count)
+all_exchanged m c a is right n o count told other apart new changed =
+    let mine = named_in m c a is right.placed n count told in
+    let theirs = named_in m c a is right.placed o count other in
+    node_call m c a is right new (exchanged_many m n o count) (λ (b : Arena). on.exchanged_many b n o count) changed
+    (many_exchanged m c right.placed n o count mine.cache theirs.cache mine.page theirs.page (λ i j less under e. apart i j less under (λ t. record { 0 = e t }))
+    mine.held theirs.held mine.named theirs.named count (omega arith))
+
 -- A page gets another node
 
 module _ (m : PageNodes) (c : CacheRows) (right : ArePlaced m c.rows) (n new : NodeId) (s : OwnState) (held : HasNode m n) (none : find m new ≡ None) (later : 2 ^ 61 ≤ new.0)
@@ -187,3 +231,34 @@ passes_by m c n child = refl
 pub page_named : (x : NodeName) → is_page x ≡ true → (cache : CacheId) × (page : PageNo) × (x ≡ Live cache page)
 page_named (Live cache page) e = (cache, page, refl)
 page_named (Working k) e = absurd (false≢true e)
+
+-- A leaf that is renewed, if it is
+
+module _ (m : PageNodes) (c : CacheRows) (a : Arena) (is : arena_by m c ≡ a) (right : AreRight m c) (n : NodeId) (s : OwnState) (held : HasNode m n)
+    (parent_held : IfSome (cell m n).links.parent (HasNode m)) (new : PageNodes) where
+  leaf_seen : new ≡ nodes.leaf_renewed m n s → Seen new c (on.leaf_renewed a n s)
+  leaf_seen changed =
+      node_call m c a is right new (nodes.leaf_renewed m n s) (λ (b : Arena). on.leaf_renewed b n s) changed
+      (leaf_changed m c right.placed n s held parent_held)
+
+  pub leaf_right : (was : Option OwnState) → MatchOption was (new ≡ m) (λ _. new ≡ nodes.leaf_renewed m n s) → AreRight new c
+  leaf_right None same = (let P : PageNodes → Type 0 = λ x. AreRight x c in subst P (sym same) right)
+  leaf_right (Some own) changed = (leaf_seen changed).right
+
+  pub leaf_call : (was : Option OwnState) → MatchOption was (new ≡ m) (λ _. new ≡ nodes.leaf_renewed m n s)
+      → MatchOption was (arena_by new c ≡ a) (λ _. arena_by new c ≡ on.leaf_renewed a n s)
+  leaf_call None same = ap (λ (x : PageNodes). arena_by x c) same ∙ is
+  leaf_call (Some own) changed = (leaf_seen changed).is
+
+-- nodes stay
+module _ (a : Arena) (n : NodeId) (s : OwnState) where
+  abbrev leaf_now : Arena
+  leaf_now = on.on_cell a n (renewed s)
+
+  cut_stays : (p : Option NodeId) → NodesStay a (on.cut_from leaf_now p n None)
+  cut_stays None q h = stays-put a leaf_now n _ refl q h
+  cut_stays (Some p) q h = stays-put leaf_now (on.on_cell leaf_now p (with_child n None)) p _ refl q (stays-put a leaf_now n _ refl q h)
+
+  pub leaf_stays : (b : Arena) (was : Option OwnState) → MatchOption was (b ≡ a) (λ _. b ≡ on.leaf_renewed a n s) → NodesStay a b
+  leaf_stays b None same = subst (λ (x : Arena). NodesStay a x) (sym same) (λ q h. h)
+  leaf_stays b (Some own) changed = subst (λ (x : Arena). NodesStay a x) (sym changed) (cut_stays (arena.cell a n).links.parent)

@@ -2,10 +2,11 @@
 use Rattle.std.proofs.Common.{ℕ, zero, suc, ◌+◌, refl, sym, subst, inl, inr, arith}
 use Rattle.std.proofs.lemmas.Bool.{cases_eq}
 use Rattle.vm_ids.specs.declared.numbers.NodeId.{NodeId}
-use Rattle.local_cache.specs.Arena.{Arena, Cell, HasNode, NodesStay}
+use Rattle.local_cache.specs.Arena.{Arena, Cell, HasNode, NodesStay, cell}
 use Rattle.local_cache.specs.Many.{HaveNodes, as_working_many, hung_many, over_many, over_two_many, with_working_many}
 use Rattle.local_cache.specs.ManyNodes.{next_node}
-use Rattle.local_cache.specs.OnCells.{on_cells}
+use Rattle.local_cache.specs.NodeCells.{named}
+use Rattle.local_cache.specs.OnCells.{exchanged_many, on_cell, on_cells}
 use Rattle.local_cache.proofs.Nodes.Cells.{held-working, stays-as_working, stays-put, stays-working}
 
 module _ (a : Arena) (n : NodeId) where
@@ -28,6 +29,14 @@ module _ (a : Arena) (n : NodeId) where
   stay_cells f zero q h = h
   stay_cells f (suc k) q h =
       stays-put (on_cells a n f k) _ (next_node n k) _ refl q (stay_cells f k q h)
+
+  pub stay_exchanged : (o : NodeId) (k : ℕ) → NodesStay a (exchanged_many a n o k)
+  stay_exchanged o zero q h = h
+  stay_exchanged o (suc k) q h =
+      let b = exchanged_many a n o k in
+      let x = on_cell b (next_node n k) (named (cell b (next_node o k)).name) in
+      let y = on_cell x (next_node o k) (named (cell b (next_node n k)).name) in
+      stays-put x y (next_node o k) _ refl q (stays-put b x (next_node n k) _ refl q (stay_exchanged o k q h))
 
   pub stay_as_working : (k : ℕ) → NodesStay a (as_working_many a n k)
   stay_as_working zero q h = h

@@ -3,8 +3,14 @@ use Rattle.std.specs.Prelude.{is_some}
 use Rattle.std.specs.FinMap as map
 use Rattle.local_cache.specs.NodeCells.{Cells, changed_each}
 use Rattle.local_cache.specs.PageNodes.{PageNodes}
-use Rattle.local_cache.proofs.NodesKept.{SameNames, keeps_free_each, len_each, many_short, names_each, same_right}
+use Rattle.local_cache.proofs.NodesKept.{SameNames, given_below, keeps_free_each, len_each, many_short, names_each, same_right}
 use Rattle.local_cache.proofs.runs.node_runs.NodeRuns.change_each.Goals as goal
+
+pub change_each-requires-clause-lasts : goal.change_each-requires-clause-lasts
+change_each-requires-clause-lasts g c =
+    c.requires.lasts (λ n held.
+    omega (arith, given_below c.self.inside.table.cells c.self.inside.counters c.self.invariant.numbered n
+    (ap (λ (m : PageNodes). is_some (map.get m.cells n)) c.self.view_is ∙ held)))
 
 pub change_each-requires-clause-short : goal.change_each-requires-clause-short
 change_each-requires-clause-short g c =

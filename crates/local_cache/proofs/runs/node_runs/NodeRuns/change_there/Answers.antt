@@ -1,10 +1,16 @@
-use Rattle.std.proofs.Common.{◌≡◌, ◌-◌, ℕ, refl, sym, ap, subst, ◌∙◌}
+use Rattle.std.proofs.Common.{◌≡◌, ◌-◌, ℕ, refl, sym, ap, subst, ◌∙◌, arith}
 use Rattle.std.specs.Prelude.{is_some}
 use Rattle.std.specs.FinMap as map
 use Rattle.local_cache.specs.NodeCells.{Cells, changed}
 use Rattle.local_cache.specs.PageNodes.{PageNodes}
-use Rattle.local_cache.proofs.NodesKept.{SameNames, keeps_free, len_changed, names_changed, same_right}
+use Rattle.local_cache.proofs.NodesKept.{SameNames, given_below, keeps_free, len_changed, names_changed, same_right}
 use Rattle.local_cache.proofs.runs.node_runs.NodeRuns.change_there.Goals as goal
+
+pub change_there-requires-clause-lasts : goal.change_there-requires-clause-lasts
+change_there-requires-clause-lasts g c =
+    c.requires.lasts (λ n held.
+    omega (arith, given_below c.self.inside.table.cells c.self.inside.counters c.self.invariant.numbered n
+    (ap (λ (m : PageNodes). is_some (map.get m.cells n)) c.self.view_is ∙ held)))
 
 pub change_there-requires-clause-thin : goal.change_there-requires-clause-thin
 change_there-requires-clause-thin g c =
