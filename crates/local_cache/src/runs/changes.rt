@@ -1,5 +1,5 @@
 // The changes of page nodes.
-ghost use Rattle.std.specs.Prelude.{◌+◌, ◌-◌, ◌<◌, ◌^◌, IfSome};
+ghost use Rattle.std.specs.Prelude.{◌≡◌, ◌+◌, ◌-◌, ◌<◌, ◌≤◌, ◌^◌, IfSome, length};
 ghost use Rattle.std.proofs.Common.{rules};
 ghost use Rattle.vm_ids.specs.declared.node_name.NodeName.TheVariants.{Live, Working};
 ghost use Rattle.local_cache.specs.Many.{IsPlain};
@@ -139,6 +139,19 @@ impl ChangeEach for Hang {
 pub(crate) struct Adopt {
     pub older: Option<NodeId>,
     pub newer: Option<NodeId>,
+}
+
+impl Adopt {
+    /// Gives it the children of a list, of which there are at most two.
+    pub(crate) fn of(children: &[NodeId]) -> Adopt
+        requires { length children.now ≤ 2 }
+        ensures { tree_of result.older result.newer ≡ children.now }
+    {
+        Adopt {
+            older: children.first().copied(),
+            newer: children.get(1).copied(),
+        }
+    }
 }
 
 impl Change for Adopt {
