@@ -15,8 +15,8 @@ changed_twice m n f g =
     let there = inserted_here m n (f (unwrap_or (map.get m n) blank)) in
     ap (λ (o : Option Cell). map.insert (changed m n f) n (g (unwrap_or o blank))) there
     ∙ inserted_by m _ n (g (f (unwrap_or (map.get m n) blank)))
-      (inserted_here (changed m n f) n (g (f (unwrap_or (map.get m n) blank))))
-      (λ q other. inserted_other (changed m n f) n _ q other ∙ inserted_other m n _ q other)
+    (inserted_here (changed m n f) n (g (f (unwrap_or (map.get m n) blank))))
+    (λ q other. inserted_other (changed m n f) n _ q other ∙ inserted_other m n _ q other)
 
 pub rehung_is : (a : Arena) (n : NodeId) (s : OwnState) (p : Option NodeId) → on_cell a n (λ d. hanging p (owning s d)) ≡ hung (with_own a n s) n p
 unfolding put cell

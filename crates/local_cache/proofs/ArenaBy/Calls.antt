@@ -51,7 +51,7 @@ module _ (m : PageNodes) (c : CacheRows) (right : ArePlaced m c.rows) where
   pub next_free : (cache : CacheId) (pages : ℕ) → cache.0 ≡ length c.rows + 1 → cache.0 < 2 ^ 29 → pages < 2 ^ 32 → (page : ℕ) → page < pages → ids.get m.cells (page_number cache.0 page) ≡ None
   next_free cache pages number below few page less =
       not_some (ids.get m.cells (page_number cache.0 page)) (λ held.
-        absurd (omega (arith, number, right.first (page_number cache.0 page) (omega (arith, below, few, less)) held)))
+      absurd (omega (arith, number, right.first (page_number cache.0 page) (omega (arith, below, few, less)) held)))
 
   pub cache_removed : (cache : CacheId) → ((page : ℕ) → node_at a cache.0 page ≡ None) → StandFor m (without_row c cache.0) (without_cache a cache)
   cache_removed cache retired = record {
@@ -115,8 +115,8 @@ module _ (m : PageNodes) (c : CacheRows) (right : ArePlaced m c.rows) (n : NodeI
       let now = nodes.without_many m n k in
       let before = many_freed k (λ j less. held j (omega (arith, less))) in
       let there : HasNode now (next_node n k) =
-        ap (λ (p : PageNodes). is_some (ids.get p.cells (n.0 + k))) (without_many_is m n k)
-        ∙ ap is_some (range_behind m.cells n.0 k (n.0 + k) (omega arith)) ∙ held k (omega arith) in
+      ap (λ (p : PageNodes). is_some (ids.get p.cells (n.0 + k))) (without_many_is m n k)
+      ∙ ap is_some (range_behind m.cells n.0 k (n.0 + k) (omega arith)) ∙ held k (omega arith) in
       one_more now (nodes.without now (next_node n k)) c (many.without_many arena_now n k) (λ (b : Arena). arena.without b (next_node n k)) before
       (freed now c before.right (next_node n k) there)
 
@@ -126,8 +126,8 @@ module _ (m : PageNodes) (c : CacheRows) (right : ArePlaced m c.rows) (n : NodeI
       let now = nodes.as_working_many m n k in
       let before = many_as_working k (λ j less. held j (omega (arith, less))) in
       let there : HasNode now (next_node n k) =
-        ap (λ (p : PageNodes). is_some (ids.get p.cells (n.0 + k))) (working_many_is m n k)
-        ∙ ap is_some (each_behind m.cells n.0 (λ j. named (Working (m.made + 1 + j))) k (n.0 + k) (omega arith)) ∙ held k (omega arith) in
+      ap (λ (p : PageNodes). is_some (ids.get p.cells (n.0 + k))) (working_many_is m n k)
+      ∙ ap is_some (each_behind m.cells n.0 (λ j. named (Working (m.made + 1 + j))) k (n.0 + k) (omega arith)) ∙ held k (omega arith) in
       one_more now (nodes.as_working now (next_node n k)) c (many.as_working_many arena_now n k) (λ (b : Arena). arena.as_working b (next_node n k)) before
       (made_working now c before.right (next_node n k) there)
 

@@ -56,7 +56,7 @@ module _ (m : PageNodes) (c : CacheRows) (right : ArePlaced m c.rows) (n o : Nod
   paged_now =
       subst (λ (p : Pages). ArePaged both p) pages_same
       (paged_both m.cells m.pages n.0 o.0 (page_number c1.0 p1.0) (page_number c2.0 p2.0) x y right.paged apart
-        (key_there (find m n) held ∙ ap page_of_name mine) (key_there (find m o) other_held ∙ ap page_of_name theirs) (ap page_of_name mine) (ap page_of_name theirs))
+      (key_there (find m n) held ∙ ap page_of_name mine) (key_there (find m o) other_held ∙ ap page_of_name theirs) (ap page_of_name mine) (ap page_of_name theirs))
 
   name_at : (q : NodeId) (d : Cell) → ids.get both q.0 ≡ Some d → IsNameOfPage c.rows d.name
   name_at q d is = elim (cases_eq q.0 o.0) [
@@ -107,14 +107,14 @@ module _ (m : PageNodes) (c : CacheRows) (right : ArePlaced m c.rows) (n o : Nod
       let before = many_exchanged k (omega (arith, few)) in
       let is = exchanged_is m n o count c1 c2 p1 p2 apart right.paged here there names others k (omega (arith, few)) in
       let mine : find now (next_node n k) ≡ find m (next_node n k) =
-        ap (λ (p : PageNodes). find p (next_node n k)) is ∙ node_kept m n o count c1 c2 p1 p2 apart right.paged here there names others k less in
+      ap (λ (p : PageNodes). find p (next_node n k)) is ∙ node_kept m n o count c1 c2 p1 p2 apart right.paged here there names others k less in
       let theirs : find now (next_node o k) ≡ find m (next_node o k) =
-        ap (λ (p : PageNodes). find p (next_node o k)) is ∙ other_kept m n o count c1 c2 p1 p2 apart right.paged here there names others k less in
+      ap (λ (p : PageNodes). find p (next_node o k)) is ∙ other_kept m n o count c1 c2 p1 p2 apart right.paged here there names others k less in
       one_more now (exchanged_names now (next_node n k) (next_node o k)) c (on.exchanged_many (arena_by m c) n o k)
       (λ (b : Arena). on.exchanged_names b (next_node n k) (next_node o k)) before
       (exchanged now c before.right (next_node n k) (next_node o k) (apart k k less less) (ap is_some mine ∙ here k less) (ap is_some theirs ∙ there k less)
-        c1 c2 (record { 0 = p1 + k }) (record { 0 = p2 + k })
-        (ap (λ (z : Option Cell). (unwrap_or z blank).name) mine ∙ names k less) (ap (λ (z : Option Cell). (unwrap_or z blank).name) theirs ∙ others k less))
+      c1 c2 (record { 0 = p1 + k }) (record { 0 = p2 + k })
+      (ap (λ (z : Option Cell). (unwrap_or z blank).name) mine ∙ names k less) (ap (λ (z : Option Cell). (unwrap_or z blank).name) theirs ∙ others k less))
 
 -- nodes of pages that follow one another are named from the first one on
 pub named_in : (m : PageNodes) (c : CacheRows) (a : Arena) → arena_by m c ≡ a → ArePlaced m c.rows → (n : NodeId) (count : ℕ)
@@ -134,7 +134,7 @@ named_in m c a is right n count told =
       | inr some ↦
           let last : count - 1 < count = omega (arith, some) in
           let placed : HasRow c.rows told.0.0 (told.1.0 + (count - 1)) =
-            subst (IsNameOfPage c.rows) (named (count - 1) last).1 (placed_name m c.rows right (next_node n (count - 1)) (named (count - 1) last).0) in
+          subst (IsNameOfPage c.rows) (named (count - 1) last).1 (placed_name m c.rows right (next_node n (count - 1)) (named (count - 1) last).0) in
           let short = page_short m c told.0.0 (told.1.0 + (count - 1)) right.short placed in
           record {
             cache = told.0;

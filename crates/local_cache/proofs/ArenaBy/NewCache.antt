@@ -162,8 +162,7 @@ module _ (m : PageNodes) (c : CacheRows) (cache : CacheId) (segment : Option Seg
 
   pub made_by : MakesCache (arena_by m c) (arena_by new (with_row c segment pages)) cache segment pages own
   made_by =
-      let all = sym (length_nodes cache 0 pages) in
-      (
+      let all = sym (length_nodes cache 0 pages) in (
         ns,
         length_nodes cache 0 pages,
         record {

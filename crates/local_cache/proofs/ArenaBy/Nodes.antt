@@ -108,8 +108,8 @@ module _ (m : PageNodes) (c : CacheRows) (n : NodeId) (few : AreShort c.rows) wh
       let x = (nodes.cell m n).name in
       let y = (nodes.cell m o).name in
       let tables =
-        tables_come c.rows few (pages_with m.pages x (Some o)) y n other_short
-        ∙ ap (λ (ts : List (Option Table)). tables_with ts y (Some n)) (tables_come c.rows few m.pages x o short) in
+      tables_come c.rows few (pages_with m.pages x (Some o)) y n other_short
+      ∙ ap (λ (ts : List (Option Table)). tables_with ts y (Some n)) (tables_come c.rows few m.pages x o short) in
       λ i. record (arena_by (nodes.exchanged_names m n o) c) { caches = tables i }
 
 pub replaced_by : (m : PageNodes) (c : CacheRows) (n new : NodeId) (s : OwnState) → AreShort c.rows → IsShort (nodes.cell m n).name

@@ -158,8 +158,8 @@ module _ (m : PageNodes) (rows : List (Option CacheRow)) (right : ArePlaced m ro
       let d : Cell = new_cell (Live cache of) s in
       let key : page_number cache.0 of.0 ≡ page = same_Some _ _ is in
       let come = paged_come m.cells (ids.insert m.cells n.0 d) m.pages n.0 (page_number cache.0 of.0) right.paged (ap (ids.get m.pages) key ∙ free)
-        (λ k e. none-some k (sym (ap (option_and_then page_key) none) ∙ e)) (ap (option_and_then page_key) (inserted_here m.cells n.0 d))
-        (λ q other. ap (option_and_then page_key) (inserted_other m.cells n.0 d q other)) in
+      (λ k e. none-some k (sym (ap (option_and_then page_key) none) ∙ e)) (ap (option_and_then page_key) (inserted_here m.cells n.0 d))
+      (λ q other. ap (option_and_then page_key) (inserted_other m.cells n.0 d q other)) in
       record {
         paged = subst (λ (p : Pages). ArePaged (ids.insert m.cells n.0 d) p) (sym (page_come m.pages cache of n)) come;
         placed = placed_with d at;

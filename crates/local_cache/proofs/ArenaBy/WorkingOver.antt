@@ -120,9 +120,9 @@ module _ (m : PageNodes) (c : CacheRows) (n parent older newer : NodeId) (r : Ru
   cells_same = each_is linked n.0 hang_each count (come m.cells n.0 run_at count)
       (λ k less. come_in m.cells n.0 run_at count k less ∙ ap Some (said_cell k less) ∙ ap (λ (d : Cell). Some (hang_each k d)) (sym (linked_at k less)))
       (λ q low. come_out m.cells n.0 run_at count q (λ k less e. omega (arith, low, e))
-        ∙ sym (each_before bare n.0 over_each count q low ∙ come_out m.cells n.0 new_at count q (λ k less e. omega (arith, low, e))))
+      ∙ sym (each_before bare n.0 over_each count q low ∙ come_out m.cells n.0 new_at count q (λ k less e. omega (arith, low, e))))
       (λ q past. come_out m.cells n.0 run_at count q (λ k less e. omega (arith, past, less, e))
-        ∙ sym (each_behind bare n.0 over_each count q past ∙ come_out m.cells n.0 new_at count q (λ k less e. omega (arith, past, less, e))))
+      ∙ sym (each_behind bare n.0 over_each count q past ∙ come_out m.cells n.0 new_at count q (λ k less e. omega (arith, past, less, e))))
 
   over_by : (b : Arena) (k : ℕ) → on.on_cells b n over_each k ≡ record b { cells = changed_each b.cells n.0 over_each k }
   unfolding arena.put arena.cell
@@ -152,8 +152,8 @@ module _ (m : PageNodes) (c : CacheRows) (n parent older newer : NodeId) (r : Ru
       })
       ∙ sym (hang_by (record arena_now { cells = linked; made = m.made + count; room = record arena_now.room { nodes = m.room - count } }) count)
       ∙ ap (λ (b : Arena). on.on_cells b n hang_each count)
-        (sym (over_by (record arena_now { cells = bare; made = m.made + count; room = record arena_now.room { nodes = m.room - count } }) count)
-        ∙ ap (λ (b : Arena). on.on_cells b n over_each count) (sym (working_many arena_now n count)))
+      (sym (over_by (record arena_now { cells = bare; made = m.made + count; room = record arena_now.room { nodes = m.room - count } }) count)
+      ∙ ap (λ (b : Arena). on.on_cells b n over_each count) (sym (working_many arena_now n count)))
 
 -- they are named by no page
 module _ (m : PageNodes) (c : CacheRows) (right : ArePlaced m c.rows) (n : NodeId) (r : Run) (count : ℕ) (none : HaveNone m n count) (later : 2 ^ 61 ≤ n.0) where

@@ -15,7 +15,7 @@ change_there-requires-clause-held c =
 pub change_there-requires-clause-lasts : goal.change_there-requires-clause-lasts
 change_there-requires-clause-lasts c = λ far.
     let gone = held_seen c.self.inside.nodes c.self.inside.list c.args.self.now c.self.view_is c.args.gone
-      (one_held c.args.self.now c.args.gone c.args.count c.if-count-eq1.true c.requires.gone) in
+    (one_held c.args.self.now c.args.gone c.args.count c.if-count-eq1.true c.requires.gone) in
     (omega (arith, far c.args.gone.0 gone), short_if c.args.instead c.args.count 0 (omega (arith, c.if-count-eq1.true)) c.requires.instead)
 
 pub change_each-requires-clause-held : goal.change_each-requires-clause-held

@@ -9,7 +9,7 @@ pub gather-requires : goal.gather-requires
 gather-requires c = held_seen c.self.inside.nodes c.self.inside.list c.args.self.now c.self.view_is c.args.node c.requires
 
 pub invariant_of-self : goal.invariant_of-self
-invariant_of-self c = 
+invariant_of-self c =
     let A : PageNodes → Type 0 = λ m. AreRight m c.self.inside.list in subst A (sym c.gather.ensures) c.self.invariant
 
 pub returns : goal.returns

@@ -16,5 +16,5 @@ pub returns-clause-changed : goal.returns-clause-changed
 returns-clause-changed c = (cells_call c.self.inside.nodes c.self.inside.list c.args.self.now c.self.view_is c.self.invariant c.change_each.new.self c.args.node (λ k. hanging (Some (next_node c.args.parent k))) c.args.count (λ k d. refl) c.requires.held c.change_each.ensures).is
 
 pub returns-clause-stays : goal.returns-clause-stays
-returns-clause-stays c = 
+returns-clause-stays c =
     subst (λ (b : Arena). NodesStay c.args.self.now b) (sym (returns-clause-changed c)) (stay_cells c.args.self.now c.args.node (λ k. hanging (Some (next_node c.args.parent k))) c.args.count)

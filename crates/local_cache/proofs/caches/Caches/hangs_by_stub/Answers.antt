@@ -10,5 +10,5 @@ pub hangs_by_stub-requires : goal.hangs_by_stub-requires
 hangs_by_stub-requires c = ap (λ (x : Cells). is_some (map.get x c.args.node.0)) c.table.ensures.cells ∙ held_seen c.self.inside.nodes c.self.inside.list c.args.self.now c.self.view_is c.args.node c.requires
 
 pub returns : goal.returns
-returns c = 
+returns c =
     c.hangs_by_stub.ensures ∙ ap (λ (d : Cell). d.links.by_stub) (ap (λ (x : Cells). cell_at x c.args.node.0) c.table.ensures.cells ∙ cell_seen c.self.inside.nodes c.self.inside.list c.args.self.now c.self.view_is c.args.node)

@@ -10,5 +10,5 @@ pub name-requires : goal.name-requires
 name-requires c = ap (λ (x : Cells). is_some (map.get x c.args.node.0)) c.table.ensures.cells ∙ held_seen c.self.inside.nodes c.self.inside.list c.args.self.now c.self.view_is c.args.node c.requires
 
 pub returns : goal.returns
-returns c = 
+returns c =
     c.name.ensures ∙ ap (λ (d : Cell). d.name) (ap (λ (x : Cells). cell_at x c.args.node.0) c.table.ensures.cells ∙ cell_seen c.self.inside.nodes c.self.inside.list c.args.self.now c.self.view_is c.args.node)

@@ -36,9 +36,9 @@ pub returns-clause-changed : goal.returns-clause-changed
 returns-clause-changed c = (node_call c.self.inside.nodes c.self.inside.list c.args.self.now c.self.view_is c.self.invariant c.replace.new.self (nodes.with_new (nodes.as_working c.self.inside.nodes c.args.node) c.replace.result (nodes.cell c.self.inside.nodes c.args.node).name c.args.state) (λ (b : Arena). on.replaced b c.args.node c.replace.result c.args.state) c.replace.ensures.replaced (replaced c.self.inside.nodes c.self.inside.list c.self.invariant.placed c.args.node c.replace.result c.args.state (held_seen c.self.inside.nodes c.self.inside.list c.args.self.now c.self.view_is c.args.node c.requires.held) c.replace.ensures.new c.replace.ensures.later (named c).0 (named c).1 (named c).2)).is
 
 pub returns-clause-held : goal.returns-clause-held
-returns-clause-held c = 
+returns-clause-held c =
     subst (λ (b : Arena). HasNode b c.replace.result) (sym (returns-clause-changed c)) (held-new (as_working c.args.self.now c.args.node) _ c.replace.result (cell c.args.self.now c.args.node).name c.args.state refl)
 
 pub returns-clause-stays : goal.returns-clause-stays
-returns-clause-stays c q held = 
+returns-clause-stays c q held =
     subst (λ (b : Arena). HasNode b q) (sym (returns-clause-changed c)) (stays-new (as_working c.args.self.now c.args.node) _ c.replace.result (cell c.args.self.now c.args.node).name c.args.state refl q (stays-as_working c.args.self.now _ c.args.node refl q held))

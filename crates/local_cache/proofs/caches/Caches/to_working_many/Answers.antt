@@ -14,5 +14,5 @@ pub returns-clause-changed : goal.returns-clause-changed
 returns-clause-changed c = (to_working_many_call c.self.inside.nodes c.self.inside.list c.args.self.now c.self.view_is c.self.invariant c.to_working_many.new.self c.args.node c.args.count c.requires.held c.to_working_many.ensures).is
 
 pub returns-clause-stays : goal.returns-clause-stays
-returns-clause-stays c = 
+returns-clause-stays c =
     subst (λ (b : Arena). NodesStay c.args.self.now b) (sym (returns-clause-changed c)) (stay_as_working c.args.self.now c.args.node c.args.count)

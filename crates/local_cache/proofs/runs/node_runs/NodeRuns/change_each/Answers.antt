@@ -9,8 +9,11 @@ use Rattle.local_cache.proofs.runs.node_runs.NodeRuns.change_each.Goals as goal
 pub change_each-requires-clause-lasts : goal.change_each-requires-clause-lasts
 change_each-requires-clause-lasts g c =
     c.requires.lasts (λ n held.
-    omega (arith, given_below c.self.inside.table.cells c.self.inside.counters c.self.invariant.numbered n
-    (ap (λ (m : PageNodes). is_some (map.get m.cells n)) c.self.view_is ∙ held)))
+    omega (
+      arith,
+      given_below c.self.inside.table.cells c.self.inside.counters c.self.invariant.numbered n
+          (ap (λ (m : PageNodes). is_some (map.get m.cells n)) c.self.view_is ∙ held),
+    ))
 
 pub change_each-requires-clause-short : goal.change_each-requires-clause-short
 change_each-requires-clause-short g c =

@@ -9,8 +9,11 @@ use Rattle.local_cache.proofs.runs.node_runs.NodeRuns.change_there.Goals as goal
 pub change_there-requires-clause-lasts : goal.change_there-requires-clause-lasts
 change_there-requires-clause-lasts g c =
     c.requires.lasts (λ n held.
-    omega (arith, given_below c.self.inside.table.cells c.self.inside.counters c.self.invariant.numbered n
-    (ap (λ (m : PageNodes). is_some (map.get m.cells n)) c.self.view_is ∙ held)))
+    omega (
+      arith,
+      given_below c.self.inside.table.cells c.self.inside.counters c.self.invariant.numbered n
+          (ap (λ (m : PageNodes). is_some (map.get m.cells n)) c.self.view_is ∙ held),
+    ))
 
 pub change_there-requires-clause-thin : goal.change_there-requires-clause-thin
 change_there-requires-clause-thin g c =
