@@ -25,7 +25,7 @@ use Rattle.local_cache.proofs.NodeCells.{inserted_here, inserted_other}
 abbrev pub node_by : CacheId → ℕ → NodeId
 node_by cache page = record { 0 = page_number cache.0 page }
 
-pub nodes_by : CacheId → ℕ → ℕ → List NodeId
+abbrev pub nodes_by : CacheId → ℕ → ℕ → List NodeId
 nodes_by cache from zero = []
 nodes_by cache from (suc k) = node_by cache from ∷ nodes_by cache (from + 1) k
 
