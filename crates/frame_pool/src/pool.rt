@@ -5,7 +5,7 @@ ghost use Rattle.frame_pool.specs.Lending.{LendsPage};
 ghost use Rattle.frame_pool.specs.Pool.{bytes_of, evictable_count, evictable_frames, is_evictable, is_held, is_pinned, with_bytes};
 
 use crate::marks::Marks;
-use crate::part::part_mut;
+use crate::part::{copy_part, part_mut};
 use number_pool::NumberPool;
 use std::alloc::Global;
 use std::marker::Model;
@@ -184,10 +184,13 @@ impl FramePool {
         requires apart { from.0 ≢ to.0 }
         ensures { self.new ≡ with_bytes self.old to.0 (bytes_of self.old from.0) }
     {
-        let start = from.0 as usize * self.page;
-        let end = start + self.page;
-        let place = to.0 as usize * self.page;
-        self.region.copy_within(start..end, place);
+        let page = self.page;
+        copy_part(
+            &mut self.region,
+            from.0 as usize * page,
+            to.0 as usize * page,
+            page,
+        );
     }
 
     /// Makes the bytes of a frame zeros.
