@@ -6,6 +6,7 @@ ghost use Rattle.replay.specs.Commanding.{page_size_of};
 use super::draws::{Draws, Script, Turn};
 use super::playing::{said, text, written};
 use super::processes::fails_in_turn;
+use super::rows::kept::{AGAIN, GIVEN_UP_LATER, GIVEN_UP_LATER_REPLIES, KEPT, NOT_KEPT};
 use super::segments::two_pages;
 use std::alloc::Global;
 use std::collections::VecDeque;
@@ -31,79 +32,6 @@ fn three_segments(alloc: Global, fails: &[CallNo]) -> Result<MemoryMapper, NoMem
     ];
     MemoryMapper::new(alloc, &segments, &[], 512, fails, PAGE as u32)
 }
-
-const AGAIN: &str = "open 1
-open 1
-actor
-map a1 c1 0 1 10000 rw
-store a1 10000 58
-close 1
-close 1
-close 1
-load a1 10000 1
-unmap r1
-temp 1
-copy c1 0 c2 0 1
-open 1
-copy c1 0 c2 0 1
-";
-
-const KEPT: &str = "1 ok c1
-2 ok c1
-3 ok a1
-4 ok r1
-5 ok
-6 ok
-7 ok
-8 no NotOpen
-9 ok 58
-10 ok
-11 ok c2
-12 no NoCache
-13 ok c1
-14 ok
-";
-
-const NOT_KEPT: &str = "1 ok c1
-2 ok c1
-3 ok a1
-4 ok r1
-5 ok
-6 ok
-7 ok
-8 no NotOpen
-9 ok 58
-10 ok
-11 ok c2
-12 no NoCache
-13 ok c3
-14 no NoCache
-";
-
-// Where the push fails by which the cache would go at line 6, it stays, and goes at line 8.
-const GIVEN_UP_LATER: &str = "open 1
-actor
-map a1 c1 0 1 10000 rw
-store a1 10000 58
-close 1
-unmap r1
-open 1
-close 1
-open 1
-destroy c2
-";
-
-const GIVEN_UP_LATER_REPLIES: &str = "1 ok c1
-2 ok a1
-3 ok r1
-4 ok
-5 ok
-6 ok
-7 ok c1
-8 ok
-9 ok c2
-10 no BadLine
-";
 
 // For these words a script has these replies; then the first segment begins with this byte.
 fn keeps(
