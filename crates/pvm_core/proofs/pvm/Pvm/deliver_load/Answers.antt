@@ -23,8 +23,8 @@ unseen : (g : Over) (c : In-None g) → c.load_seen.new.self ≡ c.args.self.now
 unseen g c = c.in-None.ensures.unseen
 
 -- the place of the access
-pub nodes_at-nodes-requires-clause-place : goal.nodes_at-nodes-requires-clause-place
-nodes_at-nodes-requires-clause-place g c = (c.args.actor.0, c.args.address, c.args.bytes, sym c.in-Ok.is ∙ c.locate.ensures.place)
+pub nodes_at-nodes-requires : goal.nodes_at-nodes-requires
+nodes_at-nodes-requires g c = record { place = (c.args.actor.0, c.args.address, c.args.bytes, sym c.in-Ok.is ∙ c.locate.ensures.place) }
 
 -- whether the access is ready
 ready : (g : Over) (c : After-is_here-ready g) → c.is_here-ready.result ≡ is_ready c.load_seen.new.self c.args.actor.0 c.args.address

@@ -19,19 +19,19 @@ unseen : (g : Over) (c : Else-store_seen g) → c.store_seen.new.self ≡ c.args
 unseen g c = c.store_seen.ensures.unseen c.if-store_seen.false
 
 -- the place of the access
-pub nodes_at-nodes-requires-clause-place : goal.nodes_at-nodes-requires-clause-place
-nodes_at-nodes-requires-clause-place g c = (c.args.actor.0, c.args.address, length c.args.piece.now, c.in-Ok.ensures.place)
+pub nodes_at-nodes-requires : goal.nodes_at-nodes-requires
+nodes_at-nodes-requires g c = record { place = (c.args.actor.0, c.args.address, length c.args.piece.now, c.in-Ok.ensures.place) }
 
 -- whether the access is ready
-ready : (g : Over) (c : After-is_here g) → c.is_here.result ≡ is_ready c.place_to_write.new.self c.args.actor.0 c.args.address
-ready g c = c.is_here.ensures ∙ c.nodes_at-nodes.ensures.ready c.args.actor.0 c.args.address (length c.args.piece.now) c.in-Ok.ensures.place
+asked_now : (g : Over) (c : After-is_here g) → c.is_here.result ≡ is_ready c.place_to_write.new.self c.args.actor.0 c.args.address
+asked_now g c = c.is_here.ensures ∙ c.nodes_at-nodes.ensures.ready c.args.actor.0 c.args.address (length c.args.piece.now) c.in-Ok.ensures.place
 
 -- the questions for write access leave what is ready
 as_before : (g : Over) (c : After-place_to_write g) → is_ready c.place_to_write.new.self c.args.actor.0 c.args.address ≡ is_ready c.args.self.now c.args.actor.0 c.args.address
 as_before g c = c.place_to_write.ensures.hands c.args.actor.0 c.args.address ∙ ap (λ (p : Manager). is_ready p c.args.actor.0 c.args.address) (unseen g (goal.at.After-place_to_write g c).Else-store_seen)
 
 asked : (g : Over) (c : After-is_here g) → c.is_here.result ≡ is_ready c.args.self.now c.args.actor.0 c.args.address
-asked g c = ready g c ∙ as_before g (goal.at.After-is_here g c).After-place_to_write
+asked g c = asked_now g c ∙ as_before g (goal.at.After-is_here g c).After-place_to_write
 
 pub returns-in-Err-clause-delivered : goal.returns-in-Err-clause-delivered
 returns-in-Err-clause-delivered g c =
@@ -91,7 +91,7 @@ returns-in-Ok-bring_page-clause-delivered g c =
     let then = c.store_at-in-Ok-bring_page.ensures.call in
     let call : MapperCall g.M.Mapper meaning m c.args.self.now (commands.Store c.args.actor c.args.address c.args.piece.now) (done_by c.store_at-in-Ok-bring_page.result) k c.store_at-in-Ok-bring_page.new.self
     = quiet_then w.later w.asked.traffic state (behind_questions g at.In-Ok) w.page (looked_then looked (done_or_victim c.store_at-in-Ok-bring_page.result victim) then) in
-    let away : is_ready c.place_to_write.new.self c.args.actor.0 c.args.address ≡ false = sym (ready g at.After-is_here) ∙ c.if-is_here.false in
+    let away : is_ready c.place_to_write.new.self c.args.actor.0 c.args.address ≡ false = sym (asked_now g at.After-is_here) ∙ c.if-is_here.false in
     let one : RoseBy 1 (g.M.Mapper.counts m).pulls (g.M.Mapper.counts k).pulls = λ low. (
     let last = then.answers.rose.pulls_later in
     let later = looked.reach.later.pulls in

@@ -36,8 +36,8 @@ returns-in-Err-clause-answered g c =
     subst (λ (p : Manager). AccessCall g.M.Mapper meaning NoPull m p (commands.Load c.args.actor c.args.address c.args.bytes) (Err (troubles.Refused c.in-Err.refusal)) m q) (unseen g at.In-None) (access_call NoPull 0 (mapper_call c.in-Err.ensures.load valid) tt tt (no_rise _) (λ r e. e))
 
 -- the place of the access
-pub nodes_at-nodes-requires-clause-place : goal.nodes_at-nodes-requires-clause-place
-nodes_at-nodes-requires-clause-place g c = (c.args.actor.0, c.args.address, c.args.bytes, sym c.in-Ok.is ∙ c.locate.ensures.place)
+pub nodes_at-nodes-requires : goal.nodes_at-nodes-requires
+nodes_at-nodes-requires g c = record { place = (c.args.actor.0, c.args.address, c.args.bytes, sym c.in-Ok.is ∙ c.locate.ensures.place) }
 
 -- whether the access is ready
 ready : (g : Over) (c : After-is_here g) → c.is_here.result ≡ is_ready c.load_seen.new.self c.args.actor.0 c.args.address

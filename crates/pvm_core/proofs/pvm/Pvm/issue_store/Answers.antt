@@ -26,8 +26,8 @@ returns-in-Err-clause-answered g c =
     access_call NoPull 0 call tt (trouble_no_page c.in-Err.trouble c.in-Err.ensures.no_page) c.place_to_write.ensures.no_pull (λ r e. e)
 
 -- the place of the access
-pub nodes_at-nodes-requires-clause-place : goal.nodes_at-nodes-requires-clause-place
-nodes_at-nodes-requires-clause-place g c = (c.args.actor.0, c.args.address, length c.args.piece.now, c.in-Ok.ensures.place)
+pub nodes_at-nodes-requires : goal.nodes_at-nodes-requires
+nodes_at-nodes-requires g c = record { place = (c.args.actor.0, c.args.address, length c.args.piece.now, c.in-Ok.ensures.place) }
 
 -- whether the access is ready
 asked : (g : Over) (c : After-is_here g) → is_ready c.place_to_write.new.self c.args.actor.0 c.args.address ≡ c.is_here.result

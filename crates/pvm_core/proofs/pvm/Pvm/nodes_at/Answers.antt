@@ -24,7 +24,7 @@ found c actor address count told =
 
 pub node_of-node-requires-clause-page : goal.node_of-node-requires-clause-page
 node_of-node-requires-clause-page c =
-    let asked = c.requires in
+    let asked = c.requires.place in
     let r = found (goal.at.node_of-node-requires-clause-page c).After-self asked.0 asked.1 asked.2 asked.3 in
     (r.count, r.there, r.less)
 

@@ -77,8 +77,8 @@ returns-in_err-place-clause-grants g c = subst (λ (p : Manager). GrantsStay p.c
 
 -- Or it may
 
-pub nodes_at-nodes-requires-clause-place : goal.nodes_at-nodes-requires-clause-place
-nodes_at-nodes-requires-clause-place g c = (c.args.actor.0, c.args.address, length c.args.piece.now, c.in_ok-place.ensures.place)
+pub nodes_at-nodes-requires : goal.nodes_at-nodes-requires
+nodes_at-nodes-requires g c = record { place = (c.args.actor.0, c.args.address, length c.args.piece.now, c.in_ok-place.ensures.place) }
 
 pub store_at-requires-clause-made : goal.store_at-requires-clause-made
 store_at-requires-clause-made g c =

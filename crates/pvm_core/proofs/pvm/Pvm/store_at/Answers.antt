@@ -128,7 +128,7 @@ translated_then g c =
     let n = c.write_fault.new in
     let e = c.write_fault.ensures in
     let o = told_nodes g (goal.at.After-write_fault g c).After-self in
-    dropped_right (MayCome a c.args.nodes.owner) a n.caches i.store n.store i.contexts e.drops (same_grants a n.caches e.answered.kept.nodes.caches) c.self.invariant.translated
+    dropped_right (MayCome a c.args.nodes.owner) a n.caches i.store n.store i.contexts (e.drops c.args.nodes.owner o.owner) (same_grants a n.caches e.answered.kept.nodes.caches) c.self.invariant.translated
 
 pub invariant_of-self : goal.invariant_of-self
 invariant_of-self g c =
@@ -145,7 +145,7 @@ invariant_of-self g c =
     let to : Translation = record { frame = c.in-Ok.frame; writable = true } in
     let r = found g places.After-self in
     let at : Place = found_at r.region pl in
-    let name : name_of n.caches node.result ≡ name_at at = e.answered.kept.nodes.name node ∙ o.name in
+    let name : name_of n.caches node ≡ name_at at = e.answered.kept.nodes.name node ∙ o.name in
     let alone : IsAlone n.caches (name_at at) = subst (IsAlone n.caches) name c.in-Ok.ensures.alone in
     let held = e.answered.kept.nodes.held node ∙ o.held in
     let seen_there = alone_seen n.caches n.store e.answered.kept.right.tied.placed e.answered.kept.sound e.answered.kept.shaped node held c.in-Ok.ensures.alone c.in-Ok.frame.0 c.in-Ok.ensures.ready.bound.1 in
