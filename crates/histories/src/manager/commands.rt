@@ -2,6 +2,7 @@
 ghost use Rattle.std.specs.Prelude.{◌≤◌, ◌<◌, IfOk};
 ghost use Rattle.vm_model.specs.Asking.{IsWellFormed};
 
+use crate::draws::Draws;
 use std::test::Fail;
 use vm_ids::{
     ActorId, Answer, CacheId, Command, Extent, Mapping, PageNo, Piece, Prot, RegionId, Reply,
@@ -30,11 +31,11 @@ struct Acting {
     region: RegionId,
 }
 
-// Commands by a linear congruential generator. Now and then all pages of all caches are looked at:
+// Drawn commands. Now and then all pages of all caches are looked at:
 // each cache is mapped, loaded page by page, and unmapped.
 #[derive(Drop)]
 pub(super) struct Script {
-    state: u64,
+    draws: Draws,
     // Whether all caches are long and temporary, and copied more often than stored to.
     long: bool,
     caches: u32,
@@ -60,7 +61,7 @@ impl Script {
             region: RegionId(0),
         };
         Script {
-            state: seed,
+            draws: Draws { state: seed },
             long,
             caches: 0,
             named: [CacheId(0); 2],
@@ -79,11 +80,7 @@ impl Script {
         requires { 0 < limit }
         ensures { result < limit }
     {
-        self.state = self
-            .state
-            .wrapping_mul(6_364_136_223_846_793_005)
-            .wrapping_add(1_442_695_040_888_963_407);
-        (self.state >> 33) as u32 % limit
+        self.draws.below(limit)
     }
 
     // One of the last caches that were made.

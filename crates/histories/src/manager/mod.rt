@@ -9,10 +9,10 @@ ghost use Rattle.gmi_calls.specs.Calling.{Fits};
 mod commands;
 mod plain;
 
-use crate::Pvm;
 use commands::{LONG, PAGE, PAGES, Script, is_one_of};
 use gmi_calls::{Gmi, answer};
 use plain::{Plain, hold_the_same, segments};
+use pvm_core::Pvm;
 use std::alloc::Global;
 use std::process::Abort;
 use std::test::Fail;
