@@ -204,6 +204,29 @@ impl Plain {
         "ok"
     }
 
+    fn store(&mut self, place: usize, at: usize, page: usize, byte: u8) -> &'static str {
+        match self.byte(place, at, page) {
+            Some(seen) => {
+                *seen = byte;
+                "ok"
+            }
+            None => "no BadAddress",
+        }
+    }
+
+    fn load(
+        &mut self,
+        alloc: Global,
+        place: usize,
+        at: usize,
+        page: usize,
+    ) -> Result<String, NoMemory> {
+        Ok(match self.byte(place, at, page) {
+            Some(seen) => format!(in alloc; "ok {seen:02x}")?,
+            None => format!(in alloc; "no BadAddress")?,
+        })
+    }
+
     fn number(&self, place: usize) -> u32 {
         match self.segments.get(place) {
             Some(segment) => segment.number(),
@@ -227,70 +250,52 @@ fn turn(line: String, reply: String) -> Turn {
     Turn { line, reply }
 }
 
+// A line that is to be answered by these words.
+fn told(alloc: Global, line: String, reply: &str) -> Result<Turn, NoMemory> {
+    Ok(turn(line, format!(in alloc; "{reply}")?))
+}
+
 // The next drawn line, played on the plain machine. What is drawn depends on no answer.
 fn play(alloc: Global, draws: &mut Draws, plain: &mut Plain) -> Result<Turn, NoMemory> {
     let (segment, at, page) = (draws.below(3), draws.below(2), draws.below(2));
     let (s, a, p) = (segment as usize, at as usize, page as usize);
     let byte = draws.below(256) as u8;
-    let address = 0x10000 * (2 * segment as u64 + at as u64 + 1) + page as u64 * PAGE as u64;
+    let start = 0x10000 * (2 * segment as u64 + at as u64 + 1);
+    let address = start + page as u64 * PAGE as u64;
     let number = plain.number(s);
     match draws.below(16) {
-        0 => Ok(turn(format!(in alloc; "pageout 3")?, format!(in alloc; "ok")?)),
+        0 => told(alloc, format!(in alloc; "pageout 3")?, "ok"),
         1..=2 => Ok(turn(
             format!(in alloc; "open {}", segment + 1)?,
             plain.open(alloc, s)?,
         )),
         3..=5 => {
             let reply = plain.close(s)?;
-            Ok(turn(
-                format!(in alloc; "close {}", segment + 1)?,
-                format!(in alloc; "{reply}")?,
-            ))
+            told(alloc, format!(in alloc; "close {}", segment + 1)?, reply)
         }
-        6..=7 => {
-            let start = 0x10000 * (2 * segment as u64 + at as u64 + 1);
-            Ok(turn(
-                format!(in alloc; "map a1 c{number} 0 2 {start:x} rw")?,
-                plain.map(alloc, s, a)?,
-            ))
-        }
+        6..=7 => Ok(turn(
+            format!(in alloc; "map a1 c{number} 0 2 {start:x} rw")?,
+            plain.map(alloc, s, a)?,
+        )),
         8 => {
             let region = plain.region(s, a);
             let reply = plain.unmap(s, a)?;
-            Ok(turn(
-                format!(in alloc; "unmap r{region}")?,
-                format!(in alloc; "{reply}")?,
-            ))
+            told(alloc, format!(in alloc; "unmap r{region}")?, reply)
         }
         9..=10 => {
             let other = (s + 1) % SEGMENTS;
             let to = plain.number(other);
-            let reply = plain.copy(s, other, p);
-            Ok(turn(
-                format!(in alloc; "copy c{number} {page} c{to} {page} 1")?,
-                format!(in alloc; "{reply}")?,
-            ))
+            let line = format!(in alloc; "copy c{number} {page} c{to} {page} 1")?;
+            told(alloc, line, plain.copy(s, other, p))
         }
         11..=13 => {
-            let reply = match plain.byte(s, a, p) {
-                Some(seen) => {
-                    *seen = byte;
-                    "ok"
-                }
-                None => "no BadAddress",
-            };
-            Ok(turn(
-                format!(in alloc; "store a1 {address:x} {byte:02x}")?,
-                format!(in alloc; "{reply}")?,
-            ))
+            let line = format!(in alloc; "store a1 {address:x} {byte:02x}")?;
+            told(alloc, line, plain.store(s, a, p, byte))
         }
-        _ => {
-            let reply = match plain.byte(s, a, p) {
-                Some(seen) => format!(in alloc; "ok {seen:02x}")?,
-                None => format!(in alloc; "no BadAddress")?,
-            };
-            Ok(turn(format!(in alloc; "load a1 {address:x} 1")?, reply))
-        }
+        _ => Ok(turn(
+            format!(in alloc; "load a1 {address:x} 1")?,
+            plain.load(alloc, s, a, p)?,
+        )),
     }
 }
 

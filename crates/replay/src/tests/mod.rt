@@ -97,7 +97,7 @@ fn has_its_replies(
 }
 
 #[test]
-fn scripts_have_their_replies_however_they_are_cut(rt: HostRuntime) -> Result<(), NoMemory> {
+fn accesses_have_their_replies_however_they_are_cut(rt: HostRuntime) -> Result<(), NoMemory> {
     for (frames, script, replies) in [
         (
             "3",
@@ -107,6 +107,21 @@ fn scripts_have_their_replies_however_they_are_cut(rt: HostRuntime) -> Result<()
         ("8", accesses::EMPTY_SCRIPT, accesses::EMPTY_SCRIPT_REPLIES),
         ("8", accesses::ZEROS, accesses::ZEROS_REPLIES),
         ("8", accesses::BORDERS, accesses::BORDERS_REPLIES),
+        ("8", accesses::REFUSALS, accesses::REFUSALS_REPLIES),
+        (
+            "8",
+            "actor\nstat",
+            "1 ok a1\n2 stat live 0 working 0 copies 0\n",
+        ),
+    ] {
+        has_its_replies(&rt, rt.alloc(), frames, script, replies)?;
+    }
+    Ok(())
+}
+
+#[test]
+fn copies_have_their_replies_however_they_are_cut(rt: HostRuntime) -> Result<(), NoMemory> {
+    for (frames, script, replies) in [
         (
             "8",
             copies::TREE_COPY_OF_NINE_PAGES,
@@ -126,7 +141,6 @@ fn scripts_have_their_replies_however_they_are_cut(rt: HostRuntime) -> Result<()
             copies::DEAD_SOURCE_THEN_A_MERGE,
             copies::DEAD_SOURCE_THEN_A_MERGE_REPLIES,
         ),
-        ("3", frames::THREE_FRAMES, frames::THREE_FRAMES_REPLIES),
         (
             "8",
             copies::MOVE_OF_A_COPIED_PAGE,
@@ -143,7 +157,16 @@ fn scripts_have_their_replies_however_they_are_cut(rt: HostRuntime) -> Result<()
             copies::MOVE_INSIDE_ONE_CACHE_REPLIES,
         ),
         ("8", copies::OVERLAP, copies::OVERLAP_REPLIES),
-        ("8", accesses::REFUSALS, accesses::REFUSALS_REPLIES),
+    ] {
+        has_its_replies(&rt, rt.alloc(), frames, script, replies)?;
+    }
+    Ok(())
+}
+
+#[test]
+fn few_frames_have_their_replies_however_they_are_cut(rt: HostRuntime) -> Result<(), NoMemory> {
+    for (frames, script, replies) in [
+        ("3", frames::THREE_FRAMES, frames::THREE_FRAMES_REPLIES),
         (
             "8",
             frames::TRANSLATION_TO_THE_SOURCE,
@@ -154,11 +177,6 @@ fn scripts_have_their_replies_however_they_are_cut(rt: HostRuntime) -> Result<()
             "3",
             frames::LIVE_PAGE_LIMIT,
             frames::LIVE_PAGE_LIMIT_REPLIES,
-        ),
-        (
-            "8",
-            "actor\nstat",
-            "1 ok a1\n2 stat live 0 working 0 copies 0\n",
         ),
     ] {
         has_its_replies(&rt, rt.alloc(), frames, script, replies)?;
