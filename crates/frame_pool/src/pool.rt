@@ -184,10 +184,17 @@ impl FramePool {
         requires apart { from.0 ≢ to.0 }
         ensures { self.new ≡ with_bytes self.old to.0 (bytes_of self.old from.0) }
     {
-        let start = from.0 as usize * self.page;
-        let end = start + self.page;
-        let place = to.0 as usize * self.page;
-        self.region.copy_within(start..end, place);
+        let from_start = from.0 as usize * self.page;
+        let to_start = to.0 as usize * self.page;
+        if from_start < to_start {
+            let (low, high) = self.region.split_at_mut(to_start);
+            let bytes = &low[from_start..from_start + self.page];
+            high[..self.page].copy_from_slice(bytes);
+        } else if to_start < from_start {
+            let (low, high) = self.region.split_at_mut(from_start);
+            let bytes = &high[..self.page];
+            low[to_start..to_start + self.page].copy_from_slice(bytes);
+        }
     }
 
     /// Makes the bytes of a frame zeros.

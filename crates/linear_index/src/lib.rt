@@ -27,6 +27,7 @@ mod chains;
 mod hashes;
 mod head;
 mod index;
+mod recent;
 
 pub use index::Index;
 

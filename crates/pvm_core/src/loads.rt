@@ -15,13 +15,21 @@ ghost use Rattle.pvm_core.specs.Keeping.{SameButSeen};
 ghost use Rattle.pvm_core.specs.Manager.{IsValid, machine_of, meaning, state_at};
 
 use crate::Pvm;
-use crate::nodes::{is_at_hand, node_of};
+use crate::nodes::{has_page_here, is_at_hand, node_of};
 use crate::pieces::{fault_of, part_of};
 use crate::translations::{byte_at, remember_found, translated};
-use fault_path::read_fault;
+use fault_path::read_owner;
+use history_tree::owner_of;
 use regions::Place;
-use vm_ids::{ActorId, Command, Piece, Refusal, Reply, Trouble};
+use vm_ids::{ActorId, Command, NodeId, Piece, Refusal, Reply, Trouble};
 use vm_port::{Chooser, Mapper};
+
+// The node of a page, and the node whose page it reads.
+#[derive(Clone, Copy)]
+pub(crate) struct NodesAt {
+    pub(crate) node: NodeId,
+    pub(crate) owner: NodeId,
+}
 
 impl Pvm {
     // A load whose page a translation leads to. `None` where none does.
@@ -114,8 +122,31 @@ impl Pvm {
         ensures loaded { IfOk result (IsLoaded (M.counts mapper.old) (M.counts mapper.new)
             (M.given mapper.new) self.old self.new actor.0 address bytes) }
     {
+        let owner = self.nodes_at(place).owner;
+        self.load_from(owner, place, actor, address, bytes, mapper, chooser)
+    }
+
+    // The node of the page at a place, and its owner.
+    pub(crate) fn nodes_at(&self, place: Place) -> NodesAt {
         let node = node_of(&self.caches, place.cache, place.page);
-        match read_fault(&mut self.store, &mut self.caches, node, mapper, chooser) {
+        NodesAt {
+            node,
+            owner: owner_of(&self.caches, node),
+        }
+    }
+
+    // A load at a place, the owner of whose page is told.
+    fn load_from<M: Mapper, C: Chooser>(
+        &mut self,
+        owner: NodeId,
+        place: Place,
+        actor: ActorId,
+        address: u64,
+        bytes: u8,
+        mapper: &mut M,
+        chooser: &mut C,
+    ) -> Result<Piece, Trouble> {
+        match read_owner(&mut self.store, &mut self.caches, owner, mapper, chooser) {
             Ok(found) => {
                 remember_found(&mut self.store, &self.contexts, actor, address, found);
                 Ok(part_of(&self.store, found, place.at, bytes))
@@ -158,8 +189,11 @@ impl Pvm {
             Some(piece) => Some(Ok(piece)),
             None => match self.locate(actor, address, bytes) {
                 Ok(place) => {
-                    if self.is_ready(actor, address) {
-                        Some(self.load_at(place, actor, address, bytes, mapper, chooser))
+                    let owner = self.nodes_at(place).owner;
+                    if has_page_here(&self.caches, owner) {
+                        Some(self.load_from(
+                            owner, place, actor, address, bytes, mapper, chooser,
+                        ))
                     } else {
                         None
                     }
@@ -197,18 +231,20 @@ impl Pvm {
     {
         match self.load_seen(actor, address, bytes) {
             Some(piece) => (Ok(piece), true),
-            None => {
-                let ready = self.is_ready(actor, address);
-                match self.locate(actor, address, bytes) {
-                    Ok(place) => {
-                        match self.load_at(place, actor, address, bytes, mapper, chooser) {
-                            Ok(piece) => (Ok(piece), true),
-                            Err(trouble) => (Err(trouble), ready),
-                        }
+            None => match self.locate(actor, address, bytes) {
+                Ok(place) => {
+                    let owner = self.nodes_at(place).owner;
+                    let ready = has_page_here(&self.caches, owner);
+                    match self.load_from(owner, place, actor, address, bytes, mapper, chooser) {
+                        Ok(piece) => (Ok(piece), true),
+                        Err(trouble) => (Err(trouble), ready),
                     }
-                    Err(refusal) => (Err(Trouble::Refused(refusal)), ready),
                 }
-            }
+                Err(refusal) => (
+                    Err(Trouble::Refused(refusal)),
+                    self.is_ready(actor, address),
+                ),
+            },
         }
     }
 }

@@ -16,14 +16,15 @@ ghost use Rattle.pvm_core.specs.Manager.{IsValid, machine_of, meaning, numbered,
 ghost use Rattle.pvm_core.specs.Translated.{found_for, frame_to_write};
 
 use crate::Pvm;
-use crate::nodes::node_of;
+use crate::loads::NodesAt;
+use crate::nodes::has_page_here;
 use crate::pieces::{fault_of, write_found, write_frame};
 use crate::translations::{byte_at, remember, translated_for_writing};
 use crate::writes::grant_range;
-use fault_path::{read_fault, write_fault};
+use fault_path::{read_owner, write_fault};
 use page_tables::Translation;
 use regions::Place;
-use vm_ids::{ActorId, Command, Extent, FaultAt, Piece, Refusal, Trouble};
+use vm_ids::{ActorId, Command, Extent, FaultAt, NodeId, Piece, Refusal, Trouble};
 use vm_port::{Chooser, Mapper};
 
 impl Pvm {
@@ -140,9 +141,30 @@ impl Pvm {
         ensures translated { OnOk result (IsSome (frame_to_write (found_for self.new.page_bytes
             self.new.store.tables actor.0 address (length piece.now)))) }
     {
+        let nodes = self.nodes_at(place);
+        self.store_from(nodes, place, actor, address, piece, mapper, chooser)
+    }
+
+    // A store at a place where the page may be written, whose owner is told.
+    fn store_from<M: Mapper, C: Chooser>(
+        &mut self,
+        nodes: NodesAt,
+        place: Place,
+        actor: ActorId,
+        address: u64,
+        piece: &Piece,
+        mapper: &mut M,
+        chooser: &mut C,
+    ) -> Result<(), Trouble> {
         let bytes = piece.as_slice();
-        let node = node_of(&self.caches, place.cache, place.page);
-        match write_fault(&mut self.store, &mut self.caches, node, mapper, chooser) {
+        match write_fault(
+            &mut self.store,
+            &mut self.caches,
+            nodes.node,
+            nodes.owner,
+            mapper,
+            chooser,
+        ) {
             Ok(frame) => {
                 write_frame(&mut self.store, frame, place.at, bytes);
                 let to = Translation {
@@ -159,9 +181,8 @@ impl Pvm {
     // The page at a place is brought in where it isn't at hand.
     fn bring_page<M: Mapper, C: Chooser>(
         &mut self,
+        owner: NodeId,
         place: Place,
-        actor: ActorId,
-        address: u64,
         mapper: &mut M,
         chooser: &mut C,
     ) -> Result<(), Trouble>
@@ -184,8 +205,7 @@ impl Pvm {
         ensures admits { StillAdmits Admits self.old self.new }
         ensures grants { GrantsStay self.old.caches self.new.caches }
     {
-        let node = node_of(&self.caches, place.cache, place.page);
-        if let Err(miss) = read_fault(&mut self.store, &mut self.caches, node, mapper, chooser) {
+        if let Err(miss) = read_owner(&mut self.store, &mut self.caches, owner, mapper, chooser) {
             return Err(Trouble::Mapper(fault_of(miss, place.page)));
         }
         Ok(())
@@ -227,8 +247,11 @@ impl Pvm {
         }
         match self.place_to_write(actor, address, piece, mapper) {
             Ok(place) => {
-                if self.is_ready(actor, address) {
-                    Some(self.store_at(place, actor, address, piece, mapper, chooser))
+                let nodes = self.nodes_at(place);
+                if has_page_here(&self.caches, nodes.owner) {
+                    Some(self.store_from(
+                        nodes, place, actor, address, piece, mapper, chooser,
+                    ))
                 } else {
                     None
                 }
@@ -267,23 +290,19 @@ impl Pvm {
         if self.store_seen(actor, address, piece) {
             return (Ok(()), true);
         }
-        let ready = self.is_ready(actor, address);
         let place = match self.place_to_write(actor, address, piece, mapper) {
             Ok(place) => place,
-            Err(trouble) => return (Err(trouble), ready),
+            Err(trouble) => return (Err(trouble), self.is_ready(actor, address)),
         };
-        if ready {
-            return (
-                self.store_at(place, actor, address, piece, mapper, chooser),
-                true,
-            );
+        let nodes = self.nodes_at(place);
+        if !has_page_here(&self.caches, nodes.owner) {
+            if let Err(trouble) = self.bring_page(nodes.owner, place, mapper, chooser) {
+                return (Err(trouble), false);
+            }
         }
-        match self.bring_page(place, actor, address, mapper, chooser) {
-            Ok(()) => (
-                self.store_at(place, actor, address, piece, mapper, chooser),
-                true,
-            ),
-            Err(trouble) => (Err(trouble), false),
-        }
+        (
+            self.store_from(nodes, place, actor, address, piece, mapper, chooser),
+            true,
+        )
     }
 }
