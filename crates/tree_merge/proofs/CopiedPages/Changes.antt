@@ -63,7 +63,7 @@ two_pages_of : (p q : ℕ) (o r : Option NodeId) → p ≢ q → (t : Option Tab
 two_pages_of p q o r ne None = refl
 two_pages_of p q o r ne (Some t) = ap Some (two_pages p q o r ne t)
 
-changed_twice : (ts : List (Option Table)) (k : ℕ) (f g : Table → Table) → set (set ts k (option_map f (get_or ts k None))) k (option_map g (get_or (set ts k (option_map f (get_or ts k None))) k None)) ≡ set ts k (option_map g (option_map f (get_or ts k None)))
+pub changed_twice : (ts : List (Option Table)) (k : ℕ) (f g : Table → Table) → set (set ts k (option_map f (get_or ts k None))) k (option_map g (get_or (set ts k (option_map f (get_or ts k None))) k None)) ≡ set ts k (option_map g (option_map f (get_or ts k None)))
 changed_twice ts k f g =
     ap (λ (t : Option Table). set (set ts k (option_map f (get_or ts k None))) k (option_map g t)) (read_set ts k f)
     ∙ set-set ts k (option_map f (get_or ts k None)) (option_map g (option_map f (get_or ts k None)))
