@@ -1,12 +1,13 @@
 -- Cells changed one after the other.
-use Rattle.std.proofs.Common.{◌≡◌, ◌≢◌, ℕ, ◌+◌, List, [], ◌∷◌, Some, refl, sym, ap, ◌∙◌, arith}
+use Rattle.std.proofs.Common.{◌≡◌, ◌≢◌, ℕ, ◌+◌, List, [], ◌∷◌, Some, refl, sym, ap, subst, ◌∙◌, arith}
 use Rattle.std.specs.Ordering.{nat_cmp}
 use Rattle.std.specs.FinMap.{FinMap}
 use Rattle.std.specs.FinMap as map
 use Rattle.mixed_map.proofs.Maps.{insert_other, insert_same, same}
 use Rattle.std.proofs.lemmas.Bool.{cases_eq}
 use Rattle.vm_ids.specs.declared.numbers.NodeId.{NodeId}
-use Rattle.local_cache.specs.Arena.{Arena, Cell, cell, hung, put, with_tree, with_working}
+use Rattle.local_cache.specs.Arena.{Arena, Cell, HasNode, cell, hung, put, with_tree, with_working}
+use Rattle.local_cache.specs.Many.{HaveNodes}
 use Rattle.local_cache.specs.ManyNodes.{next_node}
 use Rattle.local_cache.specs.NodeCells.{hanging, over}
 use Rattle.local_cache.specs.OnCells.{on_cell, working_over}
@@ -17,6 +18,12 @@ use Rattle.history_tree.specs.Hanging.{set_one, set_two}
 -- a node is the one that is no numbers behind it
 pub here : (n : NodeId) → next_node n 0 ≡ n
 here n = let e : n.0 + 0 ≡ n.0 = omega arith in λ i. record { 0 = e i }
+
+-- a node that is there is one node that is there
+pub one_held : (a : Arena) (n : NodeId) → HasNode a n → HaveNodes a n 1
+one_held a n h k less =
+    let e : n.0 ≡ n.0 + k = omega (arith, less) in
+    subst (λ (q : ℕ). HasNode a (record { 0 = q })) e h
 
 insert_twice : {X : Type 0} (m : FinMap nat_cmp X) (k : ℕ) (x y : X) → map.insert (map.insert m k x) k y ≡ map.insert m k y
 insert_twice m k x y = same _ _ (λ q. elim (cases_eq q k) [

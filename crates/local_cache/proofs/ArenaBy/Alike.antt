@@ -67,5 +67,5 @@ module _ (m : PageNodes) (c : CacheRows) (n : NodeId) (count : ℕ) (alike : Are
         tree = ap (λ (d : Cell). d.tree) on ∙ (λ i. tree_of (older i) (newer i)) ∙ tree_next alike.run.older alike.run.newer k
             ∙ ap (λ (d : Cell). list_map (λ (child : NodeId). next_node child k) d.tree) (sym first);
         page = λ cache page is. name_on k less ∙ ap (λ (x : NodeName). name_behind x k) is;
-        working = λ number is. (number + k, name_on k less ∙ ap (λ (x : NodeName). name_behind x k) is);
+        working = λ number is. name_on k less ∙ ap (λ (x : NodeName). name_behind x k) is;
       }

@@ -29,7 +29,7 @@ put_itself a n h =
     ]) in
     λ i. record a { cells = cells i }
 
-same_links : (a : Arena) (n : NodeId) (l : Links) → HasNode a n → l ≡ (cell a n).links → with_links a n l ≡ a
+pub same_links : (a : Arena) (n : NodeId) (l : Links) → HasNode a n → l ≡ (cell a n).links → with_links a n l ≡ a
 same_links a n l h e = ap (with_links a n) e ∙ put_itself a n h
 
 -- The steps of the code change nothing
@@ -68,13 +68,10 @@ module _ (a : Arena) (from to : NodeId) (hf : HasNode a from) (ht : HasNode a to
       let own_last = (cell a to).links.last in
       let stubs = (cell a to).links.stubs in
       let more : stubs + 0 ≡ stubs = omega arith in
-      (λ i. all own_first own_last stubs (first i) (last i) (count i))
+      (λ i. with_ends (with_ends (with_before (with_behind a own_last (first i)) (first i) own_last) to (option_or own_first (first i)) (option_or (last i) own_last) (stubs + count i)) from None None 0)
       ∙ ap (λ b. with_ends (with_ends b to (option_or own_first None) own_last (stubs + 0)) from None None 0) (nothing_behind a to (stubs_of a to) own.row own_last (sym own.last))
       ∙ ap (λ b. with_ends b from None None 0) (same_links a to _ ht (λ i. record (cell a to).links { first = or_none own_first i; last = own_last; stubs = more i }))
       ∙ same_links a from _ hf (λ i. record (cell a from).links { first = sym first i; last = sym last i; stubs = sym count i })
-    where
-      all : (own_first own_last : Option NodeId) (stubs : ℕ) (f l : Option NodeId) (k : ℕ) → Arena
-      all own_first own_last stubs f l k = with_ends (with_ends (with_before (with_behind a own_last f) f own_last) to (option_or own_first f) (option_or l own_last) (stubs + k)) from None None 0
 
 -- no stub is handed over
 pub none_handed : (a : Arena) (ys : List NodeId) (to : NodeId) → ys ≡ [] → Handed a a ys to

@@ -99,7 +99,7 @@ module _ (a : Arena) (ns : List NodeId) (to : CacheId) (to_page : PageNo) (from 
       (copies b k (omega arith) so_far.copied.sound so_far.copied.room (λ n is. so_far.same (next_node n k) (later_clear ns count pass n is k (omega arith))))
 
 -- A node that others hang on has tree children
-parent_listed : (a : Arena) → IsSound a → (d p : NodeId) → HasNode a d → IsLeafOf (Some p) (cell a d) → (cell a p).tree ≡ [] → ⊥
+pub parent_listed : (a : Arena) → IsSound a → (d p : NodeId) → HasNode a d → IsLeafOf (Some p) (cell a d) → (cell a p).tree ≡ [] → ⊥
 parent_listed a sound d p held leaf none =
     let held_p : HasNode a p = sound.kept.parents d p held (ap (λ l. l.parent) leaf.links) in
     let hang : (node (forest_of a) (name_of a d)).hang ≡ TreeOf (name_of a p) =
