@@ -1,5 +1,5 @@
 -- Cells changed one after the other.
-use Rattle.std.proofs.Common.{◌≡◌, ◌≢◌, ℕ, ◌+◌, List, [], ◌∷◌, Some, refl, sym, ap, subst, ◌∙◌, arith}
+use Rattle.std.proofs.Common.{◌≡◌, ◌≢◌, ℕ, ◌+◌, List, [], ◌∷◌, Some, refl, sym, ap, subst, ◌∙◌, inl, inr, arith}
 use Rattle.std.specs.Ordering.{nat_cmp}
 use Rattle.std.specs.FinMap.{FinMap}
 use Rattle.std.specs.FinMap as map
@@ -13,6 +13,7 @@ use Rattle.local_cache.specs.NodeCells.{hanging, over}
 use Rattle.local_cache.specs.OnCells.{on_cell, working_over}
 use Rattle.local_cache.proofs.Exchanged.{insert_swap}
 use Rattle.local_cache.proofs.Nodes.Cells.{cell-put, cell-put_other}
+use Rattle.local_cache.proofs.Nodes.OwnStates.{id_cases}
 use Rattle.history_tree.specs.Hanging.{set_one, set_two}
 
 -- a node is the one that is no numbers behind it
@@ -51,6 +52,13 @@ on_swap a n m f g apart =
     ap (λ c. put (on_cell a n f) m (g c)) (cell-put_other a n m _ (λ e. apart (sym e)))
     ∙ put_swap a n m (f (cell a n)) (g (cell a m)) apart
     ∙ ap (λ c. put (on_cell a m g) n (f c)) (sym (cell-put_other a m n _ apart))
+
+-- what a change of one node leaves in each column
+pub on_keeps : {A : Type 0} (col : Cell → A) (a : Arena) (n : NodeId) (f : Cell → Cell) (m : NodeId) → ((c : Cell) → col (f c) ≡ col c) → col (cell (on_cell a n f) m) ≡ col (cell a m)
+on_keeps col a n f m same = elim (id_cases m n) [
+  | inl e ↦ ap (λ k. col (cell (on_cell a n f) k)) e ∙ ap col (cell-put a n (f (cell a n))) ∙ same (cell a n) ∙ ap (λ k. col (cell a k)) (sym e)
+  | inr ne ↦ ap col (cell-put_other a n m (f (cell a n)) ne)
+]
 
 -- A node that is made over its tree children and on its parent is one that is made, becomes the
 -- tree child of this, and is put over those.

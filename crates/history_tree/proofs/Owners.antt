@@ -93,7 +93,7 @@ module _ (a : Arena) (sound : IsSound a) (shaped : IsWellShaped (forest_of a)) w
       let p = some_of (cell a n).links.parent (has_parent a sound shaped n h bare) in
       let less = shorter a sound shaped n h p.0 bare p.1 in
       let r = up p.0 (held_up a sound shaped n h p.0 bare p.1) less in
-      (r.0, suc r.1.0, omega (arith, less, r.1.1.0), one_more a n p.0 r.0 r.1.0 h e p.1 r.1.1.1)
+      (r.0, suc r.1, omega (arith, less, r.2), one_more a n p.0 r.0 r.1 h e p.1 r.3)
     where
       some_of : (o : Option NodeId) → IsSome o → (p : NodeId) × (o ≡ Some p)
       some_of None some = absurd (cc some)
@@ -108,12 +108,12 @@ module _ (a : Arena) (sound : IsSound a) (shaped : IsWellShaped (forest_of a)) w
       let r = owner_within (left n) n h (omega arith) in
       let most : left n ≤ len (forest_of a).nodes = path_short n in
       (r.0, record {
-        steps = r.1.0;
-        few = omega (arith, r.1.1.0, most, forest_len a, keys_states a, ids_len);
-        reached = r.1.1.1.reached;
-        owns = r.1.1.1.owns;
-        first = r.1.1.1.first;
-        held = r.1.1.1.held;
+        steps = r.1;
+        few = omega (arith, r.2, most, forest_len a, keys_states a, ids_len);
+        reached = r.3.reached;
+        owns = r.3.owns;
+        first = r.3.first;
+        held = r.3.held;
       })
     where
       path_short : (n : NodeId) → left n ≤ len (forest_of a).nodes
@@ -129,8 +129,8 @@ module _ (a : Arena) (sound : IsSound a) (shaped : IsWellShaped (forest_of a)) w
     way zero m less e = let same : n ≡ m = cc e in ap (λ q. owner_of (forest_of a) (name_of a q)) same
     way (suc k) m less e =
         let b = before_last a (up a k n) m e in
-        let bare = absent_none (cell a b.0).own ∙ is.first k b.0 (omega (arith, less)) b.1.0 in
-        way k b.0 (omega (arith, less)) b.1.0 ∙ same_owner a sound shaped b.0 (is.held k b.0 (omega (arith, less)) b.1.0) m bare b.1.1
+        let bare = absent_none (cell a b.0).own ∙ is.first k b.0 (omega (arith, less)) b.1 in
+        way k b.0 (omega (arith, less)) b.1 ∙ same_owner a sound shaped b.0 (is.held k b.0 (omega (arith, less)) b.1) m bare b.2
 
     pub owner_held : HasNode a owner
     owner_held = is.held is.steps owner (omega arith) is.reached

@@ -41,13 +41,13 @@ module _ (a : Arena) (cache : CacheId) (page : PageNo) where
         sound = alone.sound;
         sizes = sizes_then a b c so_far.sizes (alone_sizes b c cache (page_after page k) one.released alone);
         room = omega (arith, so_far.room, alone_room b c cache (page_after page k) one.released alone);
-        in_turn = (b, (so_far.in_turn, one));
+        in_turn = (b, so_far.in_turn, one);
       }
 
   -- pages that are retired one after the other are retired
   pub all_retired : IsSound a → (k : ℕ) (b : Arena) → AreRetiredBare a b cache page k → AreRetired a b cache page k
   all_retired sound zero b is = subst (λ x. AreRetired a x cache page 0) (sym is) (none_retired sound)
-  all_retired sound (suc k) b is = one_more is.0 b k (all_retired sound k is.0 is.1.0) is.1.1
+  all_retired sound (suc k) b is = one_more is.0 b k (all_retired sound k is.0 is.1) is.2
 
 -- a page whose node is known
 pub retired_bare : (a b : Arena) (n : NodeId) (cache : CacheId) (page : PageNo) (r : Released) → node_at a cache.0 page.0 ≡ Some n → IsEmpty (own_of a n) → IsRetiredAlone a b cache page r → IsRetiredBare a b cache page

@@ -91,7 +91,7 @@ module _ (a : Arena) (parent : Option NodeId) (d : NodeId) (cache : CacheId) (pa
   in_turn zero le = refl
   in_turn (suc k) le =
       let before = in_turn k (omega (arith, le)) in
-      (done k, (before, next_page k (omega (arith, le)) (all_retired a cache page can.sound k (done k) before).sound))
+      (done k, before, next_page k (omega (arith, le)) (all_retired a cache page can.sound k (done k) before).sound)
 
   pub leaves_retired : AreRetired a (retired_many a parent d count) cache page count
   leaves_retired =

@@ -48,7 +48,7 @@ module _ (a : Arena) (d : NodeId) (cache : CacheId) (page : PageNo) (count : ℕ
   in_turn zero le = refl
   in_turn (suc k) le =
       let before = in_turn k (omega (arith, le)) in
-      (done k, (before, next_page k (omega (arith, le)) (all_retired a cache page can.sound k (done k) before).sound))
+      (done k, before, next_page k (omega (arith, le)) (all_retired a cache page can.sound k (done k) before).sound)
 
   pub pages_shared : AreRetired a (as_working_many a d count) cache page count
   pages_shared = all_retired a cache page can.sound count (done count) (in_turn count (omega arith))

@@ -1,4 +1,4 @@
-use Rattle.std.proofs.Common.{◌≡◌, true, Bool, Option, Some, None, IsSome, refl, sym, ap, subst, ◌∙◌}
+use Rattle.std.proofs.Common.{◌≡◌, ◌<◌, true, Bool, Option, Some, None, IsSome, refl, sym, ap, subst, ◌∙◌}
 use Rattle.vm_ids.specs.declared.numbers.NodeId.{NodeId}
 use Rattle.local_cache.specs.declared.links.Neighbours.{Neighbours}
 use Rattle.local_cache.specs.Arena.{Arena, cell, HasNode}
@@ -25,14 +25,14 @@ unwrap-p-requires c =
 
 module _ (a : Arena) (n p : NodeId) (o : Option NodeId) (own : Neighbours) (kept : IsKept a) (held : HasNode a n) (linked : IsLinked (edit (forest_of a) (name_of a n) (with_own None)))
     (stub : is_stub (hang_by a (cell a n).links.parent (cell a n).links.by_stub) ≡ true) (up : o ≡ (cell a n).links.parent) (is : o ≡ Some p) (beside : own ≡ neighbours_of (cell a n).links) where
-  around : IsHeldIf a (cell a n).links.before × (IsHeldIf a (cell a n).links.behind × (0 < (cell a p).links.stubs))
+  around : IsHeldIf a (cell a n).links.before × IsHeldIf a (cell a n).links.behind × (0 < (cell a p).links.stubs)
   around = neighbours a kept n p held linked (sym up ∙ is) (by_stub a _ _ stub)
 
   before_held : IsHeldIf a own.before
   before_held = subst (λ (b : Neighbours). IsHeldIf a b.before) (sym beside) around.0
 
   behind_held : IsHeldIf a own.behind
-  behind_held = subst (λ (b : Neighbours). IsHeldIf a b.behind) (sym beside) around.1.0
+  behind_held = subst (λ (b : Neighbours). IsHeldIf a b.behind) (sym beside) around.1
 
   cut : (b : Arena) → b ≡ taken_out a p own.before own.behind → HasCut a (loose b n) n
   cut b e = cut-rule a kept n p held linked (sym up ∙ is) (by_stub a _ _ stub) (loose b n)
@@ -54,7 +54,7 @@ take_out-requires-clause-behind c =
 pub take_out-requires-clause-some : goal.take_out-requires-clause-some
 take_out-requires-clause-some c =
     let r = c.requires in
-    (around c.args.caches.now c.args.node c.unwrap-p.result c.parent.result c.neighbours-own.result r.kept r.node r.linked r.stub c.parent.ensures c.unwrap-p.ensures c.neighbours-own.ensures).1.1
+    (around c.args.caches.now c.args.node c.unwrap-p.result c.parent.result c.neighbours-own.result r.kept r.node r.linked r.stub c.parent.ensures c.unwrap-p.ensures c.neighbours-own.ensures).2
 
 pub returns-clause-forest : goal.returns-clause-forest
 returns-clause-forest c =
