@@ -6,7 +6,9 @@ use Rattle.std.specs.FinMap.{len-entries}
 use Rattle.std.specs.FinMap as ids
 use Rattle.std.proofs.lemmas.Bool.{cases_eq, false≢true}
 use Rattle.vm_ids.specs.declared.numbers.NodeId.{NodeId}
+use Rattle.vm_ids.specs.declared.node_name.NodeName.{NodeName}
 use Rattle.vm_ids.specs.Forest.NameMap.{len}
+use Rattle.vm_ids.specs.Forest.Nodes.{Forest}
 use Rattle.vm_ids.specs.Forest.Reading.{owner_of, path_of}
 use Rattle.vm_ids.specs.Forest.Shape.{IsWellShaped}
 use Rattle.vm_ids.proofs.Forest.Paths.{path-le}
@@ -76,6 +78,11 @@ module _ (a : Arena) (n p owner : NodeId) (steps : ℕ) (h : HasNode a n) (bare 
   one_more : Reached a n owner (suc steps)
   one_more = record { reached = up_one a n p parent steps ∙ r.reached; owns = r.owns; first = first_of; held = held_of }
 
+-- a path is no longer than there are nodes
+path_short : {P : Type 0} (f : Forest P) (x : NodeName) → length (path_of f x) ≤ len f.nodes
+unfolding path_of
+path_short f x = path-le (len f.nodes) f x
+
 module _ (a : Arena) (sound : IsSound a) (shaped : IsWellShaped (forest_of a)) where
   abbrev left : NodeId → ℕ
   left n = length (path_of (forest_of a) (name_of a n))
@@ -106,7 +113,8 @@ module _ (a : Arena) (sound : IsSound a) (shaped : IsWellShaped (forest_of a)) w
   pub owner_there : (n : NodeId) → HasNode a n → (owner : NodeId) × IsOwnerOf a n owner
   owner_there n h =
       let r = owner_within (left n) n h (omega arith) in
-      let most : left n ≤ len (forest_of a).nodes = path_short n in
+      let most = path_short (forest_of a) (name_of a n) in
+      let ids_len : length (ids.keys a.cells) ≡ ids.len a.cells = length-map (ids.entries a.cells) (λ e. e.0) ∙ sym (len-entries a.cells) in
       (r.0, record {
         steps = r.1;
         few = omega (arith, r.2, most, forest_len a, keys_states a, ids_len);
@@ -115,13 +123,6 @@ module _ (a : Arena) (sound : IsSound a) (shaped : IsWellShaped (forest_of a)) w
         first = r.3.first;
         held = r.3.held;
       })
-    where
-      path_short : (n : NodeId) → left n ≤ len (forest_of a).nodes
-      unfolding path_of
-      path_short n = path-le (len (forest_of a).nodes) (forest_of a) (name_of a n)
-
-      ids_len : length (ids.keys a.cells) ≡ ids.len a.cells
-      ids_len = length-map (ids.entries a.cells) (λ e. e.0) ∙ sym (len-entries a.cells)
 
   -- and it owns the node
   module _ (n owner : NodeId) (h : HasNode a n) (is : IsOwnerOf a n owner) where

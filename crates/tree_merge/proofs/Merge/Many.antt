@@ -211,9 +211,6 @@ module _ (a : Arena) (w y : NodeId) (count : ℕ) (can : CanGiveMany a w y count
     least : k < count → IsLeastThin (done k) (Some (next_node w k))
 
   module _ (k : ℕ) (less : k < count) (far : Far k) where
-    abbrev n : NodeId
-    n = next_node w k
-
     cell_is : cell (done k) (next_node w k) ≡ cell a (next_node w k)
     cell_is = cell_later k k (omega arith) less
 
