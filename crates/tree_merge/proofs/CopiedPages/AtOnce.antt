@@ -160,7 +160,7 @@ module _ (a : Arena) (d : NodeId) (state : OwnState) (count : ℕ) where
   made_renewed (Some p) = made_on d (λ _. renewed state) (left_many a (Some p) d count) count ∙ made_on p (λ k. with_child (next_node d k) None) a count
 
 -- what isn't there once nodes were added wasn't there before
-pub none_before : (a b : Arena) (n : NodeId) (count : ℕ) → NodesStay a b → HaveNone b n count → HaveNone a n count
+none_before : (a b : Arena) (n : NodeId) (count : ℕ) → NodesStay a b → HaveNone b n count → HaveNone a n count
 none_before a b n count stays none k less = go (find a (next_node n k)) (find b (next_node n k)) (stays (next_node n k)) (none k less)
   where
     go : (o r : Option Cell) → (IsSome o → IsSome r) → r ≡ None → o ≡ None
@@ -170,3 +170,14 @@ none_before a b n count stays none k less = go (find a (next_node n k)) (find b 
     no (Some c) some e = absurd (cc e)
 
     go (Some c) r some e = absurd (no r (some refl) e)
+
+-- the nodes that there may be are there still
+pub if_stay : (a b : Arena) (count : ℕ) → NodesStay a b → (o : Option NodeId) → IfSome o (λ n. HaveNodes a n count) → IfSome o (λ n. HaveNodes b n count)
+if_stay a b count stays None held = tt
+if_stay a b count stays (Some n) held k less = stays (next_node n k) (held k less)
+
+-- and there is room for the working nodes that come
+pub if_new : (a b : Arena) (w : NodeId) (count : ℕ) → NodesStay a b → count ≤ a.room.nodes → (o : Option NodeId) → IfSome o (λ _. HaveNone b w count)
+    → IfSome o (λ _. HaveNone a w count × (count ≤ a.room.nodes))
+if_new a b w count stays room None none = tt
+if_new a b w count stays room (Some h) none = (none_before a b w count stays none, room)
