@@ -4,6 +4,7 @@ use Rattle.vm_ids.specs.declared.node_name.NodeName.TheVariants.{Live}
 use Rattle.vm_ids.specs.declared.numbers.CacheId.{CacheId}
 use Rattle.vm_ids.specs.declared.numbers.NodeId.{NodeId}
 use Rattle.vm_ids.specs.declared.numbers.PageNo.{PageNo}
+use Rattle.vm_ids.specs.Forest.Laws.Linking.{ArePages}
 use Rattle.vm_ids.specs.Forest.Rules.{move_page}
 use Rattle.vm_ids.specs.Forest.Shape.{IsConsistent}
 use Rattle.local_cache.specs.declared.own_state.OwnState.TheVariants.{Zero}
@@ -46,7 +47,9 @@ pub record IsMovedAlone (a b : Arena) (from : CacheId) (from_page : PageNo) (to 
 -- From a to b a page was moved alone, and its old node dropped an own page that was none or zeros.
 pub record IsMovedBare (a b : Arena) (from : CacheId) (from_page : PageNo) (to : CacheId)
     (to_page : PageNo) : Type 0 where
+  pub pages : ArePages (forest_of a) (Live to to_page) (Live from from_page)
   pub node : NodeId
+  pub at : node_at a to.0 to_page.0 ≡ Some node
   pub empty : IsEmpty (own_of a node)
   pub alone : IsMovedAlone a b from from_page to to_page (Dropped node (own_of a node))
 

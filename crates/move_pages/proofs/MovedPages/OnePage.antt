@@ -87,7 +87,9 @@ module _ (a : Arena) (parent : Option NodeId) (d s : NodeId) (to : CacheId) (to_
       let like = (left_like a can.sound d can.held_d parent can.leaf).like in
       record {
         bare = record {
+          pages = pages;
           node = d;
+          at = can.sound.kept.listed.pages to.0 to_page.0 d can.held_d can.named_d;
           empty = can.empty;
           alone = moved_alone a b can.sound can.consistent to to_page from from_page (Dropped d (own_of a d)) detached s can.held_s can.named_s pages;
         };

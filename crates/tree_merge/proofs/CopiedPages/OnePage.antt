@@ -3,12 +3,14 @@
 use Rattle.std.proofs.Common.{◌≡◌, ◌≢◌, ◌+◌, ◌≤◌, true, false, List, [], ◌∷◌, map, Option, Some, None, is_some, refl, sym, ap, ◌∙◌, subst, inl, inr, arith}
 use Rattle.std.specs.List.{cons_option}
 use Rattle.std.proofs.lemmas.Bool.{false≢true}
+use Rattle.vm_ids.specs.declared.node_name.NodeName.{NodeName}
 use Rattle.vm_ids.specs.declared.node_name.NodeName.TheVariants.{Live}
 use Rattle.vm_ids.specs.declared.numbers.CacheId.{CacheId}
 use Rattle.vm_ids.specs.declared.numbers.NodeId.{NodeId}
 use Rattle.vm_ids.specs.declared.numbers.PageNo.{PageNo}
+use Rattle.vm_ids.specs.Forest.Laws.Linking.{ArePages}
 use Rattle.vm_ids.specs.Forest.NameLists as names
-use Rattle.vm_ids.specs.Forest.Nodes.{childless, is_live, node}
+use Rattle.vm_ids.specs.Forest.Nodes.{IsNode, childless, is_live, node}
 use Rattle.vm_ids.specs.Forest.Nodes.Hang.{Root, TreeOf}
 use Rattle.vm_ids.specs.Forest.Rules.{detach, link}
 use Rattle.vm_ids.proofs.Forest.NodesAfter.{node-put}
@@ -21,7 +23,7 @@ use Rattle.local_cache.specs.Own.{own_of}
 use Rattle.local_cache.specs.Reading.{forest_of, hang_by, name_of}
 use Rattle.local_cache.specs.Sound.{IsSound, ◌∈◌}
 use Rattle.local_cache.proofs.Changes.SameNodes.{id_cases}
-use Rattle.local_cache.proofs.Forest.Reading.{node-forest_of}
+use Rattle.local_cache.proofs.Forest.Reading.{IsNode-forest_of, node-forest_of}
 use Rattle.local_cache.proofs.Nodes.Cells.{cell-put, cell-put_other, find-put, find-put_other}
 use Rattle.history_tree.specs.Hanging.{set_one, set_two}
 use Rattle.history_tree.proofs.Hang.{CanLink, Linked, links-first, links-more}
@@ -172,9 +174,23 @@ module _ (a : Arena) (d s : NodeId) (parent history : Option NodeId) (to : Cache
 
   -- It is linked to the source
 
+  is_page : (q : NodeId) (x : NodeName) → HasNode a q → name_of a q ≡ x → IsNode (forest_of a) x
+  is_page q x held named = subst (IsNode (forest_of a)) named (IsNode-forest_of a can.sound.kept.named q held)
+
+  pages : ArePages (forest_of a) (Live to to_page) (Live from from_page)
+  pages = record {
+    destination = is_page d (Live to to_page) can.held_d can.named_d;
+    source = is_page s (Live from from_page) can.held_s can.named_s;
+    apart = λ e. can.apart (can.sound.kept.named.apart s d can.held_s can.held_d (can.named_s ∙ sym e ∙ sym can.named_d));
+    live_destination = refl;
+    live_source = refl;
+  }
+
   copied : (c : Arena) → Linked (on_cell (cut_from a parent d None) d (renewed Absent)) c d s → IsCopiedBare a c to to_page from from_page
   copied c linked = record {
+    pages = pages;
     node = d;
+    at = can.sound.kept.listed.pages to.0 to_page.0 d can.held_d can.named_d;
     empty = can.empty;
     copied = record {
       between = b;
