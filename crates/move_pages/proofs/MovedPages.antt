@@ -1,12 +1,12 @@
 -- Pages are moved.
 
 -- What is done of one page of a move may be done before others are moved.
-mod Changes
+pub mod Changes
 -- A page was detached, and its fresh node and that of another page exchange their names.
 pub mod Exchanged
 -- One page is moved whose old node has no children, and is none or zeros.
-mod OnePage
+pub mod OnePage
 -- One page is moved after the other.
-mod InTurn
+pub mod InTurn
 -- Pages whose nodes are alike can be moved at once.
 pub mod AtOnce

@@ -114,14 +114,16 @@ module _ (b : Arena) (d s : NodeId) (x y : NodeName) (s_d : s ≢ d) (is : (cell
       unfolding put with_new
       whole = λ i. record (with_new b d x Zero) { cells = cells_is i; caches = caches_is i }
 
--- what keeps names may be done before names are exchanged
-module _ (m : NodeId) (f : Cell → Cell) (keeps : (c : Cell) → (f c).name ≡ c.name) (same : (x : NodeName) (c : Cell) → f (named x c) ≡ named x (f c)) where
-  name_on : (b : Arena) (q : NodeId) → (cell (on_cell b m f) q).name ≡ (cell b q).name
+-- what keeps names
+module _ (m : NodeId) (f : Cell → Cell) (keeps : (c : Cell) → (f c).name ≡ c.name) where
+  pub name_on : (b : Arena) (q : NodeId) → (cell (on_cell b m f) q).name ≡ (cell b q).name
   name_on b q = elim (id_cases q m) [
     | inl e ↦ subst (λ (k : NodeId). (cell (on_cell b m f) k).name ≡ (cell b k).name) (sym e) (ap (λ (c : Cell). c.name) (cell-put b m (f (cell b m))) ∙ keeps (cell b m))
     | inr ne ↦ ap (λ (c : Cell). c.name) (cell-put_other b m q (f (cell b m)) ne)
   ]
 
+-- may be done before names are exchanged
+module _ (m : NodeId) (f : Cell → Cell) (keeps : (c : Cell) → (f c).name ≡ c.name) (same : (x : NodeName) (c : Cell) → f (named x c) ≡ named x (f c)) where
   past : (b : Arena) (o : NodeId) (x : NodeName) → on_cell (on_cell b o (named x)) m f ≡ on_cell (on_cell b m f) o (named x)
   past b o x = elim (id_cases m o) [
     | inl e ↦ subst (λ (k : NodeId). on_cell (on_cell b o (named x)) k f ≡ on_cell (on_cell b k f) o (named x)) (sym e) (change_both b o (named x) f (same x))
@@ -144,8 +146,8 @@ module _ (m : NodeId) (f : Cell → Cell) (keeps : (c : Cell) → (f c).name ≡
       in_tables (on_cell (on_cell b n (named y)) o (named x)) ts
       ∙ ap (λ (z : Arena). record z { caches = ts }) (past (on_cell b n (named y)) o x ∙ ap (λ (z : Arena). on_cell z o (named x)) (past b n y))
       ∙ (λ i.
-          record (on_cell (on_cell (on_cell b m f) n (named (sym (name_on b o) i))) o (named (sym (name_on b n) i))) {
-            caches = tables_with (tables_with (sym (caches_on b) i) (sym (name_on b n) i) (Some o)) (sym (name_on b o) i) (Some n);
+          record (on_cell (on_cell (on_cell b m f) n (named (sym (name_on m f keeps b o) i))) o (named (sym (name_on m f keeps b n) i))) {
+            caches = tables_with (tables_with (sym (caches_on b) i) (sym (name_on m f keeps b n) i) (Some o)) (sym (name_on m f keeps b o) i) (Some n);
           })
 
 -- The kinds of a move

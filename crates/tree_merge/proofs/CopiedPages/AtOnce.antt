@@ -13,7 +13,7 @@ use Rattle.vm_ids.specs.Forest.NameLists as names
 use Rattle.vm_ids.specs.Forest.Nodes.{IsNode}
 use Rattle.vm_ids.proofs.Forest.Laws.Ranges.{pairs_fill_destinations, pairs_read_sources, ranges_hold_their_pages}
 use Rattle.local_cache.specs.declared.own_state.OwnState.{OwnState}
-use Rattle.local_cache.specs.Arena.{Arena, Cell, NodesStay, cell, find, node_at, put}
+use Rattle.local_cache.specs.Arena.{Arena, Cell, HasNode, NodesStay, cell, find, node_at, put}
 use Rattle.local_cache.specs.Many.{AreNamed, HaveNodes, HaveNone}
 use Rattle.local_cache.specs.ManyNodes.{next_if, next_node}
 use Rattle.local_cache.specs.NodeCells.{exchanged, renewed, tree_of, with_child}
@@ -181,3 +181,7 @@ pub if_new : (a b : Arena) (w : NodeId) (count : ℕ) → NodesStay a b → coun
     → IfSome o (λ _. HaveNone a w count × (count ≤ a.room.nodes))
 if_new a b w count stays room None none = tt
 if_new a b w count stays room (Some h) none = (none_before a b w count stays none, room)
+
+-- the first of many nodes
+pub first_held : (a : Arena) (n : NodeId) (count : ℕ) → 0 < count → HaveNodes a n count → HasNode a n
+first_held a n count some held = let same : n.0 + 0 ≡ n.0 = omega arith in subst (HasNode a) (λ i. record { 0 = same i }) (held 0 some)
