@@ -22,6 +22,14 @@ no_children (m ∷ ms) e = absurd (cc e)
 pub fewer : (a : Arena) (n : NodeId) (most count : ℕ) → count ≤ most → AreAlike a n most → AreAlike a n count
 fewer a n most count few alike k less = alike k (omega arith)
 
+pub fewer_leaves : (a : Arena) (n : NodeId) (most count : ℕ) → count ≤ most → AreLeaves a n most → AreLeaves a n count
+fewer_leaves a n most count few all = record {
+  alike = fewer a n most count few all.alike;
+  leaves = λ k less. all.leaves k (omega arith);
+  empty = λ k less. all.empty k (omega arith);
+  short = omega (arith, all.short);
+}
+
 module _ (a : Arena) (n : NodeId) (count : ℕ) (alike : AreAlike a n count) where
   pub alike_named : (cache : CacheId) (page : PageNo) → name_of a n ≡ Live cache page → AreNamed a n cache page count
   alike_named cache page e k less = ((alike k less).held, (alike k less).page cache page e)

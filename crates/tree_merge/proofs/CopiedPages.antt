@@ -7,10 +7,10 @@ pub mod Rows
 -- Changes page by page are changes of all pages, one kind after the other.
 pub mod Kinds
 -- The kinds of a copy.
-mod Linking
+pub mod Linking
 -- One page is copied, whose node is as new.
-mod OnePage
+pub mod OnePage
 -- One page is copied after the other.
-mod InTurn
+pub mod InTurn
 -- Pages whose nodes are alike can be copied at once.
 pub mod AtOnce

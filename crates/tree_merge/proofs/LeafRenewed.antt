@@ -1,6 +1,6 @@
 -- A node without children leaves its parent, and is as new: as if it went, and a fresh one came for
 -- its page under the same number.
-use Rattle.std.proofs.Common.{◌≡◌, ◌≢◌, ℕ, zero, suc, ◌+◌, ◌-◌, Bool, true, false, eqb, cond, set, get_or, List, [], ◌∷◌, length, Option, Some, None, is_some, option_map, refl, sym, ap, ◌∙◌, subst, arith}
+use Rattle.std.proofs.Common.{◌≡◌, ◌≢◌, ℕ, zero, suc, ◌+◌, ◌-◌, Bool, true, false, eqb, cond, set, get_or, List, [], ◌∷◌, length, map, Option, Some, None, is_some, option_map, refl, sym, ap, ◌∙◌, subst, arith}
 use Rattle.std.specs.Prelude.{option_and_then, slice_get, slice_set}
 use Rattle.std.proofs.lemmas.List.{set-get_or, set-set}
 use Rattle.std.specs.Ordering.{nat_cmp}
@@ -12,7 +12,9 @@ use Rattle.vm_ids.specs.declared.numbers.CacheId.{CacheId}
 use Rattle.vm_ids.specs.declared.numbers.NodeId.{NodeId}
 use Rattle.vm_ids.specs.declared.numbers.PageNo.{PageNo}
 use Rattle.vm_ids.specs.Forest.Changes.{cut, free}
-use Rattle.vm_ids.specs.Forest.Nodes.{child_count}
+use Rattle.vm_ids.specs.Forest.NameLists as names
+use Rattle.vm_ids.specs.Forest.Nodes.{child_count, node}
+use Rattle.vm_ids.specs.Forest.Nodes.Hang.{TreeOf}
 use Rattle.vm_ids.specs.Forest.Rules.{detach, retire}
 use Rattle.local_cache.specs.declared.own_state.OwnState.{OwnState}
 use Rattle.local_cache.specs.declared.page_entry.PageEntry.{PageEntry}
@@ -21,9 +23,10 @@ use Rattle.local_cache.specs.Changes.{Rehung}
 use Rattle.local_cache.specs.NodeCells.{exchanged, renewed}
 use Rattle.local_cache.specs.OnCells.{cut_from, on_cell}
 use Rattle.local_cache.specs.Own.{own_of}
-use Rattle.local_cache.specs.Reading.{forest_of, name_of, page_of}
+use Rattle.local_cache.specs.Reading.{forest_of, hang_by, name_of}
 use Rattle.local_cache.specs.Sound.{IsSound}
 use Rattle.local_cache.proofs.Changes.SameNodes.{rehung-tree, rehung_itself}
+use Rattle.local_cache.proofs.Forest.Reading.{node-forest_of}
 use Rattle.local_cache.proofs.Nodes.Cells.{cell-put}
 use Rattle.local_cache.proofs.Singles.{get_inserted, get_removed, same_maps}
 use Rattle.local_cache.proofs.Tables.Listing.{node_by_entry, node_of_entry}
@@ -67,14 +70,12 @@ module _ {X : Type 0} (m : FinMap nat_cmp X) (k : ℕ) where
 -- In the tables
 
 put_back : (es : List PageEntry) (p : ℕ) (e : PageEntry) → slice_get es p ≡ Some e → slice_set es p e ≡ es
-put_back [] p e is = refl
+put_back [] zero e is = absurd (cc is)
+put_back [] (suc p) e is = absurd (cc is)
 put_back (x ∷ es) zero e is = let same : x ≡ e = cc is in ap (λ y. y ∷ es) (sym same)
 put_back (x ∷ es) (suc p) e is = ap (λ ys. x ∷ ys) (put_back es p e is)
 
 module _ (page : ℕ) (d : NodeId) where
-  entry : PageEntry
-  entry = record { node = Some d }
-
   back_in : (t : Table) → slice_get t.pages page ≡ Some (record { node = Some d }) → table_with page (Some d) (table_with page None t) ≡ t
   back_in t is =
       let pages : slice_set (slice_set t.pages page (record { node = None })) page (record { node = Some d }) ≡ t.pages =
@@ -98,7 +99,9 @@ entry_of a cache page d at = go (entry_at a.caches cache page) (sym (node_by_ent
   where
     go : (o : Option PageEntry) → node_of_entry o ≡ Some d → ◌≡◌ {A = Option PageEntry} o (Some (record { node = Some d }))
     go None e = absurd (cc e)
-    go (Some p) e = ap Some (λ i. record { node = e i })
+    go (Some p) e =
+        let same : ◌≡◌ {A = PageEntry} p (record { node = Some d }) = λ i. record { node = e i } in
+        ap Some same
 
 -- In the caches
 
@@ -188,8 +191,8 @@ module _ (a : Arena) (sound : IsSound a) (d : NodeId) (held : HasNode a d) (pare
       told = retire_released a (without (cut_from a parent d None) d) d held (Dropped d (own_of a d)) retired;
     }
 
-    same_page : {b : Arena} → b.caches ≡ a.caches → node_at b cache.0 page.0 ≡ node_at a cache.0 page.0
-    same_page e = ap (λ (ts : List (Option Table)). option_and_then (λ (t : Table). option_and_then (λ (x : PageEntry). x.node) (slice_get t.pages page.0)) (table_at ts cache.0)) e
+    same_page : (b : Arena) → b.caches ≡ a.caches → node_at b cache.0 page.0 ≡ node_at a cache.0 page.0
+    same_page b e = ap (λ (ts : List (Option Table)). option_and_then (λ (t : Table). option_and_then (λ (x : PageEntry). x.node) (slice_get t.pages page.0)) (table_at ts cache.0)) e
 
     -- and it is as new
     pub leaf_detached : (s : OwnState) → IsDetachedAlone a (on_cell (cut_from a parent d None) d (renewed s)) cache page s (Dropped d (own_of a d))
@@ -197,7 +200,7 @@ module _ (a : Arena) (sound : IsSound a) (d : NodeId) (held : HasNode a d) (pare
         let e : Arena = cut_from a parent d None in
         let free : find (without e d) d ≡ None = find-without e d in
         let is : on_cell e d (renewed s) ≡ with_new (without e d) d (Live cache page) s =
-        sym (new_again e d cache page s (left_like.like.name d ∙ named) (same_page left_like.like.caches ∙ at)) in
+        sym (new_again e d cache page s (left_like.like.name d ∙ named) (same_page e left_like.like.caches ∙ at)) in
         record {
           forest = detached-forest a (without e d) (on_cell e d (renewed s)) d cache page s went.sound leaf_retired.forest vacant free is;
           sound = detached-sound (without e d) (on_cell e d (renewed s)) d cache page s went.sound vacant free is;
@@ -207,3 +210,12 @@ module _ (a : Arena) (sound : IsSound a) (d : NodeId) (held : HasNode a d) (pare
           free = free;
           is = is;
         }
+
+-- a node that others hang on has tree children
+pub parent_listed : (a : Arena) → IsSound a → (d p : NodeId) → HasNode a d → IsLeafOf (Some p) (cell a d) → (cell a p).tree ≡ [] → ⊥
+parent_listed a sound d p held leaf none =
+    let held_p : HasNode a p = sound.kept.parents d p held (ap (λ l. l.parent) leaf.links) in
+    let hang : (node (forest_of a) (name_of a d)).hang ≡ TreeOf (name_of a p) =
+    ap (λ n. n.hang) (node-forest_of a sound.kept.named d held) ∙ ap (λ l. hang_by a l.parent l.by_stub) leaf.links in
+    let listed = (sound.linked.tree_links (name_of a d) (name_of a p)).1 hang in
+    subst (λ xs. names.◌∈◌ (name_of a d) xs) (ap (λ n. n.tree) (node-forest_of a sound.kept.named p held_p) ∙ ap (map (name_of a)) none) listed

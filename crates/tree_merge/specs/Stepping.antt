@@ -8,6 +8,7 @@ use Rattle.vm_ids.specs.declared.numbers.CacheId.{CacheId}
 use Rattle.vm_ids.specs.declared.numbers.NodeId.{NodeId}
 use Rattle.vm_ids.specs.declared.numbers.PageNo.{PageNo}
 use Rattle.vm_ids.specs.Forest.Commands.{copy_pages, page_names, page_pairs, retire_all, small_copy}
+use Rattle.vm_ids.specs.Forest.Laws.Linking.{ArePages}
 use Rattle.vm_ids.specs.Forest.Rules.{detach, link, retire, stub}
 use Rattle.local_cache.specs.declared.own_state.OwnState.{OwnState}
 use Rattle.local_cache.specs.declared.own_state.OwnState.TheVariants.{Absent}
@@ -91,7 +92,9 @@ pub record IsCopiedAlone (is_small : Bool) (a b : Arena) (to : CacheId) (to_page
 -- or zeros.
 pub record IsCopiedBare (a b : Arena) (to : CacheId) (to_page : PageNo) (from : CacheId)
     (from_page : PageNo) : Type 0 where
+  pub pages : ArePages (forest_of a) (Live to to_page) (Live from from_page)
   pub node : NodeId
+  pub at : node_at a to.0 to_page.0 ≡ Some node
   pub empty : IsEmpty (own_of a node)
   pub copied : IsCopiedAlone false a b to to_page from from_page (Dropped node (own_of a node))
 

@@ -1,7 +1,7 @@
 -- Pages whose nodes are alike can be copied at once.
 use Rattle.std.specs.Prelude.{IfSome, slice_get}
 use Rattle.std.specs.List.{cons_option}
-use Rattle.std.proofs.Common.{◌≡◌, ℕ, zero, suc, ◌+◌, ◌<◌, ◌≤◌, ◌==◌, List, [], ◌∷◌, cond, Option, Some, None, IsSome, is_some, refl, sym, ap, ◌∙◌, subst, arith, inl, inr}
+use Rattle.std.proofs.Common.{◌≡◌, ℕ, zero, suc, ◌+◌, ◌<◌, ◌≤◌, List, [], ◌∷◌, cond, Option, Some, None, IsSome, refl, sym, ap, ◌∙◌, subst, arith, inl, inr}
 use Rattle.vm_ids.specs.declared.node_name.NodeName.{NodeName}
 use Rattle.vm_ids.specs.declared.node_name.NodeName.TheVariants.{Live}
 use Rattle.vm_ids.specs.declared.numbers.CacheId.{CacheId}
@@ -13,18 +13,17 @@ use Rattle.vm_ids.specs.Forest.NameLists as names
 use Rattle.vm_ids.specs.Forest.Nodes.{IsNode}
 use Rattle.vm_ids.proofs.Forest.Laws.Ranges.{pairs_fill_destinations, pairs_read_sources, ranges_hold_their_pages}
 use Rattle.local_cache.specs.declared.own_state.OwnState.{OwnState}
-use Rattle.local_cache.specs.declared.own_state.OwnState.TheVariants.{Absent}
 use Rattle.local_cache.specs.Arena.{Arena, Cell, HasNode, NodesStay, cell, find, node_at, put}
 use Rattle.local_cache.specs.Many.{AreNamed, HaveNodes, HaveNone}
 use Rattle.local_cache.specs.ManyNodes.{next_if, next_node}
-use Rattle.local_cache.specs.NodeCells.{exchanged, tree_of}
+use Rattle.local_cache.specs.NodeCells.{exchanged, renewed, tree_of, with_child}
 use Rattle.local_cache.specs.OnCells.{on_cells}
 use Rattle.local_cache.specs.Reading.{forest_of, name_of}
 use Rattle.local_cache.specs.Sound.{IsSound, ◌∈◌}
 use Rattle.local_cache.proofs.Changes.SameNodes.{id_cases}
 use Rattle.local_cache.proofs.Whole.LivePages.{page_there}
 use Rattle.tree_merge.specs.Copyable.{AreCopyable, history, history_of}
-use Rattle.tree_merge.specs.Copying.{CanCopyMany, copied_many, left_many, linked_many, renewed_many}
+use Rattle.tree_merge.specs.Copying.{copied_many, left_many, renewed_many}
 use Rattle.tree_merge.specs.Stepping.{AreCopied}
 use Rattle.tree_merge.proofs.AlikeNodes.{alike_named, no_children}
 use Rattle.tree_merge.proofs.ChildLists.TreeLists.{equal, exchanged-in, place_other, place_same, unequal}
@@ -153,15 +152,15 @@ module _ (n : NodeId) (change : ℕ → Cell → Cell) where
 
 module _ (a : Arena) (d : NodeId) (state : OwnState) (count : ℕ) where
   pub room_renewed : (parent : Option NodeId) → (renewed_many a parent d state count).room ≡ a.room
-  room_renewed None = room_on d _ a count
-  room_renewed (Some p) = room_on d _ (left_many a (Some p) d count) count ∙ room_on p _ a count
+  room_renewed None = room_on d (λ _. renewed state) a count
+  room_renewed (Some p) = room_on d (λ _. renewed state) (left_many a (Some p) d count) count ∙ room_on p (λ k. with_child (next_node d k) None) a count
 
   pub made_renewed : (parent : Option NodeId) → (renewed_many a parent d state count).made ≡ a.made
-  made_renewed None = made_on d _ a count
-  made_renewed (Some p) = made_on d _ (left_many a (Some p) d count) count ∙ made_on p _ a count
+  made_renewed None = made_on d (λ _. renewed state) a count
+  made_renewed (Some p) = made_on d (λ _. renewed state) (left_many a (Some p) d count) count ∙ made_on p (λ k. with_child (next_node d k) None) a count
 
 -- what isn't there once nodes were added wasn't there before
-pub none_before : (a b : Arena) (n : NodeId) (count : ℕ) → NodesStay a b → HaveNone b n count → HaveNone a n count
+none_before : (a b : Arena) (n : NodeId) (count : ℕ) → NodesStay a b → HaveNone b n count → HaveNone a n count
 none_before a b n count stays none k less = go (find a (next_node n k)) (find b (next_node n k)) (stays (next_node n k)) (none k less)
   where
     go : (o r : Option Cell) → (IsSome o → IsSome r) → r ≡ None → o ≡ None
@@ -171,3 +170,18 @@ none_before a b n count stays none k less = go (find a (next_node n k)) (find b 
     no (Some c) some e = absurd (cc e)
 
     go (Some c) r some e = absurd (no r (some refl) e)
+
+-- the nodes that there may be are there still
+pub if_stay : (a b : Arena) (count : ℕ) → NodesStay a b → (o : Option NodeId) → IfSome o (λ n. HaveNodes a n count) → IfSome o (λ n. HaveNodes b n count)
+if_stay a b count stays None held = tt
+if_stay a b count stays (Some n) held k less = stays (next_node n k) (held k less)
+
+-- and there is room for the working nodes that come
+pub if_new : (a b : Arena) (w : NodeId) (count : ℕ) → NodesStay a b → count ≤ a.room.nodes → (o : Option NodeId) → IfSome o (λ _. HaveNone b w count)
+    → IfSome o (λ _. HaveNone a w count × (count ≤ a.room.nodes))
+if_new a b w count stays room None none = tt
+if_new a b w count stays room (Some h) none = (none_before a b w count stays none, room)
+
+-- the first of many nodes
+pub first_held : (a : Arena) (n : NodeId) (count : ℕ) → 0 < count → HaveNodes a n count → HasNode a n
+first_held a n count some held = let same : n.0 + 0 ≡ n.0 = omega arith in subst (HasNode a) (λ i. record { 0 = same i }) (held 0 some)

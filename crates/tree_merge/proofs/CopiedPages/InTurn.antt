@@ -1,26 +1,24 @@
 -- One page is copied after the other.
 use Rattle.std.specs.Prelude.{IfSome}
-use Rattle.std.proofs.Common.{◌≡◌, ◌≢◌, ℕ, zero, suc, ◌+◌, ◌<◌, ◌≤◌, false, List, [], ◌∷◌, length, map, Option, Some, None, is_some, refl, sym, ap, ◌∙◌, subst, arith, inl, inr}
+use Rattle.std.proofs.Common.{◌≡◌, ◌≢◌, ℕ, zero, suc, ◌+◌, ◌<◌, ◌≤◌, false, List, [], ◌∷◌, map, Option, Some, None, is_some, refl, sym, ap, ◌∙◌, subst, arith, inl, inr}
 use Rattle.vm_ids.specs.declared.node_name.NodeName.{NodeName}
 use Rattle.vm_ids.specs.declared.node_name.NodeName.TheVariants.{Live}
 use Rattle.vm_ids.specs.declared.numbers.CacheId.{CacheId}
 use Rattle.vm_ids.specs.declared.numbers.NodeId.{NodeId}
 use Rattle.vm_ids.specs.declared.numbers.PageNo.{PageNo}
 use Rattle.vm_ids.specs.Forest.Commands.{copy_pages, page_name, page_pairs}
-use Rattle.vm_ids.specs.Forest.NameLists as names
-use Rattle.vm_ids.specs.Forest.Nodes.{Forest, node}
-use Rattle.vm_ids.specs.Forest.Nodes.Hang.{TreeOf}
+use Rattle.vm_ids.specs.Forest.Nodes.{Forest}
 use Rattle.vm_ids.specs.Forest.Rules.{copy_page}
-use Rattle.local_cache.specs.Arena.{Arena, Cell, HasNode, cell, find}
+use Rattle.local_cache.specs.declared.own_state.OwnState.{OwnState}
 use Rattle.local_cache.specs.declared.own_state.OwnState.TheVariants.{Absent}
+use Rattle.local_cache.specs.Arena.{Arena, Cell, HasNode, cell, find}
 use Rattle.local_cache.specs.Many.{HaveNone}
 use Rattle.local_cache.specs.ManyNodes.{each, next_if, next_node}
 use Rattle.local_cache.specs.NodeCells.{exchanged, renewed, tree_of, with_child}
 use Rattle.local_cache.specs.OnCells.{on_cell}
 use Rattle.local_cache.specs.Own.{own_of}
-use Rattle.local_cache.specs.Reading.{forest_of, hang_by, name_of}
+use Rattle.local_cache.specs.Reading.{forest_of, name_of}
 use Rattle.local_cache.specs.Sound.{IsSound, ◌∈◌}
-use Rattle.local_cache.proofs.Forest.Reading.{node-forest_of}
 use Rattle.local_cache.proofs.Tables.Sizes.{sizes_same, sizes_then}
 use Rattle.tree_merge.specs.Copying.{AreApart, AreSameOrApart, CanCopyMany, IsEmpty, IsLeafOf, copied_many, page_after}
 use Rattle.tree_merge.specs.Stepping.{AreCopied}
@@ -30,6 +28,7 @@ use Rattle.tree_merge.proofs.CopiedPages.Kinds.{Kind, page_by}
 use Rattle.tree_merge.proofs.CopiedPages.Linking.{all_rows, copying, each_copied, linked_rows}
 use Rattle.tree_merge.proofs.CopiedPages.OnePage.{CanCopyLeaf, LeafCopied, in_order, leaf_first, leaf_more, not_free}
 use Rattle.tree_merge.proofs.CopiedPages.Rows.{AllPass, EachPass, IsClear, Pass, apart_back, later_clear, pass_apart, pass_same}
+use Rattle.tree_merge.proofs.LeafRenewed.{parent_listed}
 use Rattle.tree_merge.proofs.PagesAlone.Copied.{copied_rule, copied_sizes}
 
 -- one more pair, behind the others
@@ -72,7 +71,7 @@ module _ (a : Arena) (ns : List NodeId) (to : CacheId) (to_page : PageNo) (from 
       record {
         copied = record {
           forest = copied_rule b c to (page_after to_page k) from (page_after from_page k) false _ alone
-              ∙ ap (λ (f : Forest _). copy_page false f (page_name to (to_page.0 + k)) (page_name from (from_page.0 + k))) so_far.copied.forest
+              ∙ ap (λ (f : Forest OwnState). copy_page false f (page_name to (to_page.0 + k)) (page_name from (from_page.0 + k))) so_far.copied.forest
               ∙ sym (pairs_more from from_page.0 to to_page.0 k (forest_of a));
           sound = alone.sound;
           sizes = sizes_then a b c so_far.copied.sizes (copied_sizes b c to (page_after to_page k) from (page_after from_page k) false _ alone);
@@ -97,15 +96,6 @@ module _ (a : Arena) (ns : List NodeId) (to : CacheId) (to_page : PageNo) (from 
       let so_far : SoFar b k = all_pages pass sound step copies k (omega arith) in
       one_more b (step k b) k so_far
       (copies b k (omega arith) so_far.copied.sound so_far.copied.room (λ n is. so_far.same (next_node n k) (later_clear ns count pass n is k (omega arith))))
-
--- A node that others hang on has tree children
-pub parent_listed : (a : Arena) → IsSound a → (d p : NodeId) → HasNode a d → IsLeafOf (Some p) (cell a d) → (cell a p).tree ≡ [] → ⊥
-parent_listed a sound d p held leaf none =
-    let held_p : HasNode a p = sound.kept.parents d p held (ap (λ l. l.parent) leaf.links) in
-    let hang : (node (forest_of a) (name_of a d)).hang ≡ TreeOf (name_of a p) =
-    ap (λ n. n.hang) (node-forest_of a sound.kept.named d held) ∙ ap (λ l. hang_by a l.parent l.by_stub) leaf.links in
-    let listed = (sound.linked.tree_links (name_of a d) (name_of a p)).1 hang in
-    subst (λ xs. names.◌∈◌ (name_of a d) xs) (ap (λ n. n.tree) (node-forest_of a sound.kept.named p held_p) ∙ ap (map (name_of a)) none) listed
 
 -- Many pages
 
@@ -217,14 +207,14 @@ module _ (a : Arena) (parent history : Option NodeId) (d s w : NodeId) (to : Cac
           subst (λ (c : Arena). LeafCopied b c ms to (page_after to_page k) from (page_after from_page k))
           (in_order (on_cell b (next_node d k) (renewed Absent)) (next_node s k) (next_node w k) (next_node h k) (next_node d k) s_w)
           (leaf_more b (next_node d k) (next_node s k) None (Some (next_node h k)) to (page_after to_page k) from (page_after from_page k) (next_can None (Some h) is has)
-          (next_node h k) (next_node w k) refl free ((histories h has).1 k less k less) roomy)
+          (next_node h k) (next_node w k) refl free roomy)
       next_more (Some p) is =
           let ms : List NodeId = next_node p k ∷ next_node d k ∷ next_node s k ∷ next_node w k ∷ next_node h k ∷ [] in
           let left : Arena = on_cell b (next_node p k) (with_child (next_node d k) None) in
           subst (λ (c : Arena). LeafCopied b c ms to (page_after to_page k) from (page_after from_page k))
           (in_order (on_cell left (next_node d k) (renewed Absent)) (next_node s k) (next_node w k) (next_node h k) (next_node d k) s_w)
           (leaf_more b (next_node d k) (next_node s k) (Some (next_node p k)) (Some (next_node h k)) to (page_after to_page k) from (page_after from_page k) (next_can (Some p) (Some h) is has)
-          (next_node h k) (next_node w k) refl free ((histories h has).1 k less k less) roomy)
+          (next_node h k) (next_node w k) refl free roomy)
 
   -- the nodes of the linked pages among all
   among : (o r : Option NodeId) (n : NodeId) → n ∈ linked_rows r d s w → n ∈ all_rows o r d s w

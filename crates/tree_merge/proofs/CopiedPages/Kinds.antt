@@ -45,13 +45,13 @@ slide f g count p x (suc k) j le below =
     p (each g k x) k j (omega arith) below ∙ ap (g k) (slide f g count p x k j (omega arith) below)
 
 -- so one kind may be done for all pages before another one
-parted : (f g : Kind) (count : ℕ) → Passes f g count → (x : Arena) (k : ℕ) → k ≤ count → each (λ i y. g i (f i y)) k x ≡ each g k (each f k x)
+parted : (f g : Kind) (count : ℕ) → Passes f g count → (x : Arena) (k : ℕ) → k ≤ count → each (λ (i : ℕ) (y : Arena). g i (f i y)) k x ≡ each g k (each f k x)
 parted f g count p x zero le = refl
 parted f g count p x (suc k) le =
     ap (λ (y : Arena). g k (f k y)) (parted f g count p x k (omega arith))
     ∙ ap (g k) (slide f g count p (each f k x) k k (omega arith) (omega arith))
 
-none_done : (x : Arena) (k : ℕ) → each (λ i (y : Arena). y) k x ≡ x
+none_done : (x : Arena) (k : ℕ) → each (page_by []) k x ≡ x
 none_done x zero = refl
 none_done x (suc k) = none_done x k
 

@@ -53,38 +53,66 @@ all_rows (Some p) history d s w = p ∷ linked_rows history d s w
 -- Each kind may be done for all pages before the next one
 
 module _ (d s w : NodeId) (count : ℕ) where
+  -- of nodes that become their sources' only tree children
+  module _ (ds : Pass d s count) where
+    first_pass : kinds.AllPass (on d (as_new Absent) ∷ linking None d s w) count
+    first_pass =
+        ((on_on d s count ds (as_new Absent) (over_one d), (on_on d d count (pass_itself d count) (as_new Absent) (hung_on s), tt)),
+        ((on_on s d count (pass_back d s count ds) (over_one d) (hung_on s), tt), (tt, tt)))
+
+  -- and of those that get working nodes
+  module _ (h : NodeId) (ds : Pass d s count) (dw : Pass d w count) (dh : Pass d h count) (sw : Pass s w count) (sh : Pass s h count) (wh : Pass w h count) where
+    dd : Pass d d count
+    dd = pass_itself d count
+
+    ww : Pass w w count
+    ww = pass_itself w count
+
+    sd : Pass s d count
+    sd = pass_back d s count ds
+
+    wd : Pass w d count
+    wd = pass_back d w count dw
+
+    ws : Pass w s count
+    ws = pass_back s w count sw
+
+    new_past : kinds.PassesEach (on d (as_new Absent)) (linking (Some h) d s w) count
+    new_past =
+        (on_work d w count dw (as_new Absent), (on_on d w count dw (as_new Absent) (over_two h d), (on_on d w count dw (as_new Absent) (hung_on s),
+        (on_on d s count ds (as_new Absent) (over_one w), (on_on d d count dd (as_new Absent) (hung_on w), (on_on d h count dh (as_new Absent) (hung_on w), tt))))))
+
+    work_past : kinds.PassesEach (work w) (on w (over_two h d) ∷ on w (hung_on s) ∷ on s (over_one w) ∷ on d (hung_on w) ∷ on h (hung_on w) ∷ []) count
+    work_past =
+        (work_on w w count ww (over_two h d), (work_on w w count ww (hung_on s), (work_on w s count ws (over_one w),
+        (work_on w d count wd (hung_on w), (work_on w h count wh (hung_on w), tt)))))
+
+    two_past : kinds.PassesEach (on w (over_two h d)) (on w (hung_on s) ∷ on s (over_one w) ∷ on d (hung_on w) ∷ on h (hung_on w) ∷ []) count
+    two_past =
+        (on_on w w count ww (over_two h d) (hung_on s), (on_on w s count ws (over_two h d) (over_one w),
+        (on_on w d count wd (over_two h d) (hung_on w), (on_on w h count wh (over_two h d) (hung_on w), tt))))
+
+    up_past : kinds.PassesEach (on w (hung_on s)) (on s (over_one w) ∷ on d (hung_on w) ∷ on h (hung_on w) ∷ []) count
+    up_past = (on_on w s count ws (hung_on s) (over_one w), (on_on w d count wd (hung_on s) (hung_on w), (on_on w h count wh (hung_on s) (hung_on w), tt)))
+
+    one_past : kinds.PassesEach (on s (over_one w)) (on d (hung_on w) ∷ on h (hung_on w) ∷ []) count
+    one_past = (on_on s d count sd (over_one w) (hung_on w), (on_on s h count sh (over_one w) (hung_on w), tt))
+
+    more_pass : kinds.AllPass (on d (as_new Absent) ∷ linking (Some h) d s w) count
+    more_pass = (new_past, (work_past, (two_past, (up_past, (one_past, ((on_on d h count dh (hung_on w) (hung_on w), tt), (tt, tt)))))))
+
   linked_pass : (history : Option NodeId) → rows.AllPass (linked_rows history d s w) count → kinds.AllPass (on d (as_new Absent) ∷ linking history d s w) count
-  linked_pass None (pass_d, rest) =
-      let dd : Pass d d count = pass_itself d count in
-      let ds : Pass d s count = pass_d.0 in
-      let sd : Pass s d count = pass_back d s count ds in
-      (((on_on d s count ds (as_new Absent) (over_one d)), ((on_on d d count dd (as_new Absent) (hung_on s)), tt)),
-      (((on_on s d count sd (over_one d) (hung_on s)), tt), (tt, tt)))
-  linked_pass (Some h) (pass_d, (pass_s, (pass_w, rest))) =
-      let dd : Pass d d count = pass_itself d count in
-      let ww : Pass w w count = pass_itself w count in
-      let ds : Pass d s count = pass_d.0 in
-      let dw : Pass d w count = pass_d.1.0 in
-      let dh : Pass d h count = pass_d.1.1.0 in
-      let ws : Pass w s count = pass_back s w count pass_s.0 in
-      let wd : Pass w d count = pass_back d w count dw in
-      let wh : Pass w h count = pass_w.0 in
-      let sd : Pass s d count = pass_back d s count ds in
-      let sh : Pass s h count = pass_s.1.0 in
-      let new : ℕ → Cell → Cell = as_new Absent in
-      let first = (on_work d w count dw (as_new Absent), (on_on d w count dw (as_new Absent) (over_two h d), (on_on d w count dw (as_new Absent) (hung_on s),
-      (on_on d s count ds (as_new Absent) (over_one w), (on_on d d count dd (as_new Absent) (hung_on w), (on_on d h count dh (as_new Absent) (hung_on w), tt)))))) in
-      let second = (work_on w w count ww (over_two h d), (work_on w w count ww (hung_on s), (work_on w s count ws (over_one w), (work_on w d count wd (hung_on w), (work_on w h count wh (hung_on w), tt))))) in
-      let third = (on_on w w count ww (over_two h d) (hung_on s), (on_on w s count ws (over_two h d) (over_one w), (on_on w d count wd (over_two h d) (hung_on w), (on_on w h count wh (over_two h d) (hung_on w), tt)))) in
-      let fourth = (on_on w s count ws (hung_on s) (over_one w), (on_on w d count wd (hung_on s) (hung_on w), (on_on w h count wh (hung_on s) (hung_on w), tt))) in
-      let fifth = (on_on s d count sd (over_one w) (hung_on w), (on_on s h count sh (over_one w) (hung_on w), tt)) in
-      let sixth = (on_on d h count dh (hung_on w) (hung_on w), tt) in
-      (first, (second, (third, (fourth, (fifth, (sixth, (tt, tt)))))))
+  linked_pass None all = first_pass all.0.0
+  linked_pass (Some h) all = more_pass h all.0.0 all.0.1.0 all.0.1.1.0 all.1.0.0 all.1.0.1.0 all.1.1.0.0
 
   left_pass : (history : Option NodeId) (p : NodeId) → rows.EachPass p (linked_rows history d s w) count → kinds.PassesEach (on p (left_by d)) (on d (as_new Absent) ∷ linking history d s w) count
-  left_pass None p (pd, (ps, rest)) =
-      (on_on p d count pd (left_by d) (as_new Absent), (on_on p s count ps (left_by d) (over_one d), (on_on p d count pd (left_by d) (hung_on s), tt)))
-  left_pass (Some h) p (pd, (ps, (pw, (ph, rest)))) =
+  left_pass None p all =
+      (on_on p d count all.0 (left_by d) (as_new Absent), (on_on p s count all.1.0 (left_by d) (over_one d), (on_on p d count all.0 (left_by d) (hung_on s), tt)))
+  left_pass (Some h) p all =
+      let pd : Pass p d count = all.0 in
+      let ps : Pass p s count = all.1.0 in
+      let pw : Pass p w count = all.1.1.0 in
+      let ph : Pass p h count = all.1.1.1.0 in
       (on_on p d count pd (left_by d) (as_new Absent), (on_work p w count pw (left_by d), (on_on p w count pw (left_by d) (over_two h d), (on_on p w count pw (left_by d) (hung_on s),
       (on_on p s count ps (left_by d) (over_one w), (on_on p d count pd (left_by d) (hung_on w), (on_on p h count ph (left_by d) (hung_on w), tt)))))))
 

@@ -4,13 +4,14 @@ use Rattle.std.proofs.Common.{◌≡◌, ◌≢◌, ◌+◌, ◌≤◌, true, fa
 use Rattle.std.specs.List.{cons_option}
 use Rattle.std.proofs.lemmas.Bool.{false≢true}
 use Rattle.vm_ids.specs.declared.node_name.NodeName.{NodeName}
-use Rattle.vm_ids.specs.declared.node_name.NodeName.TheVariants.{Live, Working}
+use Rattle.vm_ids.specs.declared.node_name.NodeName.TheVariants.{Live}
 use Rattle.vm_ids.specs.declared.numbers.CacheId.{CacheId}
 use Rattle.vm_ids.specs.declared.numbers.NodeId.{NodeId}
 use Rattle.vm_ids.specs.declared.numbers.PageNo.{PageNo}
+use Rattle.vm_ids.specs.Forest.Laws.Linking.{ArePages}
 use Rattle.vm_ids.specs.Forest.NameLists as names
-use Rattle.vm_ids.specs.Forest.Nodes.{Hang, childless, is_live, node}
-use Rattle.vm_ids.specs.Forest.Nodes.Hang.{Root, StubOf, TreeOf}
+use Rattle.vm_ids.specs.Forest.Nodes.{IsNode, childless, is_live, node}
+use Rattle.vm_ids.specs.Forest.Nodes.Hang.{Root, TreeOf}
 use Rattle.vm_ids.specs.Forest.Rules.{detach, link}
 use Rattle.vm_ids.proofs.Forest.NodesAfter.{node-put}
 use Rattle.local_cache.specs.declared.own_state.OwnState.TheVariants.{Absent}
@@ -22,7 +23,7 @@ use Rattle.local_cache.specs.Own.{own_of}
 use Rattle.local_cache.specs.Reading.{forest_of, hang_by, name_of}
 use Rattle.local_cache.specs.Sound.{IsSound, ◌∈◌}
 use Rattle.local_cache.proofs.Changes.SameNodes.{id_cases}
-use Rattle.local_cache.proofs.Forest.Reading.{node-forest_of}
+use Rattle.local_cache.proofs.Forest.Reading.{IsNode-forest_of, node-forest_of}
 use Rattle.local_cache.proofs.Nodes.Cells.{cell-put, cell-put_other, find-put, find-put_other}
 use Rattle.history_tree.specs.Hanging.{set_one, set_two}
 use Rattle.history_tree.proofs.Hang.{CanLink, Linked, links-first, links-more}
@@ -32,8 +33,6 @@ use Rattle.tree_merge.specs.Stepping.{IsCopiedBare, IsDetachedAlone}
 use Rattle.tree_merge.proofs.ChildLists.Names.{in_names}
 use Rattle.tree_merge.proofs.ChildLists.TreeLists.{place_other}
 use Rattle.tree_merge.proofs.CopiedPages.Changes.{cell_by, change_both, change_change, find-working_other}
-use Rattle.tree_merge.proofs.CopiedPages.Kinds.{page_by}
-use Rattle.tree_merge.proofs.CopiedPages.Linking.{all_rows, copying}
 use Rattle.tree_merge.proofs.LeafRenewed.{leaf_detached, left_like}
 
 -- What a copy of one page needs: d is its node, and s that of its source, whose tree children are
@@ -80,8 +79,11 @@ left_out d (m ∷ ms) out =
 
 -- which node a leaf hangs on
 parent_of : (a : Arena) (s : NodeId) (o : Option NodeId) → hang_by a o false ≡ TreeOf (name_of a s) → (p : NodeId) × (o ≡ Some p) × (name_of a p ≡ name_of a s)
-parent_of a s None e = absurd (cc e)
-parent_of a s (Some p) e = let same : name_of a p ≡ name_of a s = cc e in (p, (refl, same))
+parent_of a s None e = let none : Root ≡ TreeOf (name_of a s) = e in absurd (cc none)
+parent_of a s (Some p) e =
+    let some : TreeOf (name_of a p) ≡ TreeOf (name_of a s) = e in
+    let same : name_of a p ≡ name_of a s = cc some in
+    (p, (refl, same))
 
 module _ (a : Arena) (d s : NodeId) (parent history : Option NodeId) (to : CacheId) (to_page : PageNo) (from : CacheId) (from_page : PageNo) (can : CanCopyLeaf a parent history d s to to_page from from_page) where
   -- d among the tree children of the source hangs on it
@@ -172,9 +174,23 @@ module _ (a : Arena) (d s : NodeId) (parent history : Option NodeId) (to : Cache
 
   -- It is linked to the source
 
+  is_page : (q : NodeId) (x : NodeName) → HasNode a q → name_of a q ≡ x → IsNode (forest_of a) x
+  is_page q x held named = subst (IsNode (forest_of a)) named (IsNode-forest_of a can.sound.kept.named q held)
+
+  pages : ArePages (forest_of a) (Live to to_page) (Live from from_page)
+  pages = record {
+    destination = is_page d (Live to to_page) can.held_d can.named_d;
+    source = is_page s (Live from from_page) can.held_s can.named_s;
+    apart = λ e. can.apart (can.sound.kept.named.apart s d can.held_s can.held_d (can.named_s ∙ sym e ∙ sym can.named_d));
+    live_destination = refl;
+    live_source = refl;
+  }
+
   copied : (c : Arena) → Linked (on_cell (cut_from a parent d None) d (renewed Absent)) c d s → IsCopiedBare a c to to_page from from_page
   copied c linked = record {
+    pages = pages;
     node = d;
+    at = can.sound.kept.listed.pages to.0 to_page.0 d can.held_d can.named_d;
     empty = can.empty;
     copied = record {
       between = b;
@@ -202,7 +218,7 @@ module _ (a : Arena) (d s : NodeId) (parent history : Option NodeId) (to : Cache
           find-put_other (with_tree b s (d ∷ [])) d n _ n_d ∙ find-put_other b s n _ n_s ∙ find_b n n_d (λ e. out (first_in parent (d ∷ s ∷ []) n e));
     }
 
-  module _ (h w : NodeId) (is : history ≡ Some h) (free : find a w ≡ None) (apart_h : h ≢ d) (room : 1 ≤ a.room.nodes) where
+  module _ (h w : NodeId) (is : history ≡ Some h) (free : find a w ≡ None) (room : 1 ≤ a.room.nodes) where
     w_d : w ≢ d
     w_d e = not_free a d w can.held_d free (sym e)
 
