@@ -18,11 +18,10 @@ use Rattle.tree_merge.specs.Copying.{IsEmpty, IsLeafOf, left_many, page_after}
 use Rattle.tree_merge.specs.Retiring.{CanRetireMany, retired_many}
 use Rattle.tree_merge.specs.Stepping.{AreRetired, AreRetiredBare, IsRetiredBare}
 use Rattle.tree_merge.proofs.CopiedPages.Changes.{cell_by, change_without, find-without_other}
-use Rattle.tree_merge.proofs.CopiedPages.InTurn.{parent_listed}
 use Rattle.tree_merge.proofs.CopiedPages.Kinds.{Kind, Passes, each_kind, on}
 use Rattle.tree_merge.proofs.CopiedPages.Linking.{left_by}
 use Rattle.tree_merge.proofs.CopiedPages.Rows.{Pass}
-use Rattle.tree_merge.proofs.LeafRenewed.{leaf_retired}
+use Rattle.tree_merge.proofs.LeafRenewed.{leaf_retired, parent_listed}
 use Rattle.tree_merge.proofs.RetiredPages.InTurn.{all_retired, retired_bare}
 
 -- One kind after the other
