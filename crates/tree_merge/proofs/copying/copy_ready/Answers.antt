@@ -44,9 +44,9 @@ pub link_many-requires-clause-histories : goal.link_many-requires-clause-histori
 link_many-requires-clause-histories c =
     let a = c.args.caches.now in
     let from = c.requires.source in
-    let stays : NodesStay a c.renew_many.new.caches = λ n held. c.renew_many.ensures.stays n (c.leave_many.ensures.stays n held) in
-    subst (λ o. IfSome o (λ h. HaveNodes c.renew_many.new.caches h c.args.count)) (sym c.history_of-history.ensures)
-    (if_stay a c.renew_many.new.caches c.args.count stays (history_of a c.args.node c.args.source)
+    let stays : NodesStay a c.renew_many.new.self = λ n held. c.renew_many.ensures.stays n (c.leave_many.ensures.stays n held) in
+    subst (λ o. IfSome o (λ h. HaveNodes c.renew_many.new.self h c.args.count)) (sym c.history_of-history.ensures)
+    (if_stay a c.renew_many.new.self c.args.count stays (history_of a c.args.node c.args.source)
     (held_h a c.requires.sound c.args.node c.args.source c.args.count c.requires.copyable from.0 from.1.0 from.1.1))
 
 pub link_many-requires-clause-short_history : goal.link_many-requires-clause-short_history
@@ -56,14 +56,14 @@ link_many-requires-clause-short_history c =
 pub link_many-requires-clause-room : goal.link_many-requires-clause-room
 link_many-requires-clause-room c =
     let a = c.args.caches.now in
-    let is : c.renew_many.new.caches ≡ renewed_many a (cell a c.args.node).links.parent c.args.node Absent c.args.count =
+    let is : c.renew_many.new.self ≡ renewed_many a (cell a c.args.node).links.parent c.args.node Absent c.args.count =
     c.renew_many.ensures.changed ∙ ap (λ (x : Arena). on_cells x c.args.node (λ _. renewed Absent) c.args.count) c.leave_many.ensures.changed in
     omega (arith, ap (λ (x : Arena). x.room.nodes) is, ap (λ r. r.nodes) (room_renewed a c.args.node Absent c.args.count (cell a c.args.node).links.parent), c.requires.room)
 
 pub link_many-requires-clause-made : goal.link_many-requires-clause-made
 link_many-requires-clause-made c =
     let a = c.args.caches.now in
-    let is : c.renew_many.new.caches ≡ renewed_many a (cell a c.args.node).links.parent c.args.node Absent c.args.count =
+    let is : c.renew_many.new.self ≡ renewed_many a (cell a c.args.node).links.parent c.args.node Absent c.args.count =
     c.renew_many.ensures.changed ∙ ap (λ (x : Arena). on_cells x c.args.node (λ _. renewed Absent) c.args.count) c.leave_many.ensures.changed in
     omega (arith, ap (λ (x : Arena). x.made) is, made_renewed a c.args.node Absent c.args.count (cell a c.args.node).links.parent, c.requires.made)
 
@@ -74,7 +74,7 @@ returns c = λ to to_page from from_page named_d named_s.
     let s = c.args.source in
     let count = c.args.count in
     let parent = (cell a d).links.parent in
-    let b = c.renew_many.new.caches in
+    let b = c.renew_many.new.self in
     let linked = c.link_many.ensures in
     let stays : NodesStay a b = λ n held. c.renew_many.ensures.stays n (c.leave_many.ensures.stays n held) in
     let is : b ≡ renewed_many a parent d Absent count =

@@ -40,4 +40,4 @@ pub returns-in-Some-2 : goal.returns-in-Some-2
 returns-in-Some-2 c =
     let r = c.requires in
     left_tree c.args.caches.now r.sound c.args.node r.held c.in-Some-2.parent (sym c.parent.ensures ∙ c.in-Some-2.is) (sym c.hangs_by_stub.ensures ∙ c.if-hangs_by_stub.false)
-    c.exchange_many.new.caches c.exchange_many.ensures.changed
+    c.exchange_many.new.self c.exchange_many.ensures.changed

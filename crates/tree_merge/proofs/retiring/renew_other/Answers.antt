@@ -35,9 +35,9 @@ returns-then-is_leaf-clause-alone c = λ cache page named.
     let r = c.requires in
     let leaf = c.is_leaf.ensures.0 c.if-is_leaf.true in
     let b = c.leave_parent.new.caches in
-    subst (λ (s : OwnState). IsDetachedAlone a c.renew_many.new.caches cache page c.args.state (Dropped c.args.node s)) (sym c.own_state-before.ensures)
+    subst (λ (s : OwnState). IsDetachedAlone a c.renew_many.new.self cache page c.args.state (Dropped c.args.node s)) (sym c.own_state-before.ensures)
     (left_detached a b r.sound c.args.node r.held c.leave_parent.ensures (no_children a r.sound c.args.node r.held leaf.0 leaf.1) cache page named
-    c.args.state c.renew_many.new.caches (once b c.renew_many.new.caches c.args.node c.args.state c.renew_many.ensures.changed))
+    c.args.state c.renew_many.new.self (once b c.renew_many.new.self c.args.node c.args.state c.renew_many.ensures.changed))
 
 pub returns-then-is_leaf-clause-page : goal.returns-then-is_leaf-clause-page
 returns-then-is_leaf-clause-page c = λ cache page named.
@@ -46,18 +46,18 @@ returns-then-is_leaf-clause-page c = λ cache page named.
     let leaf = c.is_leaf.ensures.0 c.if-is_leaf.true in
     let b = c.leave_parent.new.caches in
     left_page a b r.sound c.args.node r.held c.leave_parent.ensures (no_children a r.sound c.args.node r.held leaf.0 leaf.1) cache page named
-    c.args.state c.renew_many.new.caches (once b c.renew_many.new.caches c.args.node c.args.state c.renew_many.ensures.changed)
+    c.args.state c.renew_many.new.self (once b c.renew_many.new.self c.args.node c.args.state c.renew_many.ensures.changed)
 
 pub returns-else-is_leaf-clause-alone : goal.returns-else-is_leaf-clause-alone
 returns-else-is_leaf-clause-alone c = λ cache page named.
     let a = c.args.caches.now in
     let r = c.requires in
     let children = some_child a r.sound c.args.node r.held (λ tree first. false≢true (sym c.if-is_leaf.false ∙ c.is_leaf.ensures.1 (tree, first))) in
-    parent_detached a r.sound c.args.node r.held children cache page named c.args.state c.replace.result c.replace.ensures.new c.replace.new.caches c.replace.ensures.changed
+    parent_detached a r.sound c.args.node r.held children cache page named c.args.state c.replace.result c.replace.ensures.new c.replace.new.self c.replace.ensures.changed
 
 pub returns-else-is_leaf-clause-page : goal.returns-else-is_leaf-clause-page
 returns-else-is_leaf-clause-page c = λ cache page named.
     let a = c.args.caches.now in
     let r = c.requires in
     let children = some_child a r.sound c.args.node r.held (λ tree first. false≢true (sym c.if-is_leaf.false ∙ c.is_leaf.ensures.1 (tree, first))) in
-    parent_page a r.sound c.args.node r.held children cache page named c.args.state c.replace.result c.replace.ensures.new c.replace.new.caches c.replace.ensures.changed
+    parent_page a r.sound c.args.node r.held children cache page named c.args.state c.replace.result c.replace.ensures.new c.replace.new.self c.replace.ensures.changed

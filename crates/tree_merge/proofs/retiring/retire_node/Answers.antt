@@ -42,18 +42,18 @@ returns-else-is_leaf-clause-forest c =
     let r = c.requires in
     let a = c.args.caches.now in
     let children = some_child a r.sound c.args.node r.held (λ tree first. false≢true (sym c.if-is_leaf.false ∙ c.is_leaf.ensures.1 (tree, first))) in
-    ap forest_of (once a c.to_working_many.new.caches c.args.node c.to_working_many.ensures.changed) ∙ retired-forest a r.sound c.args.node r.held r.live children
+    ap forest_of (once a c.to_working_many.new.self c.args.node c.to_working_many.ensures.changed) ∙ retired-forest a r.sound c.args.node r.held r.live children
 
 pub returns-else-is_leaf-clause-sound : goal.returns-else-is_leaf-clause-sound
 returns-else-is_leaf-clause-sound c =
     let r = c.requires in
     let a = c.args.caches.now in
     let children = some_child a r.sound c.args.node r.held (λ tree first. false≢true (sym c.if-is_leaf.false ∙ c.is_leaf.ensures.1 (tree, first))) in
-    subst IsSound (sym (once a c.to_working_many.new.caches c.args.node c.to_working_many.ensures.changed)) (retired-sound a r.sound c.args.node r.held r.live children)
+    subst IsSound (sym (once a c.to_working_many.new.self c.args.node c.to_working_many.ensures.changed)) (retired-sound a r.sound c.args.node r.held r.live children)
 
 pub returns-else-is_leaf-clause-retired : goal.returns-else-is_leaf-clause-retired
 returns-else-is_leaf-clause-retired c =
     let r = c.requires in
     let a = c.args.caches.now in
     let children = some_child a r.sound c.args.node r.held (λ tree first. false≢true (sym c.if-is_leaf.false ∙ c.is_leaf.ensures.1 (tree, first))) in
-    retired_parent a c.to_working_many.new.caches c.args.node children (once a c.to_working_many.new.caches c.args.node c.to_working_many.ensures.changed)
+    retired_parent a c.to_working_many.new.self c.args.node children (once a c.to_working_many.new.self c.args.node c.to_working_many.ensures.changed)

@@ -38,7 +38,7 @@ pub returns-clause-sound : goal.returns-clause-sound
 returns-clause-sound c =
     let a = c.args.caches.now in
     many_sound a c.args.node c.args.child c.args.count c.requires.can _
-    (given_is a c.args.node c.args.child c.args.count c.parent-parent.result c.own_state-state.result c.exchange_each.new.caches c.inherit_many.new.caches c.free_many.new.caches
+    (given_is a c.args.node c.args.child c.args.count c.parent-parent.result c.own_state-state.result c.exchange_each.new.caches c.inherit_many.new.self c.free_many.new.self
     c.parent-parent.ensures c.own_state-state.ensures c.exchange_each.ensures.changed c.inherit_many.ensures.changed c.free_many.ensures)
 
 pub returns-clause-merged : goal.returns-clause-merged
@@ -47,6 +47,6 @@ returns-clause-merged c =
     record {
       some = c.requires.some;
       how = inl (refl, many_merged a c.args.node c.args.child c.args.count c.requires.can _
-          (given_is a c.args.node c.args.child c.args.count c.parent-parent.result c.own_state-state.result c.exchange_each.new.caches c.inherit_many.new.caches c.free_many.new.caches
+          (given_is a c.args.node c.args.child c.args.count c.parent-parent.result c.own_state-state.result c.exchange_each.new.caches c.inherit_many.new.self c.free_many.new.self
           c.parent-parent.ensures c.own_state-state.ensures c.exchange_each.ensures.changed c.inherit_many.ensures.changed c.free_many.ensures));
     }

@@ -37,26 +37,26 @@ give_way-requires-clause-parent c = parent_held c.args.caches.now c.requires.sou
 pub returns-then-give_way-clause-sound : goal.returns-then-give_way-clause-sound
 returns-then-give_way-clause-sound c =
     let r = c.requires in
-    once_sound c.args.caches.now r.sound c.args.node c.args.child r.least r.child r.no_stub c.give_way.new.caches c.give_way.ensures.given
+    once_sound c.args.caches.now r.sound c.args.node c.args.child r.least r.child r.no_stub c.give_way.new.self c.give_way.ensures.given
 
 pub returns-else-give_way-clause-sound : goal.returns-else-give_way-clause-sound
 returns-else-give_way-clause-sound c =
     let r = c.requires in
-    once_sound c.args.caches.now r.sound c.args.node c.args.child r.least r.child r.no_stub c.give_way.new.caches c.give_way.ensures.given
+    once_sound c.args.caches.now r.sound c.args.node c.args.child r.least r.child r.no_stub c.give_way.new.self c.give_way.ensures.given
 
 pub returns-then-give_way-clause-merged : goal.returns-then-give_way-clause-merged
 returns-then-give_way-clause-merged c =
     let r = c.requires in
     let a = c.args.caches.now in
-    one_step a c.give_way.new.caches _ _ r.sound
-    (once_merged a r.sound c.args.node c.args.child r.least r.child r.no_stub c.give_way.new.caches c.give_way.ensures.given)
+    one_step a c.give_way.new.self _ _ r.sound
+    (once_merged a r.sound c.args.node c.args.child r.least r.child r.no_stub c.give_way.new.self c.give_way.ensures.given)
     (told c.args.node c.args.child (own_of a c.args.node) true (passes a c.args.node c.args.child) (sym c.give_way.ensures.passed ∙ c.if-give_way.true))
 
 pub returns-else-give_way-clause-merged : goal.returns-else-give_way-clause-merged
 returns-else-give_way-clause-merged c =
     let r = c.requires in
     let a = c.args.caches.now in
-    one_step a c.give_way.new.caches _ _ r.sound
-    (once_merged a r.sound c.args.node c.args.child r.least r.child r.no_stub c.give_way.new.caches c.give_way.ensures.given)
+    one_step a c.give_way.new.self _ _ r.sound
+    (once_merged a r.sound c.args.node c.args.child r.least r.child r.no_stub c.give_way.new.self c.give_way.ensures.given)
     (told c.args.node c.args.child (own_of a c.args.node) false (passes a c.args.node c.args.child) (sym c.give_way.ensures.passed ∙ c.if-give_way.false)
     ∙ ap (Dropped c.args.node) (sym c.own_state-state.ensures))
