@@ -1,6 +1,4 @@
-use Rattle.std.proofs.Common.{◌≡◌, false, Some, sym, ap, subst, ◌∙◌}
-use Rattle.local_cache.specs.Arena.{HasNode}
-use Rattle.local_cache.specs.Many.{HaveNodes}
+use Rattle.std.proofs.Common.{sym, ◌∙◌}
 use Rattle.history_tree.proofs.OnCells.{one_held}
 use Rattle.tree_merge.proofs.Leaving.Left.{left_root, left_stub, left_tree}
 use Rattle.tree_merge.proofs.Place.Cut.{cut_linked, is_a_stub}
@@ -19,7 +17,7 @@ leave_stubs-requires-clause-stub c =
 pub exchange_many-requires-clause-held : goal.exchange_many-requires-clause-held
 exchange_many-requires-clause-held c =
     let r = c.requires in
-    one_held c.args.caches.now c.in-Some-2.parent (r.sound.kept.parents c.args.node c.in-Some-2.parent r.held (sym c.parent.ensures ∙ c.in-Some-2.is))
+    one_held c.args.caches.now c.in-Some.field-0 (r.sound.kept.parents c.args.node c.in-Some.field-0 r.held (sym c.parent.ensures ∙ c.in-Some.is))
 
 pub exchange_many-requires-clause-gone : goal.exchange_many-requires-clause-gone
 exchange_many-requires-clause-gone c = one_held c.args.caches.now c.args.node c.requires.held
@@ -39,5 +37,5 @@ returns-in-Some c =
 pub returns-in-Some-2 : goal.returns-in-Some-2
 returns-in-Some-2 c =
     let r = c.requires in
-    left_tree c.args.caches.now r.sound c.args.node r.held c.in-Some-2.parent (sym c.parent.ensures ∙ c.in-Some-2.is) (sym c.hangs_by_stub.ensures ∙ c.if-hangs_by_stub.false)
+    left_tree c.args.caches.now r.sound c.args.node r.held c.in-Some.field-0 (sym c.parent.ensures ∙ c.in-Some.is) (sym c.hangs_by_stub.ensures ∙ c.if-hangs_by_stub.false)
     c.exchange_many.new.self c.exchange_many.ensures.changed

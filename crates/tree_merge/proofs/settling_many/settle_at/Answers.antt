@@ -1,5 +1,4 @@
-use Rattle.std.proofs.Common.{not, refl, sym, ap, ◌∙◌, arith, inr}
-use Rattle.std.proofs.Math.Bool.{not-not}
+use Rattle.std.proofs.Common.{refl, sym, ◌∙◌, arith, inr}
 use Rattle.tree_merge.proofs.Merge.Step.{few_children, merged}
 use Rattle.tree_merge.proofs.Releases.{merged_released}
 use Rattle.tree_merge.proofs.settling_many.settle_at.Goals as goal
@@ -11,7 +10,7 @@ pub give_some-requires-clause-child : goal.give_some-requires-clause-child
 give_some-requires-clause-child c = sym c.tree_child.ensures ∙ c.in-Some.is
 
 pub give_some-requires-clause-no_stub : goal.give_some-requires-clause-no_stub
-give_some-requires-clause-no_stub c = sym c.hangs_by_stub.ensures ∙ sym (not-not _) ∙ ap not c.if-not-hangs_by_stub.true
+give_some-requires-clause-no_stub c = sym c.hangs_by_stub.ensures ∙ c.if-not-hangs_by_stub.true
 
 pub merge-released-requires-clause-held : goal.merge-released-requires-clause-held
 merge-released-requires-clause-held c = c.requires.least.1.held
