@@ -133,22 +133,22 @@ module _ (a : Arena) (sound : IsSound a) (d s : NodeId) (count : ℕ) (copyable 
 
 -- What stays where cells alone are changed
 
+counters_put : (a : Arena) (n : NodeId) (c : Cell) → ((put a n c).room ≡ a.room) × ((put a n c).made ≡ a.made)
+unfolding put
+counters_put a n c = (refl, refl)
+
 module _ (n : NodeId) (change : ℕ → Cell → Cell) where
   room_on : (a : Arena) (k : ℕ) → (on_cells a n change k).room ≡ a.room
   room_on a zero = refl
-  room_on a (suc k) = room_put (on_cells a n change k) (next_node n k) (change k (cell (on_cells a n change k) (next_node n k))) ∙ room_on a k
-    where
-      room_put : (b : Arena) (m : NodeId) (c : Cell) → (put b m c).room ≡ b.room
-      unfolding put
-      room_put b m c = refl
+  room_on a (suc k) =
+      let b : Arena = on_cells a n change k in
+      (counters_put b (next_node n k) (change k (cell b (next_node n k)))).0 ∙ room_on a k
 
   made_on : (a : Arena) (k : ℕ) → (on_cells a n change k).made ≡ a.made
   made_on a zero = refl
-  made_on a (suc k) = made_put (on_cells a n change k) (next_node n k) (change k (cell (on_cells a n change k) (next_node n k))) ∙ made_on a k
-    where
-      made_put : (b : Arena) (m : NodeId) (c : Cell) → (put b m c).made ≡ b.made
-      unfolding put
-      made_put b m c = refl
+  made_on a (suc k) =
+      let b : Arena = on_cells a n change k in
+      (counters_put b (next_node n k) (change k (cell b (next_node n k)))).1 ∙ made_on a k
 
 module _ (a : Arena) (d : NodeId) (state : OwnState) (count : ℕ) where
   pub room_renewed : (parent : Option NodeId) → (renewed_many a parent d state count).room ≡ a.room
@@ -163,12 +163,12 @@ module _ (a : Arena) (d : NodeId) (state : OwnState) (count : ℕ) where
 none_before : (a b : Arena) (n : NodeId) (count : ℕ) → NodesStay a b → HaveNone b n count → HaveNone a n count
 none_before a b n count stays none k less = go (find a (next_node n k)) (find b (next_node n k)) (stays (next_node n k)) (none k less)
   where
-    go : (o r : Option Cell) → (IsSome o → IsSome r) → r ≡ None → o ≡ None
-    go None r some e = refl
     never : (r : Option Cell) → IsSome r → r ≡ None → ⊥
     never None some e = absurd (cc some)
     never (Some c) some e = absurd (cc e)
 
+    go : (o r : Option Cell) → (IsSome o → IsSome r) → r ≡ None → o ≡ None
+    go None r some e = refl
     go (Some c) r some e = absurd (never r (some refl) e)
 
 -- the nodes that there may be are there still
