@@ -112,27 +112,27 @@ module _ (a b : Arena) (sound : IsSound a) (consistent : IsConsistent (forest_of
   from_is : (cache : CacheId) × (page : PageNo) × (name_of a s ≡ Live cache page)
   from_is = live_name (name_of a s) pages.live_source
 
-  detached : IsDetachedAlone a b to_is.0 to_is.1.0 Zero r
-  detached = is to_is.0 to_is.1.0 to_is.1.1
+  detached : IsDetachedAlone a b to_is.0 to_is.1 Zero r
+  detached = is to_is.0 to_is.1 to_is.2
 
   source_there : IsThere a b s
-  source_there = detached_there a b sound to_is.0 to_is.1.0 Zero r detached s held_s (λ e. pages.apart (to_is.1.1 ∙ sym e))
+  source_there = detached_there a b sound to_is.0 to_is.1 Zero r detached s held_s (λ e. pages.apart (to_is.2 ∙ sym e))
 
   pub fresh_named : (cache : CacheId) × (page : PageNo) × AreNamed b fresh cache page 1
   fresh_named =
-      let n = detached.sound.kept.listed.nodes to_is.0.0 to_is.1.0.0 fresh (at to_is.0 to_is.1.0 to_is.1.1) in
-      (to_is.0, (to_is.1.0, one_named b fresh to_is.0 to_is.1.0 n.0 n.1))
+      let n = detached.sound.kept.listed.nodes to_is.0.0 to_is.1.0 fresh (at to_is.0 to_is.1 to_is.2) in
+      (to_is.0, to_is.1, one_named b fresh to_is.0 to_is.1 n.0 n.1)
 
   pub source_named : (cache : CacheId) × (page : PageNo) × AreNamed b s cache page 1
-  source_named = (from_is.0, (from_is.1.0, one_named b s from_is.0 from_is.1.0 (source_there.held ∙ held_s) (source_there.name ∙ from_is.1.1)))
+  source_named = (from_is.0, from_is.1, one_named b s from_is.0 from_is.1 (source_there.held ∙ held_s) (source_there.name ∙ from_is.2))
 
   pub fresh_source : (i j : ℕ) → i < 1 → j < 1 → next_node fresh i ≢ next_node s j
   fresh_source i j low high e =
-      let n = detached.sound.kept.listed.nodes to_is.0.0 to_is.1.0.0 fresh (at to_is.0 to_is.1.0 to_is.1.1) in
+      let n = detached.sound.kept.listed.nodes to_is.0.0 to_is.1.0 fresh (at to_is.0 to_is.1 to_is.2) in
       let first : i ≡ 0 = omega arith in
       let second : j ≡ 0 = omega arith in
       let same : fresh ≡ s = sym (one_node fresh) ∙ ap (next_node fresh) (sym first) ∙ e ∙ ap (next_node s) second ∙ one_node s in
-      pages.apart (to_is.1.1 ∙ sym n.1 ∙ ap (name_of b) same ∙ source_there.name)
+      pages.apart (to_is.2 ∙ sym n.1 ∙ ap (name_of b) same ∙ source_there.name)
 
   pub moved_node : (from : CacheId) (from_page : PageNo) (to : CacheId) (to_page : PageNo) → name_of a d ≡ Live to to_page → name_of a s ≡ Live from from_page
       → IsMovedAlone a (exchanged_many b fresh s 1) from from_page to to_page r

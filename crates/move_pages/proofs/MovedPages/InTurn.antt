@@ -80,7 +80,7 @@ module _ (a : Arena) (d s : NodeId) (span : Span) (can : CanMoveMany a d s span)
           consistent = alone.consistent;
           sizes = sizes_then a b c so_far.moved.sizes alone.sizes;
           room = omega (arith, alone.room, so_far.moved.room);
-          in_turn = (b, (so_far.moved.in_turn, page.bare));
+          in_turn = (b, so_far.moved.in_turn, page.bare);
         };
         same = λ n n_d n_s above.
             page.same n (n_d k (omega arith)) (n_s k (omega arith)) (above k (omega arith))

@@ -31,9 +31,9 @@ module _ (t : Store) (a : Arena) (to : CacheId) (to_page : PageNo) (from : Cache
   all_follow zero b is = subst (λ x. Copied x 0) (sym is) (copies_none false from from_page.0 to to_page.0 t a sound consistent tied)
   all_follow (suc k) b is =
       let c : Arena = is.0 in
-      let so_far : Copied c k = all_follow k c is.1.0 in
+      let so_far : Copied c k = all_follow k c is.1 in
       one_more c b k so_far
-      (bare_copies t c b to (page_after to_page k) from (page_after from_page k) is.1.1 so_far.kept.sound so_far.kept.tied so_far.grows.consistent)
+      (bare_copies t c b to (page_after to_page k) from (page_after from_page k) is.2 so_far.kept.sound so_far.kept.tied so_far.grows.consistent)
 
 -- so many pages of a span, behind those that are done
 pub at_once_follows : (t : Store) (a b : Arena) (span : Span) (done count : ℕ) → IsSound a → IsStoreTied t a → IsConsistent (forest_of a) → IsCopiedAtOnce a b span done count

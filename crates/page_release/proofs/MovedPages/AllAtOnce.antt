@@ -30,11 +30,11 @@ module _ (t : Store) (a : Arena) (from : CacheId) (from_page : PageNo) (to : Cac
   all_follow zero le b is = subst (λ x. Moved x 0) (sym is) (moves_none from from_page.0 to to_page.0 t a sound consistent tied)
   all_follow (suc k) le b is =
       let c : Arena = is.0 in
-      let so_far : Moved c k = all_follow k (omega arith) c is.1.0 in
+      let so_far : Moved c k = all_follow k (omega arith) c is.1 in
       let more : k + 1 ≡ suc k = omega arith in
       subst (Moved b) more
       (moves_more from from_page.0 to to_page.0 k t a t c t b tied so_far
-      (bare_moves t c b from (page_after from_page k) to (page_after to_page k) is.1.1 so_far.kept.sound so_far.kept.tied so_far.grows.consistent
+      (bare_moves t c b from (page_after from_page k) to (page_after to_page k) is.2 so_far.kept.sound so_far.kept.tied so_far.grows.consistent
       (unpinned_kept [] t a t c tied so_far.kept (page_name from (from_page.0 + k)) (out k (omega arith)))
       (named_same a c so_far.kept.sizes from ∙ temporary)))
 

@@ -13,7 +13,7 @@ use Rattle.vm_ids.specs.Forest.NameLists as names
 use Rattle.vm_ids.specs.Forest.Nodes.{IsNode}
 use Rattle.vm_ids.proofs.Forest.Laws.Ranges.{pairs_fill_destinations, pairs_read_sources, ranges_hold_their_pages}
 use Rattle.local_cache.specs.declared.own_state.OwnState.{OwnState}
-use Rattle.local_cache.specs.Arena.{Arena, Cell, HasNode, NodesStay, cell, find, node_at, put}
+use Rattle.local_cache.specs.Arena.{Arena, Cell, NodesStay, cell, find, node_at, put}
 use Rattle.local_cache.specs.Many.{AreNamed, HaveNodes, HaveNone}
 use Rattle.local_cache.specs.ManyNodes.{next_if, next_node}
 use Rattle.local_cache.specs.NodeCells.{exchanged, renewed, tree_of, with_child}
@@ -112,7 +112,7 @@ module _ (a : Arena) (sound : IsSound a) (d s : NodeId) (count : ℕ) (copyable 
         go (Some h) is k less =
             let only : exchanged (next_node d k) None (cell a (next_node s k)).tree ≡ next_node h k ∷ [] = trees k less ∙ ap (λ o. tree_of (next_if o k) None) is in
             elim (exchanged-in (next_node d k) None (cell a (next_node s k)).tree (next_node h k) (subst (λ ms. next_node h k ∈ ms) (sym only) (inl refl))) [
-              | inl no ↦ absurd (cc no)
+              | inl none ↦ absurd (cc none)
               | inr has ↦ sound.kept.children (next_node s k) (next_node h k) (held_s k less) has
             ]
 
@@ -133,22 +133,22 @@ module _ (a : Arena) (sound : IsSound a) (d s : NodeId) (count : ℕ) (copyable 
 
 -- What stays where cells alone are changed
 
+counters_put : (a : Arena) (n : NodeId) (c : Cell) → ((put a n c).room ≡ a.room) × ((put a n c).made ≡ a.made)
+unfolding put
+counters_put a n c = (refl, refl)
+
 module _ (n : NodeId) (change : ℕ → Cell → Cell) where
   room_on : (a : Arena) (k : ℕ) → (on_cells a n change k).room ≡ a.room
   room_on a zero = refl
-  room_on a (suc k) = room_put (on_cells a n change k) (next_node n k) (change k (cell (on_cells a n change k) (next_node n k))) ∙ room_on a k
-    where
-      room_put : (b : Arena) (m : NodeId) (c : Cell) → (put b m c).room ≡ b.room
-      unfolding put
-      room_put b m c = refl
+  room_on a (suc k) =
+      let b : Arena = on_cells a n change k in
+      (counters_put b (next_node n k) (change k (cell b (next_node n k)))).0 ∙ room_on a k
 
   made_on : (a : Arena) (k : ℕ) → (on_cells a n change k).made ≡ a.made
   made_on a zero = refl
-  made_on a (suc k) = made_put (on_cells a n change k) (next_node n k) (change k (cell (on_cells a n change k) (next_node n k))) ∙ made_on a k
-    where
-      made_put : (b : Arena) (m : NodeId) (c : Cell) → (put b m c).made ≡ b.made
-      unfolding put
-      made_put b m c = refl
+  made_on a (suc k) =
+      let b : Arena = on_cells a n change k in
+      (counters_put b (next_node n k) (change k (cell b (next_node n k)))).1 ∙ made_on a k
 
 module _ (a : Arena) (d : NodeId) (state : OwnState) (count : ℕ) where
   pub room_renewed : (parent : Option NodeId) → (renewed_many a parent d state count).room ≡ a.room
@@ -163,13 +163,13 @@ module _ (a : Arena) (d : NodeId) (state : OwnState) (count : ℕ) where
 none_before : (a b : Arena) (n : NodeId) (count : ℕ) → NodesStay a b → HaveNone b n count → HaveNone a n count
 none_before a b n count stays none k less = go (find a (next_node n k)) (find b (next_node n k)) (stays (next_node n k)) (none k less)
   where
+    never : (r : Option Cell) → IsSome r → r ≡ None → ⊥
+    never None some e = absurd (cc some)
+    never (Some c) some e = absurd (cc e)
+
     go : (o r : Option Cell) → (IsSome o → IsSome r) → r ≡ None → o ≡ None
     go None r some e = refl
-    no : (r : Option Cell) → IsSome r → r ≡ None → ⊥
-    no None some e = absurd (cc some)
-    no (Some c) some e = absurd (cc e)
-
-    go (Some c) r some e = absurd (no r (some refl) e)
+    go (Some c) r some e = absurd (never r (some refl) e)
 
 -- the nodes that there may be are there still
 pub if_stay : (a b : Arena) (count : ℕ) → NodesStay a b → (o : Option NodeId) → IfSome o (λ n. HaveNodes a n count) → IfSome o (λ n. HaveNodes b n count)
@@ -181,7 +181,3 @@ pub if_new : (a b : Arena) (w : NodeId) (count : ℕ) → NodesStay a b → coun
     → IfSome o (λ _. HaveNone a w count × (count ≤ a.room.nodes))
 if_new a b w count stays room None none = tt
 if_new a b w count stays room (Some h) none = (none_before a b w count stays none, room)
-
--- the first of many nodes
-pub first_held : (a : Arena) (n : NodeId) (count : ℕ) → 0 < count → HaveNodes a n count → HasNode a n
-first_held a n count some held = let same : n.0 + 0 ≡ n.0 = omega arith in subst (HasNode a) (λ i. record { 0 = same i }) (held 0 some)

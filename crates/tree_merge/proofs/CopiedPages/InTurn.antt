@@ -48,8 +48,8 @@ pairs_more c p d q (suc k) f =
 -- the nodes of one page
 in_page : (ns : List NodeId) (k : ℕ) (n : NodeId) → n ∈ map (λ m. next_node m k) ns → (m : NodeId) × (m ∈ ns) × (n ≡ next_node m k)
 in_page [] k n is = absurd is
-in_page (m ∷ ns) k n (inl e) = (m, (inl refl, e))
-in_page (m ∷ ns) k n (inr is) = let other = in_page ns k n is in (other.0, (inr other.1.0, other.1.1))
+in_page (m ∷ ns) k n (inl e) = (m, inl refl, e)
+in_page (m ∷ ns) k n (inr is) = let other = in_page ns k n is in (other.0, inr other.1, other.2)
 
 -- One page after the other
 
@@ -76,10 +76,10 @@ module _ (a : Arena) (ns : List NodeId) (to : CacheId) (to_page : PageNo) (from 
           sound = alone.sound;
           sizes = sizes_then a b c so_far.copied.sizes (copied_sizes b c to (page_after to_page k) from (page_after from_page k) false _ alone);
           room = omega (arith, page.room, so_far.copied.room);
-          in_turn = (b, (so_far.copied.in_turn, page.bare));
+          in_turn = (b, so_far.copied.in_turn, page.bare);
         };
         same = λ n clear.
-            page.same n (λ is. let m = in_page ns k n is in clear m.0 m.1.0 k (omega arith) m.1.1)
+            page.same n (λ is. let m = in_page ns k n is in clear m.0 m.1 k (omega arith) m.2)
             ∙ so_far.same n (λ m has j less. clear m has j (omega arith));
       }
 
@@ -115,7 +115,7 @@ module _ (a : Arena) (parent history : Option NodeId) (d s w : NodeId) (to : Cac
   held_h h is k less =
       let only : exchanged (next_node d k) None (cell a (next_node s k)).tree ≡ next_node h k ∷ [] = can.trees k less ∙ ap (λ o. tree_of (next_if o k) None) is in
       elim (exchanged-in (next_node d k) None (cell a (next_node s k)).tree (next_node h k) (subst (λ ms. next_node h k ∈ ms) (sym only) (inl refl))) [
-        | inl no ↦ absurd (cc no)
+        | inl none ↦ absurd (cc none)
         | inr has ↦ can.sound.kept.children (next_node s k) (next_node h k) (held_s k less) has
       ]
 

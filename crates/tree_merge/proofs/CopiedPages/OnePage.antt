@@ -83,7 +83,7 @@ parent_of a s None e = let none : Root ≡ TreeOf (name_of a s) = e in absurd (c
 parent_of a s (Some p) e =
     let some : TreeOf (name_of a p) ≡ TreeOf (name_of a s) = e in
     let same : name_of a p ≡ name_of a s = cc some in
-    (p, (refl, same))
+    (p, refl, same)
 
 module _ (a : Arena) (d s : NodeId) (parent history : Option NodeId) (to : CacheId) (to_page : PageNo) (from : CacheId) (from_page : PageNo) (can : CanCopyLeaf a parent history d s to to_page from from_page) where
   -- d among the tree children of the source hangs on it
@@ -95,8 +95,8 @@ module _ (a : Arena) (d s : NodeId) (parent history : Option NodeId) (to : Cache
       sym (ap (λ n. n.hang) (node-forest_of a can.sound.kept.named d can.held_d) ∙ ap (λ l. hang_by a l.parent l.by_stub) can.leaf.links)
       ∙ (can.sound.linked.tree_links (name_of a d) (name_of a s)).0 listed in
       let p = parent_of a s parent hang in
-      let held_p : HasNode a p.0 = can.sound.kept.parents d p.0 can.held_d (ap (λ l. l.parent) can.leaf.links ∙ p.1.0) in
-      p.1.0 ∙ ap Some (can.sound.kept.named.apart p.0 s held_p can.held_s p.1.1)
+      let held_p : HasNode a p.0 = can.sound.kept.parents d p.0 can.held_d (ap (λ l. l.parent) can.leaf.links ∙ p.1) in
+      p.1 ∙ ap Some (can.sound.kept.named.apart p.0 s held_p can.held_s p.2)
 
   -- The node leaves its parent
 
@@ -111,7 +111,7 @@ module _ (a : Arena) (d s : NodeId) (parent history : Option NodeId) (to : Cache
   left_tree = go parent refl
     where
       go : (o : Option NodeId) → parent ≡ o → (cell (cut_from a o d None) s).tree ≡ exchanged d None (cell a s).tree
-      go None is = sym (left_out d (cell a s).tree (λ has. let no : None ≡ Some s = sym is ∙ above has in cc no))
+      go None is = sym (left_out d (cell a s).tree (λ has. let never : None ≡ Some s = sym is ∙ above has in cc never))
       go (Some p) is = elim (id_cases p s) [
         | inl e ↦ subst (λ q. (cell (cut_from a (Some q) d None) s).tree ≡ exchanged d None (cell a s).tree) (sym e)
             (ap (λ (c : Cell). c.tree) (cell-put a s (over (exchanged d None (cell a s).tree) (cell a s))))
@@ -258,7 +258,7 @@ module _ (a : Arena) (d s : NodeId) (parent history : Option NodeId) (to : Cache
 -- The kinds of a copy, for one page
 
 -- a working node is over its two children before it is the source's
-in_order : (x : Arena) (s w h d : NodeId) → s ≢ w
+pub in_order : (x : Arena) (s w h d : NodeId) → s ≢ w
     → set_two (set_one (with_working x w) s w) w h d
     ≡ hung (hung (with_tree (hung (with_tree (with_working x w) w (h ∷ d ∷ [])) w (Some s)) s (w ∷ [])) d (Some w)) h (Some w)
 in_order x s w h d ne =

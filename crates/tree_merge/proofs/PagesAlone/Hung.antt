@@ -58,35 +58,35 @@ module _ (a b : Arena) (sound : IsSound a) (consistent : IsConsistent (forest_of
   from : (cache : CacheId) × (page : PageNo) × (name_of a s ≡ Live cache page)
   from = live_name (name_of a s) pages.live_source
 
-  named : ArePages (forest_of a) (Live to.0 to.1.0) (Live from.0 from.1.0)
-  named = subst (ArePages (forest_of a) (Live to.0 to.1.0)) from.1.1 (subst (λ x. ArePages (forest_of a) x (name_of a s)) to.1.1 pages)
+  named : ArePages (forest_of a) (Live to.0 to.1) (Live from.0 from.1)
+  named = subst (ArePages (forest_of a) (Live to.0 to.1)) from.2 (subst (λ x. ArePages (forest_of a) x (name_of a s)) to.2 pages)
 
-  detached : IsDetachedAlone a b to.0 to.1.0 Absent r
-  detached = is to.0 to.1.0 to.1.1
+  detached : IsDetachedAlone a b to.0 to.1 Absent r
+  detached = is to.0 to.1 to.2
 
   pub renewed_sound : IsSound b
   renewed_sound = detached.sound
 
   pub renewed_bare : node (forest_of b) (name_of b fresh) ≡ childless None Root
-  renewed_bare = bare_d a b sound consistent d s held_s fresh r to.0 to.1.0 from.0 from.1.0 named from.1.1 detached (at to.0 to.1.0 to.1.1)
+  renewed_bare = bare_d a b sound consistent d s held_s fresh r to.0 to.1 from.0 from.1 named from.2 detached (at to.0 to.1 to.2)
 
   pub renewed_apart : fresh ≢ s
-  renewed_apart = apart_d a b sound consistent d s held_s fresh r to.0 to.1.0 from.0 from.1.0 named from.1.1 detached (at to.0 to.1.0 to.1.1)
+  renewed_apart = apart_d a b sound consistent d s held_s fresh r to.0 to.1 from.0 from.1 named from.2 detached (at to.0 to.1 to.2)
 
   pub renewed_held : HasNode b fresh
-  renewed_held = held_d a b sound consistent d s held_s fresh r to.0 to.1.0 from.0 from.1.0 named from.1.1 detached (at to.0 to.1.0 to.1.1)
+  renewed_held = held_d a b sound consistent d s held_s fresh r to.0 to.1 from.0 from.1 named from.2 detached (at to.0 to.1 to.2)
 
   pub source_held : HasNode b s
-  source_held = (detached_there a b sound to.0 to.1.0 Absent r detached s held_s (λ e. named.apart (sym e ∙ from.1.1))).held ∙ held_s
+  source_held = (detached_there a b sound to.0 to.1 Absent r detached s held_s (λ e. named.apart (sym e ∙ from.2))).held ∙ held_s
 
   pub source_live : is_live (name_of b s) ≡ true
-  source_live = ap is_live (name_s a b sound consistent d s held_s fresh r to.0 to.1.0 from.0 from.1.0 named from.1.1 detached (at to.0 to.1.0 to.1.1))
+  source_live = ap is_live (name_s a b sound consistent d s held_s fresh r to.0 to.1 from.0 from.1 named from.2 detached (at to.0 to.1 to.2))
 
   pub renewed_made : b.made ≤ a.made + 1
-  renewed_made = made_d a b sound consistent d s held_s fresh r to.0 to.1.0 from.0 from.1.0 named from.1.1 detached (at to.0 to.1.0 to.1.1)
+  renewed_made = made_d a b sound consistent d s held_s fresh r to.0 to.1 from.0 from.1 named from.2 detached (at to.0 to.1 to.2)
 
   pub renewed_room : a.room.nodes ≤ b.room.nodes + 1
-  renewed_room = detached_room a b to.0 to.1.0 Absent r detached
+  renewed_room = detached_room a b to.0 to.1 Absent r detached
 
   -- it is hung on the source's: the page is copied
   pub hung_alone : (is_small : Bool) (c : Arena) → IsHung is_small b c (name_of b fresh) (name_of b s) → IsSound c

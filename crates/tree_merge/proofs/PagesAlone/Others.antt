@@ -19,7 +19,7 @@ use Rattle.tree_merge.proofs.CopiedPages.Changes.{cell_by, find-new_other}
 
 -- the name of a page
 pub live_name : (x : NodeName) → is_live x ≡ true → (cache : CacheId) × (page : PageNo) × (x ≡ Live cache page)
-live_name (Live cache page) live = (cache, (page, refl))
+live_name (Live cache page) live = (cache, page, refl)
 live_name (Working k) live = absurd (false≢true live)
 
 -- a node is there still, under its name
@@ -38,7 +38,7 @@ retired_there : (a b : Arena) (n : NodeId) (r : Released) → IsRetired a b n r 
 retired_there a b n r is m ne = go (child_count (forest_of a) (name_of a n)) refl
   where
     go : (k : ℕ) → child_count (forest_of a) (name_of a n) ≡ k → IsThere a b m
-    go zero e = let gone = (is.leaf e).1 in record { held = gone.0.held m ne; name = gone.0.name m ne }
+    go zero e = let gone = (is.leaf e).1 in record { held = gone.held m ne; name = gone.name m ne }
     go (suc k) e =
         there_by_find a b m
         (ap (λ (x : Arena). find x m) (is.parent (omega arith)).1 ∙ find-put_other a n m (record (cell a n) { name = Working (a.made + 1) }) ne)

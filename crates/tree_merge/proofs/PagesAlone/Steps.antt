@@ -38,5 +38,5 @@ copied_all a b span done count large all = record {
   sound = all.sound;
   sizes = all.sizes;
   room = omega (arith, all.room);
-  how = inl (refl, (large, all));
+  how = inl (refl, large, all);
 }

@@ -44,7 +44,7 @@ move_alike-requires-clause-can c =
     let part = part_of s k many.result in
     let can = can_move c.args.caches.now c.requires.sound s k c.requires.can c.node_of-node.result c.node_of-source.result c.node_of-node.ensures c.node_of-source.ensures many.result
     (many.ensures.leaves (omega (arith, c.if-pages-gt1.true))) (many.ensures.alike (omega (arith, c.if-pages-gt1.true))) c.requires.consistent many.ensures.most in
-    (part, (refl, subst (λ (x : Arena). CanMoveMany x c.node_of-node.result c.node_of-source.result part) (sym many.ensures.same) can))
+    (part, refl, subst (λ (x : Arena). CanMoveMany x c.node_of-node.result c.node_of-source.result part) (sym many.ensures.same) can)
 
 pub returns-then-pages-gt1-clause-forest : goal.returns-then-pages-gt1-clause-forest
 returns-then-pages-gt1-clause-forest c =

@@ -48,7 +48,7 @@ pub copy_ready-requires-clause-source : goal.copy_ready-requires-clause-source
 copy_ready-requires-clause-source c =
     let s = c.args.span in
     let named = (c.requires.sound.kept.listed.nodes s.from.0 (s.from_page.0 + c.args.done) c.node_of-source.result c.node_of-source.ensures).1 in
-    (s.from, (page_after s.from_page c.args.done, ap (λ (x : Arena). name_of x c.node_of-source.result) c.copied_at_once-pages.ensures.same ∙ named))
+    (s.from, page_after s.from_page c.args.done, ap (λ (x : Arena). name_of x c.node_of-source.result) c.copied_at_once-pages.ensures.same ∙ named)
 
 pub copy_ready-requires-clause-room : goal.copy_ready-requires-clause-room
 copy_ready-requires-clause-room c =
