@@ -27,7 +27,6 @@ use Rattle.local_cache.proofs.Nodes.Cells.{cell-put, find-put_other, held-new, s
 use Rattle.page_stubs.specs.Threading.{loose}
 use Rattle.page_stubs.proofs.Lists.NoStubs.{no_stubs, same_links}
 use Rattle.history_tree.proofs.OnCells.{here, on_swap}
-use Rattle.tree_merge.specs.declared.released.Released.{Released}
 use Rattle.tree_merge.specs.declared.released.Released.TheVariants.{Dropped, Nothing}
 use Rattle.tree_merge.specs.Releasing.{IsRetired}
 use Rattle.tree_merge.specs.Staying.{HasLeft}

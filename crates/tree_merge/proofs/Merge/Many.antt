@@ -3,10 +3,8 @@
 use Rattle.std.proofs.Common.{◌≡◌, ◌≢◌, ℕ, zero, suc, ◌+◌, ◌<◌, ◌≤◌, Bool, true, false, cond, List, [], ◌∷◌, length, map, Option, Some, None, is_some, refl, sym, ap, ◌∙◌, subst, arith, inl, ltb}
 use Rattle.std.specs.Prelude.{IfSome, slice_get, ◌==◌}
 use Rattle.std.specs.List.{cons_option}
-use Rattle.vm_ids.specs.declared.node_name.NodeName.{NodeName}
 use Rattle.vm_ids.specs.declared.node_name.NodeName.TheVariants.{Working}
 use Rattle.vm_ids.specs.declared.numbers.NodeId.{NodeId}
-use Rattle.vm_ids.specs.Forest.Settling.{thin}
 use Rattle.local_cache.specs.declared.own_state.OwnState.{OwnState}
 use Rattle.local_cache.specs.Arena.{Arena, Cell, HasNode, cell, find, no_links, without}
 use Rattle.local_cache.specs.Many.{HaveNodes, IsPlain, without_many}
@@ -14,7 +12,7 @@ use Rattle.local_cache.specs.ManyNodes.{each, next_if, next_node}
 use Rattle.local_cache.specs.NodeCells.{exchanged, inheriting, with_child}
 use Rattle.local_cache.specs.OnCells.{cut_from, given_way, on_cell, on_cells}
 use Rattle.local_cache.specs.Own.{own_of}
-use Rattle.local_cache.specs.Reading.{forest_of, name_of}
+use Rattle.local_cache.specs.Reading.{name_of}
 use Rattle.local_cache.specs.Sound.{IsSound, ◌∈◌}
 use Rattle.local_cache.specs.Thin.{IsLeastThin, IsThin, has_few}
 use Rattle.local_cache.proofs.Forest.ThinForest.{thin-forest}
@@ -23,11 +21,11 @@ use Rattle.history_tree.proofs.OnCells.{here, on_keeps}
 use Rattle.tree_merge.specs.declared.released.Released.{Released}
 use Rattle.tree_merge.specs.Copying.{AreApart}
 use Rattle.tree_merge.specs.Releasing.{IsMerged, released_to}
-use Rattle.tree_merge.specs.Settling.{AreMergedPlain, CanGiveMany, IsMergedPlain, exchanged_many, given_many}
+use Rattle.tree_merge.specs.Settling.{AreMergedPlain, CanGiveMany, exchanged_many, given_many}
 use Rattle.tree_merge.specs.Staying.{IsGone}
 use Rattle.tree_merge.proofs.CopiedPages.Changes.{cell_by, find-without_other}
 use Rattle.tree_merge.proofs.CopiedPages.Kinds.{Kind, each_kind, on, on_on}
-use Rattle.tree_merge.proofs.CopiedPages.Rows.{Pass, pass_apart}
+use Rattle.tree_merge.proofs.CopiedPages.Rows.{pass_apart}
 use Rattle.tree_merge.proofs.Merge.Once.{once_merged, once_sound}
 use Rattle.tree_merge.proofs.RetiredPages.Leaves.{gone, on_gone}
 

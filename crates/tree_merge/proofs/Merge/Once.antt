@@ -1,15 +1,13 @@
 -- The thin node with the least number gives way to its only child by one call.
-use Rattle.std.proofs.Common.{◌≡◌, ◌<◌, Bool, true, false, cond, List, [], ◌∷◌, map, Option, Some, None, option_map, refl, sym, ap, ◌∙◌, subst, inl}
+use Rattle.std.proofs.Common.{◌≡◌, Bool, true, false, cond, List, [], ◌∷◌, Option, Some, None, option_map, refl, sym, ap, ◌∙◌, subst, inl}
 use Rattle.std.specs.Prelude.{slice_get}
 use Rattle.std.specs.Option.{option_or}
-use Rattle.vm_ids.specs.declared.node_name.NodeName.{NodeName}
 use Rattle.vm_ids.specs.declared.numbers.NodeId.{NodeId}
 use Rattle.vm_ids.specs.Forest.NameLists as names
-use Rattle.vm_ids.specs.Forest.Nodes.{child_count, node, parent}
+use Rattle.vm_ids.specs.Forest.Nodes.{node, parent}
 use Rattle.vm_ids.specs.Forest.Nodes.Hang.{TreeOf}
-use Rattle.vm_ids.specs.Forest.Settling.{settle_step}
 use Rattle.local_cache.specs.declared.own_state.OwnState.{OwnState}
-use Rattle.local_cache.specs.Arena.{Arena, Cell, HasNode, cell, hung, put, with_own}
+use Rattle.local_cache.specs.Arena.{Arena, HasNode, cell, hung, put, with_own}
 use Rattle.local_cache.specs.NodeCells.{hanging, inheriting, owning, with_child}
 use Rattle.local_cache.specs.OnCells.{cut_from, given_way, on_cell}
 use Rattle.local_cache.specs.Own.{is_absent, own_of}

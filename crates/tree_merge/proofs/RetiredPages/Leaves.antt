@@ -6,7 +6,7 @@ use Rattle.vm_ids.specs.declared.numbers.CacheId.{CacheId}
 use Rattle.vm_ids.specs.declared.numbers.NodeId.{NodeId}
 use Rattle.vm_ids.specs.declared.numbers.PageNo.{PageNo}
 use Rattle.local_cache.specs.Arena.{Arena, Cell, HasNode, cell, find, node_at, without}
-use Rattle.local_cache.specs.Many.{HaveNodes, without_many}
+use Rattle.local_cache.specs.Many.{HaveNodes}
 use Rattle.local_cache.specs.ManyNodes.{each, next_if, next_node}
 use Rattle.local_cache.specs.OnCells.{cut_from}
 use Rattle.local_cache.specs.Own.{own_of}
@@ -14,7 +14,7 @@ use Rattle.local_cache.specs.Reading.{name_of}
 use Rattle.local_cache.specs.Sound.{IsSound}
 use Rattle.local_cache.proofs.Nodes.Cells.{find-put_other}
 use Rattle.tree_merge.specs.declared.released.Released.TheVariants.{Dropped}
-use Rattle.tree_merge.specs.Copying.{IsEmpty, IsLeafOf, left_many, page_after}
+use Rattle.tree_merge.specs.Copying.{IsEmpty, IsLeafOf, page_after}
 use Rattle.tree_merge.specs.Retiring.{CanRetireMany, retired_many}
 use Rattle.tree_merge.specs.Stepping.{AreRetired, AreRetiredBare, IsRetiredBare}
 use Rattle.tree_merge.proofs.CopiedPages.Changes.{cell_by, change_without, find-without_other}

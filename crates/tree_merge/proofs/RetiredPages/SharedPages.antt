@@ -1,10 +1,10 @@
 -- Pages are retired at once on which others hang: their nodes become working nodes.
-use Rattle.std.proofs.Common.{◌≡◌, ◌≢◌, ℕ, zero, suc, ◌+◌, ◌<◌, ◌≤◌, Some, is_some, refl, sym, ap, ◌∙◌, subst, arith}
+use Rattle.std.proofs.Common.{◌≡◌, ℕ, zero, suc, ◌+◌, ◌<◌, ◌≤◌, Some, is_some, refl, sym, ap, ◌∙◌, subst, arith}
 use Rattle.vm_ids.specs.declared.node_name.NodeName.TheVariants.{Live}
 use Rattle.vm_ids.specs.declared.numbers.CacheId.{CacheId}
 use Rattle.vm_ids.specs.declared.numbers.NodeId.{NodeId}
 use Rattle.vm_ids.specs.declared.numbers.PageNo.{PageNo}
-use Rattle.local_cache.specs.Arena.{Arena, Cell, HasNode, as_working, cell, find, node_at}
+use Rattle.local_cache.specs.Arena.{Arena, Cell, HasNode, cell, find, node_at}
 use Rattle.local_cache.specs.Many.{as_working_many}
 use Rattle.local_cache.specs.ManyNodes.{next_node}
 use Rattle.local_cache.specs.Own.{own_of}
@@ -17,7 +17,7 @@ use Rattle.tree_merge.specs.Sharing.{CanShareMany, HasTreeChild}
 use Rattle.tree_merge.specs.Stepping.{AreRetired, AreRetiredBare, IsRetiredBare}
 use Rattle.tree_merge.proofs.CopiedPages.Changes.{cell_by}
 use Rattle.tree_merge.proofs.RetiredPages.InTurn.{all_retired, retired_bare}
-use Rattle.tree_merge.proofs.RetiredPages.SharedPage.{CanSharePage, shared_alone}
+use Rattle.tree_merge.proofs.RetiredPages.SharedPage.{shared_alone}
 
 module _ (a : Arena) (d : NodeId) (cache : CacheId) (page : PageNo) (count : ℕ) (can : CanShareMany a d cache page count) where
   abbrev done : ℕ → Arena

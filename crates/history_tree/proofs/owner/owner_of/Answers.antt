@@ -1,4 +1,3 @@
-use Rattle.std.proofs.Common.{subst}
 use Rattle.history_tree.proofs.Owners.{owner_held, owner_named, owner_there, page_there}
 use Rattle.history_tree.proofs.owner.owner_of.Goals as goal
 

@@ -1,4 +1,4 @@
-use Rattle.std.proofs.Common.{ap, rules}
+use Rattle.std.proofs.Common.{rules}
 use Rattle.tree_merge.proofs.Leaving.Left.{left_went}
 use Rattle.tree_merge.proofs.retiring.drop_node.Goals as goal
 

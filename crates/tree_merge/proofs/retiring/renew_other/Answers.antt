@@ -1,14 +1,12 @@
-use Rattle.std.proofs.Common.{◌≡◌, ◌<◌, [], true, false, None, sym, ap, subst, ◌∙◌, arith}
+use Rattle.std.proofs.Common.{◌≡◌, true, false, sym, subst, ◌∙◌}
 use Rattle.vm_ids.specs.declared.numbers.NodeId.{NodeId}
 use Rattle.vm_ids.specs.declared.node_name.NodeName.TheVariants.{Live, Working}
 use Rattle.vm_ids.specs.declared.node_name.NodeName.{NodeName}
-use Rattle.vm_ids.specs.Forest.Nodes.{child_count, is_live}
+use Rattle.vm_ids.specs.Forest.Nodes.{is_live}
 use Rattle.local_cache.specs.declared.own_state.OwnState.{OwnState}
-use Rattle.local_cache.specs.Arena.{Arena, cell}
+use Rattle.local_cache.specs.Arena.{Arena}
 use Rattle.local_cache.specs.NodeCells.{is_page, renewed}
 use Rattle.local_cache.specs.OnCells.{on_cell, on_cells}
-use Rattle.local_cache.specs.Own.{own_of}
-use Rattle.local_cache.specs.Reading.{forest_of, name_of}
 use Rattle.history_tree.proofs.OnCells.{here, one_held}
 use Rattle.tree_merge.specs.Stepping.{IsDetachedAlone}
 use Rattle.tree_merge.specs.declared.released.Released.TheVariants.{Dropped}

@@ -1,8 +1,6 @@
-use Rattle.std.proofs.Common.{◌≡◌, ap, ◌∙◌, sym, subst}
-use Rattle.vm_ids.specs.declared.numbers.NodeId.{NodeId}
-use Rattle.local_cache.specs.Arena.{Arena, cell}
+use Rattle.std.proofs.Common.{ap, ◌∙◌, sym, subst}
+use Rattle.local_cache.specs.Arena.{Arena}
 use Rattle.local_cache.specs.Many.{as_working_many, without_many}
-use Rattle.tree_merge.specs.Copying.{left_many}
 use Rattle.tree_merge.specs.Stepping.{AreRetired}
 use Rattle.tree_merge.proofs.RetiredPages.AtOnce.{leaves_at_once, shared_at_once}
 use Rattle.tree_merge.proofs.RetiredPages.Leaves.{parents_held}

@@ -1,4 +1,4 @@
-use Rattle.std.proofs.Common.{◌≡◌, ◌+◌, ◌≤◌, ◌^◌, Option, refl, sym, ap, ◌∙◌, subst, inl}
+use Rattle.std.proofs.Common.{◌+◌, ◌≤◌, ◌^◌, Option, refl, sym, subst, inl}
 use Rattle.std.specs.Prelude.{IfSome}
 use Rattle.vm_ids.specs.declared.numbers.NodeId.{NodeId}
 use Rattle.local_cache.specs.Many.{HaveNodes, IsPlain}

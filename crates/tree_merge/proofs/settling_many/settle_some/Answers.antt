@@ -1,4 +1,4 @@
-use Rattle.std.proofs.Common.{refl, sym, subst}
+use Rattle.std.proofs.Common.{refl, subst}
 use Rattle.local_cache.specs.Thin.{IsLeastThin}
 use Rattle.tree_merge.proofs.Merge.Step.{none_thin}
 use Rattle.tree_merge.proofs.settling_many.settle_some.Goals as goal

@@ -1,4 +1,4 @@
-use Rattle.std.proofs.Common.{◌≡◌, ◌+◌, ◌*◌, ◌<◌, ◌≤◌, ◌^◌, true, Some, sym, ap, ◌∙◌, subst, arith}
+use Rattle.std.proofs.Common.{◌≡◌, true, Some, sym, ap, ◌∙◌, subst, arith}
 use Rattle.vm_ids.specs.Forest.Nodes.{is_live}
 use Rattle.local_cache.specs.Arena.{Arena, HasNode, node_at}
 use Rattle.local_cache.specs.Reading.{name_of}
