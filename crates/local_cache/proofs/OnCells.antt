@@ -6,3 +6,7 @@ pub mod Cells
 pub mod One
 -- A node's tree children after one of them went or gave its place to another.
 pub mod Children
+-- A cell that is changed: the forest that is read then, and that the caches are kept.
+pub mod Linked
+-- A node that is renewed, and one that gets another one's name, as new ones.
+pub mod AsNew
