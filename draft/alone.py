@@ -77,7 +77,7 @@ def main():
         at = given.index("--read")
         answers = f"{crate}/proofs/caches/Caches/caches_made/Answers.antt"
         text = open(answers).read()
-        open(answers, "w").write(f"use Rattle.local_cache.proofs.{given[at + 1]} as read{at}\n" + text)
+        open(answers, "w").write(f"use Rattle.local_cache.proofs.{given[at + 1]} as read_{given[at + 1].replace('.', '_')}\n" + text)
         del given[at : at + 2]
     libs = {"least_heap": "std", "linear_index": "std", "stretches": "std", "mixed_map": "std,stretches,linear_index"}
     args = [f"{KIT}/bin/rattle", "check", "--crate-name", "local_cache", "src/lib.rt", "--extern", f"std={KIT}/rlibs/std.rlib",

@@ -11,3 +11,5 @@ pub mod WorkingName
 pub mod Homes
 -- Nodes of pages under each other's names.
 pub mod Exchanged
+-- Nodes of so many pages under each other's names.
+pub mod ExchangedMany

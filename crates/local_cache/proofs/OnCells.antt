@@ -10,3 +10,9 @@ pub mod Children
 pub mod Linked
 -- A node that is renewed, and one that gets another one's name, as new ones.
 pub mod AsNew
+-- The node of a page is renewed, or the page gets another one: the rule of detaching.
+pub mod Detached
+-- A node gives way to its only child: a step of settle.
+pub mod GivenWay
+-- Many cells changed, one after the other: the forest that is read then.
+pub mod Many

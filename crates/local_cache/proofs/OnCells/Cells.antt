@@ -66,7 +66,7 @@ module _ (a : Arena) (n : NodeId) (f : Cell → Cell) where
 
 -- Many
 
-next_apart : (n : NodeId) (j k : ℕ) → j ≢ k → next_node n j ≢ next_node n k
+pub next_apart : (n : NodeId) (j k : ℕ) → j ≢ k → next_node n j ≢ next_node n k
 next_apart n j k other e =
     let number : n.0 + j ≡ n.0 + k = λ i. (e i).0 in
     other (let is : j ≡ k = omega (arith, number) in is)

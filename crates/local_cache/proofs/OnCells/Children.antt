@@ -56,8 +56,8 @@ exchanged-out n o (k ∷ ms) other i = elim (in_cons (in_place n o k) (exchanged
 
 -- the names with another one, or none, in the place of one
 abbrev pub names_instead : NodeName → Option NodeName → List NodeName → List NodeName
-names_instead x None xs = names.without x xs
-names_instead x (Some y) xs = map (renamed x y) xs
+names_instead x None = names.without x
+names_instead x (Some y) = map (renamed x y)
 
 module _ (a : Arena) (named : AreNamesApart a) (n : NodeId) (hn : HasNode a n) where
   name_apart : (m : NodeId) → HasNode a m → m ≢ n → same (name_of a n) (name_of a m) ≡ false
