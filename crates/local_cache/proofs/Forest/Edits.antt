@@ -1,27 +1,68 @@
 -- Nodes of a forest edited one after the other, and the rules of which they are.
-use Rattle.std.proofs.Common.{◌≡◌, ◌≢◌, ℕ, zero, suc, ◌+◌, List, [], ◌∷◌, ◌++◌, map, Bool, true, false, cond, ◌&&◌, Option, Some, None, is_some, refl, sym, ap, ap₂, ◌∙◌, inl, inr}
+use Rattle.std.proofs.Common.{◌≡◌, ◌≢◌, ℕ, zero, suc, ◌+◌, List, [], ◌∷◌, ◌++◌, map, Bool, true, false, cond, ◌&&◌, Option, Some, None, is_some, option_map, refl, sym, ap, ap₂, ◌∙◌, inl, inr}
 use Rattle.std.specs.Option.{option_or}
 use Rattle.vm_ids.specs.declared.node_name.NodeName.{NodeName}
-use Rattle.vm_ids.specs.Forest.Names.{Working, same}
-use Rattle.vm_ids.specs.Forest.NameLists.{first, renamed, without}
+use Rattle.vm_ids.specs.declared.node_name.NodeName.TheVariants.{Working}
+use Rattle.vm_ids.specs.Forest.Names.{same}
+use Rattle.vm_ids.specs.Forest.NameLists.{first, renamed, swapped, without}
 use Rattle.vm_ids.specs.Forest.NameMap.{get}
 use Rattle.vm_ids.specs.Forest.Nodes.{Forest, Hang, Node, child_count, childless, is_stub, node}
 use Rattle.vm_ids.specs.Forest.Nodes.Hang.{Root, TreeOf, StubOf}
-use Rattle.vm_ids.specs.Forest.Changes.{count_working, cut, edit, free, put, relist, rename, with_hang, with_own, with_tree}
-use Rattle.vm_ids.specs.Forest.Rules.{detach, retire}
+use Rattle.vm_ids.specs.Forest.Changes.{count_working, cut, edit, free, put, relist, rename, swapped_hang, swapped_node, with_hang, with_own, with_tree}
+use Rattle.vm_ids.specs.Forest.Rules.{detach, move_page, retire}
 use Rattle.vm_ids.specs.Forest.Settling.{give_way, pass_page, settle_step, take_place}
-use Rattle.vm_ids.proofs.Forest.Counters.{free-counters, put-counters}
+use Rattle.vm_ids.proofs.Forest.Counters.{free-counters, put-counters, rename-counters}
 use Rattle.vm_ids.proofs.Forest.Cutting.{cut-hang_other, cut-own}
+use Rattle.vm_ids.proofs.Forest.Detaching.{swapped_a, swapped_b, swapped_other}
 use Rattle.vm_ids.proofs.Forest.Names.{name_cases, same_apart, same_itself}
 use Rattle.vm_ids.proofs.Forest.NodesAfter.{keeps, node-put, node-put_other}
-use Rattle.vm_ids.proofs.Forest.PageMap.{get-free, get-put, same_forest}
+use Rattle.vm_ids.proofs.Forest.PageMap.{get-free, get-put, get-rename, same_forest}
+
+-- Choices, and names
+
+twice : {X : Type 0} (b : Bool) (u v w : X) → cond b u (cond b v w) ≡ cond b u w
+twice true u v w = refl
+twice false u v w = refl
+
+either : {X : Type 0} (b c : Bool) (u v w : X) → (b ≡ true → c ≡ true → ⊥) → cond c u (cond b v w) ≡ cond b v (cond c u w)
+either true true u v w apart = absurd (apart refl refl)
+either true false u v w apart = refl
+either false true u v w apart = refl
+either false false u v w apart = refl
+
+not_both : (x y z : NodeName) → x ≢ y → same z x ≡ true → same z y ≡ true → ⊥
+not_both x y z apart at_x at_y = elim (name_cases z x) [
+  | inl e ↦ (let other = same_apart x y apart in cc (at_y, other, ap (λ k. same k y) e))
+  | inr d ↦ (let other = same_apart z x d in cc (at_x, other))
+]
+
+swapped_back : (a b : NodeName) → a ≢ b → (z : NodeName) → swapped a b z ≡ swapped b a z
+swapped_back a b apart z = elim (name_cases z a) [
+  | inl e ↦ ap (swapped a b) e ∙ swapped_a a b ∙ sym (ap (swapped b a) e ∙ swapped_b b a apart)
+  | inr d ↦ elim (name_cases z b) [
+    | inl e ↦ ap (swapped a b) e ∙ swapped_b a b (λ q. apart (sym q)) ∙ sym (ap (swapped b a) e ∙ swapped_a b a)
+    | inr f ↦ swapped_other a b z d f ∙ sym (swapped_other b a z f d)
+  ]
+]
+
+hang_back : (a b : NodeName) → a ≢ b → (h : Hang) → swapped_hang a b h ≡ swapped_hang b a h
+hang_back a b apart Root = refl
+hang_back a b apart (TreeOf p) = ap TreeOf (swapped_back a b apart p)
+hang_back a b apart (StubOf p) = ap StubOf (swapped_back a b apart p)
+
+same_swapped : (s d : NodeName) → s ≢ d → (z : NodeName) → same (swapped s d z) d ≡ same z s
+same_swapped s d apart z = elim (name_cases z s) [
+  | inl e ↦ ap (λ k. same (swapped s d k) d) e ∙ ap (λ k. same k d) (swapped_a s d) ∙ same_itself d ∙ sym (ap (λ k. same k s) e ∙ same_itself s)
+  | inr f ↦ elim (name_cases z d) [
+    | inl e ↦
+        ap (λ k. same (swapped s d k) d) e ∙ ap (λ k. same k d) (swapped_b s d (λ q. apart (sym q))) ∙ same_apart s d apart
+        ∙ sym (ap (λ k. same k s) e ∙ same_apart d s (λ q. apart (sym q)))
+    | inr g ↦ ap (λ k. same k d) (swapped_other s d z f g) ∙ same_apart z d g ∙ sym (same_apart z s f)
+  ]
+]
 
 module _ {P : Type 0} where
   -- of two that are put under one name the second one counts
-  twice : {X : Type 0} (b : Bool) (u v w : X) → cond b u (cond b v w) ≡ cond b u w
-  twice true u v w = refl
-  twice false u v w = refl
-
   pub put-again : (f : Forest P) (x : NodeName) (m n : Node P) → put (put f x m) x n ≡ put f x n
   put-again f x m n =
       let one = put-counters f x n in
@@ -46,19 +87,7 @@ module _ {P : Type 0} where
       same_forest _ _ (λ z. get-free (put f x n) x z ∙ ap (cond (same z x) None) (get-put f x n z) ∙ twice (same z x) None (Some n) (get f.nodes z) ∙ sym (get-free f x z))
       (two.made ∙ before.made ∙ sym one.made) (two.copies ∙ before.copies ∙ sym one.copies)
 
-  -- and those under two names can be put in either order
-  either : {X : Type 0} (b c : Bool) (u v w : X) → (b ≡ true → c ≡ true → ⊥) → cond c u (cond b v w) ≡ cond b v (cond c u w)
-  either true true u v w apart = absurd (apart refl refl)
-  either true false u v w apart = refl
-  either false true u v w apart = refl
-  either false false u v w apart = refl
-
-  not_both : (x y z : NodeName) → x ≢ y → same z x ≡ true → same z y ≡ true → ⊥
-  not_both x y z apart at_x at_y = elim (name_cases z x) [
-    | inl e ↦ (let other = same_apart x y apart in cc (at_y, other, ap (λ k. same k y) e))
-    | inr d ↦ (let other = same_apart z x d in cc (at_x, other))
-  ]
-
+  -- those under two names can be put in either order
   pub put-swap : (f : Forest P) (x y : NodeName) (m n : Node P) → x ≢ y → put (put f x m) y n ≡ put (put f y n) x m
   put-swap f x y m n apart =
       let one = put-counters f x m in
@@ -103,12 +132,12 @@ module _ {P : Type 0} where
   unfolding detach
   detach-cut f x v none = ap (λ g. put g x (childless v Root)) (retire-leaf f x none) ∙ put-freed (cut f x) x (childless v Root)
 
+  cut-put : (f : Forest P) (x : NodeName) (n : Node P) → put (cut f x) x n ≡ put (relist f (node f x).hang (without x)) x n
+  unfolding cut
+  cut-put f x n = put-again (relist f (node f x).hang (without x)) x _ n
+
   pub detach-leaf : (f : Forest P) (x : NodeName) (v : Option P) → child_count f x ≡ 0 → detach f x v ≡ put (relist f (node f x).hang (without x)) x (childless v Root)
-  detach-leaf f x v none = detach-cut f x v none ∙ cut_again
-    where
-      cut_again : put (cut f x) x (childless v Root) ≡ put (relist f (node f x).hang (without x)) x (childless v Root)
-      unfolding cut
-      cut_again = put-again (relist f (node f x).hang (without x)) x _ (childless v Root)
+  detach-leaf f x v none = detach-cut f x v none ∙ cut-put f x (childless v Root)
 
   -- The rule of settling a node with a tree child alone, that hangs by no stub link
 
@@ -197,3 +226,48 @@ module _ {P : Type 0} where
           ∙ edit-gone (edit (relist passed (node passed x).hang ren) y (with_hang (node passed x).hang)) x (with_hang Root)
           ∙ ap (λ h. free (edit (relist passed h ren) y (with_hang h)) x) passed_hang
           ∙ under (node f x).hang by_tree far
+
+  -- The rule of moving a page
+
+  node_back : (a b : NodeName) → a ≢ b → (o : Option (Node P)) → option_map (swapped_node a b) o ≡ option_map (swapped_node b a) o
+  node_back a b apart None = refl
+  node_back a b apart (Some m) = λ i. Some (record {
+    own = m.own;
+    hang = hang_back a b apart m.hang i;
+    tree = map (λ z. swapped_back a b apart z i) m.tree;
+    stubs = map (λ z. swapped_back a b apart z i) m.stubs;
+  })
+
+  -- two names are exchanged, in either order
+  pub rename-back : (f : Forest P) (a b : NodeName) → a ≢ b → rename f a b ≡ rename f b a
+  rename-back f a b apart =
+      let one = rename-counters f a b in
+      let other = rename-counters f b a in
+      same_forest _ _ (λ z.
+      get-rename f a b z ∙ ap (λ k. option_map (swapped_node a b) (get f.nodes k)) (swapped_back a b apart z)
+      ∙ node_back a b apart (get f.nodes (swapped b a z)) ∙ sym (get-rename f b a z))
+      (one.made ∙ sym other.made) (one.copies ∙ sym other.copies)
+
+  of_cond : (b : Bool) (a c : NodeName) (v : Option P) (o : Option (Node P)) → option_map (swapped_node a c) (cond b (Some (childless v Root)) o) ≡ cond b (Some (childless v Root)) (option_map (swapped_node a c) o)
+  of_cond true a c v o = refl
+  of_cond false a c v o = refl
+
+  put_renamed : (g : Forest P) (s d : NodeName) → s ≢ d → (v : Option P) → rename (put g d (childless v Root)) s d ≡ put (rename g s d) s (childless v Root)
+  put_renamed g s d apart v =
+      let c : Node P = childless v Root in
+      let before = put-counters g d c in
+      let one = rename-counters (put g d c) s d in
+      let under = rename-counters g s d in
+      let two = put-counters (rename g s d) s c in
+      same_forest _ _ (λ z.
+      get-rename (put g d c) s d z
+      ∙ ap (option_map (swapped_node s d)) (get-put g d c (swapped s d z))
+      ∙ of_cond (same (swapped s d z) d) s d v (get g.nodes (swapped s d z))
+      ∙ ap₂ (λ b o. cond b (Some c) o) (same_swapped s d apart z) (sym (get-rename g s d z))
+      ∙ sym (get-put (rename g s d) s c z))
+      (one.made ∙ before.made ∙ sym (two.made ∙ under.made)) (one.copies ∙ before.copies ∙ sym (two.copies ∙ under.copies))
+
+  -- the destination gets a page of zeros, and then both names are exchanged
+  pub move-exchanged : (f : Forest P) (d s : NodeName) (zeros : P) → s ≢ d → rename (detach f d (Some zeros)) d s ≡ move_page f d s zeros
+  unfolding detach
+  move-exchanged f d s zeros apart = rename-back (detach f d (Some zeros)) d s (λ e. apart (sym e)) ∙ put_renamed (retire f d) s d apart (Some zeros)
