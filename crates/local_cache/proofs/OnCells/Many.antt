@@ -14,7 +14,7 @@ use Rattle.local_cache.specs.Changes.{Like}
 use Rattle.local_cache.specs.Many.{HaveNodes}
 use Rattle.local_cache.specs.ManyNodes.{each, next_if, next_node}
 use Rattle.local_cache.specs.NodeCells.{inheriting, renewed, with_child}
-use Rattle.local_cache.specs.OnCells.{on_cells}
+use Rattle.local_cache.specs.OnCells.{on_cell, on_cells}
 use Rattle.local_cache.specs.Reading.{forest_of, hang_by, name_of, page_of}
 use Rattle.local_cache.specs.Sound.{IsKept}
 use Rattle.local_cache.proofs.Changes.OneNode.{IsNoStub}
@@ -66,7 +66,7 @@ module _ (a : Arena) (kept : IsKept a) where
 
     pub children-altered : (count : ℕ) → HaveNodes a p count → HaveNodes a n count → IfSome o (λ m. HaveNodes a m count)
         → Altered a (on_cells a p (λ k. with_child (next_node n k) (next_if o k)) count) (each child_rule count (forest_of a))
-    children-altered count parents gone there = altered-each a kept _ child_rule count (λ k less now like.
+    children-altered count parents gone there = altered-each a kept (λ k b. on_cell b (next_node p k) (with_child (next_node n k) (next_if o k))) child_rule count (λ k less now like.
       let b : Arena = on_cells a p (λ j. with_child (next_node n j) (next_if o j)) k in
       let e = child-edited b now (next_node n k) (like.held (next_node n k) ∙ gone k less) (next_if o k)
       (λ m is. like.held m ∙ there_is count k less o there m is) (next_node p k) (like.held (next_node p k) ∙ parents k less) in
@@ -98,7 +98,7 @@ module _ (a : Arena) (kept : IsKept a) where
 
       -- they inherit pages, where they have none, and parents
       pub inherit-altered : Altered a (on_cells a n (λ k. inheriting s (next_if up k)) count) (each heir_rule count (forest_of a))
-      inherit-altered = altered-each a kept _ heir_rule count (λ k less now like.
+      inherit-altered = altered-each a kept (λ k b. on_cell b (next_node n k) (inheriting s (next_if up k))) heir_rule count (λ k less now like.
         let f : ℕ → Cell → Cell = λ j. inheriting s (next_if up j) in
         let b : Arena = on_cells a n f k in
         let e = inherits-altered b now (next_node n k) (like.held (next_node n k) ∙ held k less) (none_yet f k less) s (next_if up k)
@@ -113,7 +113,7 @@ module _ (a : Arena) (kept : IsKept a) where
 
       -- they are renewed, where they have no stubs
       pub renew-altered : Altered a (on_cells a n (λ k. renewed s) count) (each new_rule count (forest_of a))
-      renew-altered = altered-each a kept _ new_rule count (λ k less now like.
+      renew-altered = altered-each a kept (λ k b. on_cell b (next_node n k) (renewed s)) new_rule count (λ k less now like.
         let f : ℕ → Cell → Cell = λ j. renewed s in
         let b : Arena = on_cells a n f k in
         let e = renewed-altered b now (next_node n k) (like.held (next_node n k) ∙ held k less) (none_yet f k less)
