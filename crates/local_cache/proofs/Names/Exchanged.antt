@@ -1,5 +1,5 @@
 -- Nodes under each other's names: the forest is read with both names exchanged.
-use Rattle.std.proofs.Common.{◌≡◌, ◌≢◌, ℕ, ◌≤◌, List, [], ◌∷◌, map, length, Bool, true, false, Option, Some, None, IsSome, is_some, unwrap_or, refl, sym, ap, ◌∙◌, subst, inl, inr}
+use Rattle.std.proofs.Common.{◌≡◌, ◌≢◌, ℕ, ◌≤◌, List, [], ◌∷◌, map, length, Bool, true, false, Option, Some, None, IsSome, is_some, refl, sym, ap, ◌∙◌, subst, inl, inr}
 use Rattle.vm_ids.specs.declared.node_name.NodeName.{NodeName}
 use Rattle.vm_ids.specs.declared.node_name.NodeName.TheVariants.{Live, Working}
 use Rattle.vm_ids.specs.declared.numbers.CacheId.{CacheId}
@@ -8,22 +8,21 @@ use Rattle.vm_ids.specs.declared.numbers.PageNo.{PageNo}
 use Rattle.vm_ids.specs.Forest.Changes.{rename, swapped_hang, swapped_node}
 use Rattle.vm_ids.specs.Forest.NameLists.{swapped}
 use Rattle.vm_ids.specs.Forest.NameMap.{contains_key}
-use Rattle.vm_ids.specs.Forest.Nodes.{Forest, Node, most_tree_children, node}
+use Rattle.vm_ids.specs.Forest.Nodes.{most_tree_children, node}
 use Rattle.vm_ids.specs.Forest.Nodes.Hang.{TreeOf, StubOf}
 use Rattle.vm_ids.specs.Forest.Shape.{IsLinked}
 use Rattle.vm_ids.proofs.Forest.Detaching.{rename-names, swapped_a, swapped_b, swapped_other}
 use Rattle.vm_ids.proofs.Forest.Names.{name_cases}
 use Rattle.vm_ids.proofs.Forest.Renaming.{back, node-rename, rename-linked}
-use Rattle.local_cache.specs.declared.own_state.OwnState.{OwnState}
 use Rattle.local_cache.specs.declared.page_entry.PageEntry.{PageEntry}
-use Rattle.local_cache.specs.Arena.{Arena, Cell, HasNode, Table, cell, entry_at, find, node_at, put, tables_with}
+use Rattle.local_cache.specs.Arena.{Arena, Cell, HasNode, Table, cell, entry_at, find, put, tables_with}
 use Rattle.local_cache.specs.NodeCells.{named}
 use Rattle.local_cache.specs.OnCells.{exchanged_names}
 use Rattle.local_cache.specs.Reading.{AreNamesApart, forest_of, hang_by, name_of, node_of, page_of, stubs_of}
 use Rattle.local_cache.specs.Sound.{IsKept, IsListed, IsSound, ◌∈◌}
 use Rattle.local_cache.specs.Threads.{IsThreaded}
 use Rattle.local_cache.specs.Whole.{SameCaches}
-use Rattle.local_cache.proofs.Changes.SameNodes.{copies-put, forest_of-copies, forest_of-made, id_cases, made-put, same_node}
+use Rattle.local_cache.proofs.Changes.SameNodes.{forest_of-copies, forest_of-made, id_cases, same_node}
 use Rattle.local_cache.proofs.Forest.Reading.{IsNode-forest_of, forest_of-IsNode, node-forest_of, reads_as}
 use Rattle.local_cache.proofs.Forest.StubRows.{keeps_links, row-each, threaded-kept, threaded_is}
 use Rattle.local_cache.proofs.Nodes.Cells.{cell-put, cell-put_other, find-put, find-put_other}

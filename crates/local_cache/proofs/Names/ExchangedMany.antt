@@ -1,5 +1,5 @@
 -- Nodes of so many pages under each other's names, one pair after the other.
-use Rattle.std.proofs.Common.{◌≡◌, ◌≢◌, ℕ, zero, suc, ◌+◌, ◌<◌, ◌≤◌, is_some, refl, sym, ap, ap₂, ◌∙◌, arith}
+use Rattle.std.proofs.Common.{◌≡◌, ◌≢◌, ℕ, zero, suc, ◌+◌, ◌<◌, ◌≤◌, is_some, refl, sym, ◌∙◌, arith}
 use Rattle.vm_ids.specs.declared.numbers.CacheId.{CacheId}
 use Rattle.vm_ids.specs.declared.numbers.NodeId.{NodeId}
 use Rattle.vm_ids.specs.declared.numbers.PageNo.{PageNo}

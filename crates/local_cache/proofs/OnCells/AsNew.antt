@@ -1,20 +1,20 @@
 -- A node that is renewed is as one that goes, and a new one under its number. A new node that is
 -- under another one's name is as if that had got this name, and a new node its own.
-use Rattle.std.proofs.Common.{◌≡◌, ◌≢◌, ℕ, ◌+◌, ◌-◌, List, Option, Some, None, refl, sym, ap, ◌∙◌, arith}
+use Rattle.std.proofs.Common.{◌≡◌, ◌≢◌, ◌+◌, ◌-◌, List, Option, Some, None, refl, sym, ap, ◌∙◌, arith}
 use Rattle.std.specs.Prelude.{unwrap_or}
 use Rattle.std.specs.FinMap as map
 use Rattle.vm_ids.specs.declared.node_name.NodeName.{NodeName}
 use Rattle.vm_ids.specs.declared.node_name.NodeName.TheVariants.{Live, Working}
 use Rattle.vm_ids.specs.declared.numbers.NodeId.{NodeId}
 use Rattle.local_cache.specs.declared.own_state.OwnState.{OwnState}
-use Rattle.local_cache.specs.Arena.{Arena, Cell, HasNode, Table, blank, cell, find, new_cell, put, tables_with, with_name, with_new, without}
+use Rattle.local_cache.specs.Arena.{Arena, Cell, HasNode, Table, blank, cell, new_cell, put, tables_with, with_name, with_new, without}
 use Rattle.local_cache.specs.NodeCells.{named, renewed}
 use Rattle.local_cache.specs.OnCells.{exchanged_names, on_cell}
 use Rattle.local_cache.specs.Reading.{name_of}
 use Rattle.local_cache.specs.Sound.{IsListed}
 use Rattle.local_cache.proofs.Exchanged.{insert_swap}
 use Rattle.local_cache.proofs.NodeCells.{inserted_by, inserted_here, inserted_other, removed_other}
-use Rattle.local_cache.proofs.Nodes.Cells.{cell-put, cell-put_other, find-with_new}
+use Rattle.local_cache.proofs.Nodes.Cells.{cell-put_other}
 use Rattle.local_cache.proofs.Tables.Again.{tables-again, tables-own, tables-swap}
 
 -- the node of a page is found there, and goes and comes

@@ -7,11 +7,11 @@ use Rattle.vm_ids.specs.declared.numbers.NodeId.{NodeId}
 use Rattle.local_cache.specs.Arena.{Arena, Cell, HasNode, blank, cell, find, put, tables_with, without}
 use Rattle.local_cache.specs.Changes.{Like}
 use Rattle.local_cache.specs.Many.{HaveNodes}
-use Rattle.local_cache.specs.ManyNodes.{each, next_node}
-use Rattle.local_cache.specs.NodeCells.{Cells, changed, changed_each}
+use Rattle.local_cache.specs.ManyNodes.{next_node}
+use Rattle.local_cache.specs.NodeCells.{changed, changed_each}
 use Rattle.local_cache.specs.OnCells.{on_cell, on_cells}
 use Rattle.local_cache.proofs.Changes.SameNodes.{like-put, like_then}
-use Rattle.local_cache.proofs.Exchanged.{changed_past, changed_swap}
+use Rattle.local_cache.proofs.Exchanged.{changed_swap}
 use Rattle.local_cache.proofs.NodeCells.{inserted_other, removed_by, removed_here, removed_other}
 use Rattle.local_cache.proofs.Nodes.Cells.{cell-put, cell-put_other, find-put, find-put_other}
 use Rattle.local_cache.proofs.Rehung.{changed_twice}

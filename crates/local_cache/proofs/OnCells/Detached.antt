@@ -1,11 +1,9 @@
 -- The node of a page is renewed, or the page gets another one: the rule of detaching.
-use Rattle.std.proofs.Common.{◌≡◌, ◌≢◌, ℕ, zero, suc, ◌+◌, ◌<◌, true, false, List, [], ◌∷◌, map, length, Option, Some, None, is_some, refl, sym, ap, ap₂, ◌∙◌, subst, arith}
+use Rattle.std.proofs.Common.{◌≡◌, ◌≢◌, ℕ, suc, ◌+◌, true, List, [], ◌∷◌, map, length, Option, Some, None, is_some, refl, sym, ap, ap₂, ◌∙◌, subst, arith}
 use Rattle.std.proofs.lemmas.Bool.{false≢true}
 use Rattle.vm_ids.specs.declared.node_name.NodeName.{NodeName}
 use Rattle.vm_ids.specs.declared.node_name.NodeName.TheVariants.{Live, Working}
-use Rattle.vm_ids.specs.declared.numbers.CacheId.{CacheId}
 use Rattle.vm_ids.specs.declared.numbers.NodeId.{NodeId}
-use Rattle.vm_ids.specs.declared.numbers.PageNo.{PageNo}
 use Rattle.vm_ids.specs.Forest.Nodes.{Forest, IsNode, child_count, childless, is_live, node}
 use Rattle.vm_ids.specs.Forest.Nodes.Hang.{Root}
 use Rattle.vm_ids.specs.Forest.NameLists.{without}
@@ -22,7 +20,7 @@ use Rattle.local_cache.specs.Reading.{forest_of, name_of, page_of, stubs_of}
 use Rattle.local_cache.specs.Sound.{IsKept, IsSound}
 use Rattle.local_cache.specs.Threads.{head_or}
 use Rattle.local_cache.proofs.Changes.OneNode.{Edited, IsNoStub}
-use Rattle.local_cache.proofs.Changes.SameNodes.{forest_of-made, irreflexive}
+use Rattle.local_cache.proofs.Changes.SameNodes.{forest_of-made, irreflexive, like_then}
 use Rattle.local_cache.proofs.Forest.Edits.{detach-cut, detach-leaf, retire-parent}
 use Rattle.local_cache.proofs.Forest.Reading.{IsNode-forest_of, forest_of-IsNode, node-forest_of}
 use Rattle.local_cache.proofs.Names.Renaming.{working-forest, working-kept}
@@ -109,6 +107,17 @@ module _ (a : Arena) (sound : IsSound a) (n : NodeId) (hn : HasNode a n) (live :
         ∙ ap₂ (λ g z. put g z (childless (page_of s) Root)) e.forest (e.rehung.like.name n)
         ∙ sym (detach-leaf f x (page_of s) childless_now))
 
+    -- nodes, names, tables, counters and room stay
+    pub left-altered : Altered a (on_cell (cut_from a (cell a n).links.parent n None) n (renewed s)) (detach (forest_of a) (name_of a n) (page_of s))
+    left-altered = record {
+      like = like_then a left (on_cell left n (renewed s)) e.rehung.like new.like;
+      made = new.made ∙ e.rehung.made;
+      copies = new.copies ∙ e.rehung.copies;
+      room = new.room ∙ e.rehung.room;
+      kept = new.kept;
+      forest = left-detached.forest;
+    }
+
     renewed_first : (p : Option NodeId) → (cell a n).links.parent ≡ p → cut_from (on_cell a n (renewed s)) p n None ≡ on_cell (cut_from a p n None) n (renewed s)
     renewed_first None up = refl
     renewed_first (Some p) up = on_cell-past a n (renewed s) p (with_child n None) (apart p up)
@@ -119,6 +128,9 @@ module _ (a : Arena) (sound : IsSound a) (n : NodeId) (hn : HasNode a n) (live :
 
     pub leaf_renewed-detached : IsDetachedAs a (leaf_renewed a n s) n s
     leaf_renewed-detached = subst (λ b. IsDetachedAs a b n s) (sym leaf_renewed-left) left-detached
+
+    pub leaf_renewed-altered : Altered a (leaf_renewed a n s) (detach (forest_of a) (name_of a n) (page_of s))
+    leaf_renewed-altered = subst (λ b. Altered a b (detach (forest_of a) (name_of a n) (page_of s))) (sym leaf_renewed-left) left-altered
 
   -- a leaf that was cut off
 

@@ -1,6 +1,6 @@
 -- A node gives way to its only child, which hangs on it by a tree link, as it does itself, where it
 -- hangs: a step of settle.
-use Rattle.std.proofs.Common.{◌≡◌, ◌≢◌, ◌<◌, ◌+◌, Bool, true, false, List, [], ◌∷◌, map, length, Option, Some, None, option_map, refl, sym, ap, ap₂, ◌∙◌, subst, inl, inr, arith}
+use Rattle.std.proofs.Common.{◌≡◌, ◌≢◌, ◌<◌, Bool, true, false, List, [], ◌∷◌, map, length, Option, Some, None, refl, sym, ap, ap₂, ◌∙◌, subst, inl, inr, arith}
 use Rattle.std.proofs.lemmas.Bool.{false≢true}
 use Rattle.std.specs.Option.{option_or}
 use Rattle.vm_ids.specs.declared.node_name.NodeName.{NodeName}
@@ -8,13 +8,13 @@ use Rattle.vm_ids.specs.declared.numbers.NodeId.{NodeId}
 use Rattle.vm_ids.specs.Forest.NameLists as names
 use Rattle.vm_ids.specs.Forest.NameLists.{renamed}
 use Rattle.vm_ids.specs.Forest.Nodes.{Forest, Hang, child_count, is_stub, node, parent_of}
-use Rattle.vm_ids.specs.Forest.Nodes.Hang.{Root, StubOf, TreeOf}
+use Rattle.vm_ids.specs.Forest.Nodes.Hang.{TreeOf}
 use Rattle.vm_ids.specs.Forest.Shape.{IsLinked}
 use Rattle.vm_ids.specs.Forest.Changes.{edit, free, relist, with_hang, with_own}
 use Rattle.vm_ids.specs.Forest.Settling.{settle_step}
 use Rattle.vm_ids.proofs.Forest.SettleStep.{settle_step-Settled}
 use Rattle.local_cache.specs.declared.own_state.OwnState.{OwnState}
-use Rattle.local_cache.specs.Arena.{Arena, Cell, HasNode, cell, with_tree}
+use Rattle.local_cache.specs.Arena.{Arena, Cell, HasNode, cell}
 use Rattle.local_cache.specs.NodeCells.{exchanged, inheriting, with_child}
 use Rattle.local_cache.specs.OnCells.{cut_from, given_way, on_cell}
 use Rattle.local_cache.specs.Reading.{forest_of, hang_by, name_of, page_of, stubs_of}

@@ -1,6 +1,7 @@
 -- A cell that is changed: the forest that is read then, and that the caches are kept.
-use Rattle.std.proofs.Common.{◌≡◌, ◌≢◌, true, false, cond, List, [], ◌∷◌, map, length, Option, Some, None, option_map, refl, sym, ap, ◌∙◌, subst, inl, inr}
+use Rattle.std.proofs.Common.{◌≡◌, false, cond, List, [], ◌∷◌, map, length, Option, Some, None, option_map, refl, sym, ap, ◌∙◌, inl, inr}
 use Rattle.std.specs.Option.{option_or}
+use Rattle.std.specs.Prelude.{IfSome}
 use Rattle.vm_ids.specs.declared.node_name.NodeName.{NodeName}
 use Rattle.vm_ids.specs.Forest.Nodes.{Forest, Node, node, Hang, childless}
 use Rattle.vm_ids.specs.Forest.Nodes.Hang.{Root, TreeOf}
@@ -10,12 +11,12 @@ use Rattle.vm_ids.specs.declared.numbers.NodeId.{NodeId}
 use Rattle.local_cache.specs.declared.links.Links.{Links}
 use Rattle.local_cache.specs.declared.own_state.OwnState.{OwnState}
 use Rattle.local_cache.specs.declared.own_state.OwnState.TheVariants.{Absent, Zero, Resident, Slot, OnSegment}
-use Rattle.local_cache.specs.Arena.{Arena, Cell, HasNode, cell, new_cell, put}
-use Rattle.local_cache.specs.Changes.{Like, Rehung, Relinked}
+use Rattle.local_cache.specs.Arena.{Arena, Cell, HasNode, cell, put}
+use Rattle.local_cache.specs.Changes.{Like, Relinked}
 use Rattle.local_cache.specs.NodeCells.{exchanged, inheriting, renewed, with_child}
 use Rattle.local_cache.specs.OnCells.{cut_from, on_cell}
 use Rattle.local_cache.specs.Own.{is_absent}
-use Rattle.local_cache.specs.Reading.{name_of, node_of, page_of, forest_of, hang_by, stubs_of}
+use Rattle.local_cache.specs.Reading.{name_of, page_of, forest_of, hang_by, stubs_of}
 use Rattle.local_cache.specs.Sound.{IsKept, ◌∈◌}
 use Rattle.local_cache.specs.Threads.{head_or, last_or}
 use Rattle.local_cache.proofs.Changes.OneNode.{Edited, Fits, IsNoStub, edit-forest, edit-kept, node_by, tree-edited}
@@ -26,6 +27,14 @@ use Rattle.local_cache.proofs.OnCells.Children.{exchanged-in, exchanged-names, n
 -- links alone are changed
 pub relinked_cell : (a : Arena) (n : NodeId) (f : Links → Links) → HasNode a n → Relinked a (on_cell a n (λ c. record c { links = f c.links }))
 relinked_cell a n f held = relinked a n (f (cell a n).links) held
+
+-- a parent is a node
+pub parent-held : (a : Arena) → IsKept a → (n : NodeId) → HasNode a n → IfSome (cell a n).links.parent (HasNode a)
+parent-held a kept n hn = go (cell a n).links.parent refl
+  where
+    go : (p : Option NodeId) → (cell a n).links.parent ≡ p → IfSome p (HasNode a)
+    go None up = tt
+    go (Some p) up = kept.parents n p hn up
 
 -- b is a after a step that leaves nodes, names, tables and counters, and reads as the forest g
 pub record Altered (a b : Arena) (g : Forest OwnState) : Type 0 where

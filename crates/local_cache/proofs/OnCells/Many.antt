@@ -1,6 +1,6 @@
 -- Many cells changed, one after the other: the forest that is read then, and that the caches are
 -- kept.
-use Rattle.std.proofs.Common.{◌≡◌, ◌≢◌, ℕ, zero, suc, ◌+◌, ◌<◌, false, Option, Some, None, option_map, refl, sym, ap, ◌∙◌, subst, arith}
+use Rattle.std.proofs.Common.{◌≡◌, ℕ, zero, suc, ◌<◌, false, Option, Some, None, option_map, refl, sym, ap, ◌∙◌, subst, arith}
 use Rattle.std.specs.Option.{option_or}
 use Rattle.std.specs.Prelude.{IfSome}
 use Rattle.vm_ids.specs.Forest.Nodes.{Forest, childless}
@@ -67,12 +67,12 @@ module _ (a : Arena) (kept : IsKept a) where
     pub children-altered : (count : ℕ) → HaveNodes a p count → HaveNodes a n count → IfSome o (λ m. HaveNodes a m count)
         → Altered a (on_cells a p (λ k. with_child (next_node n k) (next_if o k)) count) (each child_rule count (forest_of a))
     children-altered count parents gone there = altered-each a kept (λ k b. on_cell b (next_node p k) (with_child (next_node n k) (next_if o k))) child_rule count (λ k less now like.
-      let b : Arena = on_cells a p (λ j. with_child (next_node n j) (next_if o j)) k in
-      let e = child-edited b now (next_node n k) (like.held (next_node n k) ∙ gone k less) (next_if o k)
-      (λ m is. like.held m ∙ there_is count k less o there m is) (next_node p k) (like.held (next_node p k) ∙ parents k less) in
-      renamed_rule b _ _ (child_rule k (forest_of b)) (altered_by b _ _ e)
-      (λ i. edit (forest_of b) (like.name (next_node p k) i)
-      (λ m. forest.with_tree (names_instead (like.name (next_node n k) i) (other_names b like k o i) m.tree) m)))
+        let b : Arena = on_cells a p (λ j. with_child (next_node n j) (next_if o j)) k in
+        let e = child-edited b now (next_node n k) (like.held (next_node n k) ∙ gone k less) (next_if o k)
+        (λ m is. like.held m ∙ there_is count k less o there m is) (next_node p k) (like.held (next_node p k) ∙ parents k less) in
+        renamed_rule b _ _ (child_rule k (forest_of b)) (altered_by b _ _ e)
+        (λ i. edit (forest_of b) (like.name (next_node p k) i)
+        (λ m. forest.with_tree (names_instead (like.name (next_node n k) i) (other_names b like k o i) m.tree) m)))
 
   -- nodes that are in no lists of stubs
 
@@ -99,13 +99,13 @@ module _ (a : Arena) (kept : IsKept a) where
       -- they inherit pages, where they have none, and parents
       pub inherit-altered : Altered a (on_cells a n (λ k. inheriting s (next_if up k)) count) (each heir_rule count (forest_of a))
       inherit-altered = altered-each a kept (λ k b. on_cell b (next_node n k) (inheriting s (next_if up k))) heir_rule count (λ k less now like.
-        let f : ℕ → Cell → Cell = λ j. inheriting s (next_if up j) in
-        let b : Arena = on_cells a n f k in
-        let e = inherits-altered b now (next_node n k) (like.held (next_node n k) ∙ held k less) (none_yet f k less) s (next_if up k)
-        (λ m is. like.held m ∙ up_held k less up there m is) in
-        renamed_rule b _ _ (heir_rule k (forest_of b)) e
-        (λ i. edit (forest_of b) (like.name (next_node n k) i)
-        (λ m. with_hang (hang-like a b like (next_if up k) false i) (forest.with_own (option_or m.own (page_of s)) m))))
+          let f : ℕ → Cell → Cell = λ j. inheriting s (next_if up j) in
+          let b : Arena = on_cells a n f k in
+          let e = inherits-altered b now (next_node n k) (like.held (next_node n k) ∙ held k less) (none_yet f k less) s (next_if up k)
+          (λ m is. like.held m ∙ up_held k less up there m is) in
+          renamed_rule b _ _ (heir_rule k (forest_of b)) e
+          (λ i. edit (forest_of b) (like.name (next_node n k) i)
+          (λ m. with_hang (hang-like a b like (next_if up k) false i) (forest.with_own (option_or m.own (page_of s)) m))))
 
     module _ (bare : (k : ℕ) → k < count → (cell a (next_node n k)).links.first ≡ None) (s : OwnState) where
       abbrev pub new_rule : ℕ → Forest OwnState → Forest OwnState
@@ -114,9 +114,9 @@ module _ (a : Arena) (kept : IsKept a) where
       -- they are renewed, where they have no stubs
       pub renew-altered : Altered a (on_cells a n (λ k. renewed s) count) (each new_rule count (forest_of a))
       renew-altered = altered-each a kept (λ k b. on_cell b (next_node n k) (renewed s)) new_rule count (λ k less now like.
-        let f : ℕ → Cell → Cell = λ j. renewed s in
-        let b : Arena = on_cells a n f k in
-        let e = renewed-altered b now (next_node n k) (like.held (next_node n k) ∙ held k less) (none_yet f k less)
-        (ap (λ (c : Cell). c.links.first) (as_before f k) ∙ bare k less) s in
-        renamed_rule b _ _ (new_rule k (forest_of b)) e
-        (λ i. forest.put (forest_of b) (like.name (next_node n k) i) (childless (page_of s) Root)))
+          let f : ℕ → Cell → Cell = λ j. renewed s in
+          let b : Arena = on_cells a n f k in
+          let e = renewed-altered b now (next_node n k) (like.held (next_node n k) ∙ held k less) (none_yet f k less)
+          (ap (λ (c : Cell). c.links.first) (as_before f k) ∙ bare k less) s in
+          renamed_rule b _ _ (new_rule k (forest_of b)) e
+          (λ i. forest.put (forest_of b) (like.name (next_node n k) i) (childless (page_of s) Root)))

@@ -1,5 +1,5 @@
 -- What is done to so many nodes, where it is one: the calls for many do what those for one did.
-use Rattle.std.proofs.Common.{◌≡◌, ℕ, ◌+◌, [], ◌∷◌, Some, Option, None, refl, sym, ap, ◌∙◌, arith}
+use Rattle.std.proofs.Common.{◌≡◌, ℕ, ◌+◌, [], ◌∷◌, Some, Option, None, refl, ap, arith}
 use Rattle.vm_ids.specs.declared.numbers.NodeId.{NodeId}
 use Rattle.local_cache.specs.Arena.{Arena, Cell, as_working, hung, with_tree, with_working, without}
 use Rattle.local_cache.specs.Many.{as_working_many, hung_many, over_many, without_many}
