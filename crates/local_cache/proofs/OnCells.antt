@@ -16,3 +16,5 @@ pub mod Detached
 pub mod GivenWay
 -- Many cells changed, one after the other: the forest that is read then.
 pub mod Many
+-- New working nodes over others, each on a parent.
+pub mod WorkingOver
