@@ -13,6 +13,7 @@ use Rattle.vm_ids.specs.Forest.Rules.{detach, retire}
 use Rattle.vm_ids.proofs.Forest.Detaching.{fresh-linked, retire-Freed}
 use Rattle.local_cache.specs.declared.own_state.OwnState.{OwnState}
 use Rattle.local_cache.specs.Arena.{Arena, Cell, HasNode, IsVacant, as_working, cell, find, with_new}
+use Rattle.local_cache.specs.Arena as arena
 use Rattle.local_cache.specs.NodeCells.{named, renewed, with_child}
 use Rattle.local_cache.specs.OnCells.{cut_from, leaf_renewed, on_cell, replaced}
 use Rattle.local_cache.specs.PageNodes.{IsFreeLeaf}
@@ -27,6 +28,7 @@ use Rattle.local_cache.proofs.Names.Renaming.{working-forest, working-kept}
 use Rattle.local_cache.proofs.Names.WorkingName.{vacated}
 use Rattle.local_cache.proofs.NewNode.FreshNode.{page-forest, page-kept}
 use Rattle.local_cache.proofs.Nodes.Cells.{find-put_other}
+use Rattle.local_cache.proofs.OnCells.AsNew.{renewed-new}
 use Rattle.local_cache.proofs.OnCells.Cells.{cell-beside, on_cell-past}
 use Rattle.local_cache.proofs.OnCells.Linked.{Altered, cut_from-edited, renewed-altered}
 
@@ -125,6 +127,13 @@ module _ (a : Arena) (sound : IsSound a) (n : NodeId) (hn : HasNode a n) (live :
     -- in either order
     pub leaf_renewed-left : leaf_renewed a n s ≡ on_cell (cut_from a (cell a n).links.parent n None) n (renewed s)
     leaf_renewed-left = renewed_first (cell a n).links.parent refl
+
+    -- as a node that left its parent and went, and a new one under its number
+    pub leaf_renewed-new : leaf_renewed a n s ≡ with_new (arena.without (cut_from a (cell a n).links.parent n None) n) n (name_of a n) s
+    leaf_renewed-new =
+        leaf_renewed-left
+        ∙ renewed-new left e.kept.listed n (e.rehung.like.held n ∙ hn) s
+        ∙ ap (λ z. with_new (arena.without left n) n z s) (e.rehung.like.name n)
 
     pub leaf_renewed-detached : IsDetachedAs a (leaf_renewed a n s) n s
     leaf_renewed-detached = subst (λ b. IsDetachedAs a b n s) (sym leaf_renewed-left) left-detached

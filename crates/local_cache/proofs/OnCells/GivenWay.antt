@@ -1,6 +1,6 @@
 -- A node gives way to its only child, which hangs on it by a tree link, as it does itself, where it
 -- hangs: a step of settle.
-use Rattle.std.proofs.Common.{◌≡◌, ◌≢◌, ◌<◌, Bool, true, false, List, [], ◌∷◌, map, length, Option, Some, None, refl, sym, ap, ap₂, ◌∙◌, subst, inl, inr, arith}
+use Rattle.std.proofs.Common.{◌≡◌, ◌≢◌, ◌<◌, ◌+◌, Bool, true, false, cond, is_some, unwrap_or, List, [], ◌∷◌, map, length, Option, Some, None, refl, sym, ap, ap₂, ◌∙◌, subst, inl, inr, arith}
 use Rattle.std.proofs.lemmas.Bool.{false≢true}
 use Rattle.std.specs.Option.{option_or}
 use Rattle.vm_ids.specs.declared.node_name.NodeName.{NodeName}
@@ -14,9 +14,11 @@ use Rattle.vm_ids.specs.Forest.Changes.{edit, free, relist, with_hang, with_own}
 use Rattle.vm_ids.specs.Forest.Settling.{settle_step}
 use Rattle.vm_ids.proofs.Forest.SettleStep.{settle_step-Settled}
 use Rattle.local_cache.specs.declared.own_state.OwnState.{OwnState}
-use Rattle.local_cache.specs.Arena.{Arena, Cell, HasNode, cell}
+use Rattle.local_cache.specs.Arena.{Arena, Cell, HasNode, Room, cell, find, tables_with}
+use Rattle.local_cache.specs.Arena as arena
 use Rattle.local_cache.specs.NodeCells.{exchanged, inheriting, with_child}
 use Rattle.local_cache.specs.OnCells.{cut_from, given_way, on_cell}
+use Rattle.local_cache.specs.Own.{is_absent}
 use Rattle.local_cache.specs.Reading.{forest_of, hang_by, name_of, page_of, stubs_of}
 use Rattle.local_cache.specs.Sound.{IsSound, ◌∈◌}
 use Rattle.local_cache.specs.Threads.{head_or}
@@ -26,6 +28,7 @@ use Rattle.local_cache.proofs.Forest.Edits.{settle-tree}
 use Rattle.local_cache.proofs.Forest.Reading.{node-forest_of}
 use Rattle.local_cache.proofs.Forest.StubRows.{row-each}
 use Rattle.local_cache.proofs.NewNode.Freeing.{IsLoose, freed-forest, freed-kept}
+use Rattle.local_cache.proofs.NodeCells.{removed_here, removed_other}
 use Rattle.local_cache.proofs.OnCells.Cells.{cell-beside, cell-here}
 use Rattle.local_cache.proofs.OnCells.Children.{exchanged-out}
 use Rattle.local_cache.proofs.OnCells.Linked.{Altered, cut_from-edited, inherits-altered}
@@ -245,3 +248,48 @@ module _ (a : Arena) (sound : IsSound a) (n child : NodeId) (hn : HasNode a n) (
     kept = freed-kept c r.kept n (held_c n hn) loose;
     linked = subst IsLinked (sym given_way-forest) (settle_step-Settled f sound.linked x few).shape;
   }
+
+  -- the node goes, and all others stay under their names
+
+  abbrev d : Arena
+  d = given_way a n child
+
+  gone_cells : (m : NodeId) → m ≢ n → find d m ≡ find c m
+  unfolding arena.without
+  gone_cells m other = removed_other c.cells n.0 m.0 (λ same. other (λ i. record { 0 = same i }))
+
+  cells_there : (m : NodeId) → m ≢ n → cell d m ≡ cell c m
+  unfolding cell
+  cells_there m other = ap (λ (o : Option Cell). unwrap_or o arena.blank) (gone_cells m other)
+
+  pub given_way-gone : find (given_way a n child) n ≡ None
+  unfolding arena.without
+  given_way-gone = removed_here c.cells n.0
+
+  pub given_way-held : (m : NodeId) → m ≢ n → is_some (find (given_way a n child) m) ≡ is_some (find a m)
+  given_way-held m other = ap is_some (gone_cells m other) ∙ r.like.held m ∙ e.rehung.like.held m
+
+  pub given_way-name : (m : NodeId) → m ≢ n → name_of (given_way a n child) m ≡ name_of a m
+  given_way-name m other = ap (λ (q : Cell). q.name) (cells_there m other) ∙ name_c m
+
+  -- the child gets the own page of the node, where it has none
+  pub given_way-own : (m : NodeId) → m ≢ n → m ≢ child → (cell (given_way a n child) m).own ≡ (cell a m).own
+  given_way-own m other far = ap (λ (q : Cell). q.own) (cells_there m other ∙ cell-beside b child change m far) ∙ e.rehung.own m
+
+  pub given_way-heir : (cell (given_way a n child) child).own ≡ cond (is_absent (cell a child).own) (cell a n).own (cell a child).own
+  given_way-heir =
+      ap (λ (q : Cell). q.own) (cells_there child apart ∙ cell-here b child change)
+      ∙ ap (λ s. cond (is_absent s) (cell a n).own s) (e.rehung.own child)
+
+  pub given_way-caches : (given_way a n child).caches ≡ tables_with a.caches (name_of a n) None
+  unfolding arena.without
+  given_way-caches =
+      ap₂ (λ ts z. tables_with ts z None) (r.like.caches ∙ e.rehung.like.caches) (name_c n)
+
+  pub given_way-counters : ((given_way a n child).made ≡ a.made) × ((given_way a n child).copies ≡ a.copies)
+  unfolding arena.without
+  given_way-counters = (r.made ∙ e.rehung.made, r.copies ∙ e.rehung.copies)
+
+  pub given_way-room : (given_way a n child).room ≡ record a.room { nodes = a.room.nodes + 1 }
+  unfolding arena.without
+  given_way-room = ap (λ (q : Room). record q { nodes = q.nodes + 1 }) (r.room ∙ e.rehung.room)
