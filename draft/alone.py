@@ -4,7 +4,9 @@
 FOLDER gets a copy of local_cache in which each call of NodeRuns, NodeTable and CacheList that Caches makes calls
 itself alone, with a hole for its end. So the answers of Caches are read with all lemma files that they cite, without
 the proofs below, and the libraries are read as sources and not proved. A function that is right "depends on a hole"
-of these calls alone. What was read is kept in FOLDER/kept."""
+of these calls alone. What was read is kept in FOLDER/kept.
+
+--read MODULE reads a lemma file of local_cache/proofs too, as --read Changes.OneNode, with --only caches::Caches::caches_made."""
 import os, re, shutil, subprocess, sys
 
 HERE = os.path.dirname(os.path.dirname(os.path.abspath(__file__)))
@@ -70,6 +72,13 @@ def main():
                         f"decreases-{name} {'g ' if generic[name] else ''}l = 0\n")
             with open(f"{crate}/proofs/{folder}/Answers.antt", "w") as f:
                 f.write(f"use {module}.Goals as goal\n\npub {name}-requires : goal.{name}-requires\n{name}-requires = ?\n")
+    given = sys.argv[2:]
+    while "--read" in given:
+        at = given.index("--read")
+        answers = f"{crate}/proofs/caches/Caches/caches_made/Answers.antt"
+        text = open(answers).read()
+        open(answers, "w").write(f"use Rattle.local_cache.proofs.{given[at + 1]} as read_{given[at + 1].replace('.', '_')}\n" + text)
+        del given[at : at + 2]
     libs = {"least_heap": "std", "linear_index": "std", "stretches": "std", "mixed_map": "std,stretches,linear_index"}
     args = [f"{KIT}/bin/rattle", "check", "--crate-name", "local_cache", "src/lib.rt", "--extern", f"std={KIT}/rlibs/std.rlib",
             "--extern", f"vm_ids={HERE}/crates/vm_ids/out/rlib/vm_ids.rlib", "-L", f"dependency={KIT}/rlibs"]
@@ -77,6 +86,6 @@ def main():
         args += ["--lib", f"{name}:{used}=../{name}/src/lib.rt"]
     args += ["--antt-project", f"{KIT}/rattle/logic/antt-project.json", "--logic-built", f"{KIT}/logic_built",
              "--links", "local_cache=", "--incremental", f"{to}/kept"]
-    sys.exit(subprocess.run(args + sys.argv[2:], cwd=crate).returncode)
+    sys.exit(subprocess.run(args + given, cwd=crate).returncode)
 
 main()

@@ -62,3 +62,5 @@ pub mod MadePages
 pub mod NodesCome
 -- Nodes under each other's names.
 pub mod Exchanged
+-- The calls that change cells.
+pub mod OnCells

@@ -6,7 +6,7 @@ use Rattle.local_cache.proofs.ArenaBy.Seen.{held_seen}
 use Rattle.local_cache.proofs.caches.Caches.gather.Goals as goal
 
 pub gather-requires : goal.gather-requires
-gather-requires c = held_seen c.self.inside.nodes c.self.inside.list c.args.self.now c.self.view_is c.args.node c.requires
+gather-requires c = held_seen c.self.inside.nodes c.self.inside.list c.args.self.now c.self.view_is c.args.node c.requires.held
 
 pub invariant_of-self : goal.invariant_of-self
 invariant_of-self c =
