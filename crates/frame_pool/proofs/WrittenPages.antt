@@ -1,8 +1,9 @@
 -- The pages of a region, and what a write to one of them leaves.
-use Rattle.std.proofs.Common.{◌≡◌, ℕ, zero, suc, ◌*◌, ◌<◌, List, [], ◌∷◌, ◌++◌, length, take, drop, get_or, set, replicate, refl, sym, ap, ◌∙◌, arith, append_assoc}
-use Rattle.std.proofs.Math.Nat.{suc-mul, zero-mul, add_comm}
+use Rattle.std.proofs.Common.{◌≡◌, ◌≢◌, ◌⊎◌, inl, inr, ℕ, zero, suc, ◌+◌, ◌*◌, ◌<◌, ◌≤◌, List, [], ◌∷◌, ◌++◌, length, take, drop, get_or, set, replicate, refl, sym, ap, ◌∙◌, arith, append_assoc}
+use Rattle.std.proofs.Math.Nat.{suc-mul, zero-mul, add_comm, mul-le-mul_right}
 use Rattle.std.proofs.Math.Seq.{take-add}
 use Rattle.std.proofs.lemmas.List.{take_at, drop_at, drop-drop, length-drop, length-take-le, length-replicate, replicate-append-replicate}
+use Rattle.std.proofs.lemmas.Bool.{cases_lt}
 use Rattle.std.specs.Simd.{first_chunks}
 
 drop_page : (n i : ℕ) (xs : List ℕ) → drop (suc i * n) xs ≡ drop (i * n) (drop n xs)
@@ -45,3 +46,10 @@ zero_pages n (suc k) =
     ∙ ap (first_chunks n (suc k)) (sym (replicate-append-replicate n (k * n) 0))
     ∙ front_page n k (zeros n) (zeros (k * n)) (length-replicate n 0)
     ∙ ap (λ (pages : List (List ℕ)). zeros n ∷ pages) (zero_pages n k)
+
+-- two different pages have no byte in common
+pub pages_apart : (n i j : ℕ) → i ≢ j → (i * n + n ≤ j * n) ⊎ (j * n + n ≤ i * n)
+pages_apart n i j apart = elim (cases_lt i j) [
+  | inl less ↦ let room : suc i * n ≤ j * n = mul-le-mul_right n (omega (arith, less)) in inl (omega (arith, suc-mul i n))
+  | inr more ↦ let room : suc j * n ≤ i * n = mul-le-mul_right n (omega (arith, more, apart)) in inr (omega (arith, suc-mul j n))
+]

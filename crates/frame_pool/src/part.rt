@@ -1,6 +1,7 @@
 // A part of a vector's bytes, lent to be written.
-ghost use Rattle.std.specs.Prelude.{◌≡◌, ◌≤◌, slice_range};
+ghost use Rattle.std.specs.Prelude.{◌≡◌, ◌+◌, ◌≤◌, ◌⊎◌, slice_range};
 ghost use Rattle.std.specs.Borrow.{sem};
+ghost use Rattle.std.specs.List.{copy_within};
 ghost use Rattle.std.specs.Vec.{vec_len};
 ghost use Rattle.frame_pool.specs.Lending.{LendsPart, LendsRun};
 
@@ -25,4 +26,20 @@ pub(crate) fn part_mut(bytes: &mut Vec<u8>, start: usize, end: usize) -> &mut [u
     ensures bytes { result.now ≡ slice_range bytes.old.items start end }
 {
     run_mut(bytes, start, end)
+}
+
+// Makes so many bytes from `to` on those from `from` on, none of which is one of the others.
+pub(crate) fn copy_part(bytes: &mut Vec<u8>, from: usize, to: usize, count: usize)
+    requires from { from + count ≤ vec_len bytes.old }
+    requires to { to + count ≤ vec_len bytes.old }
+    requires apart { (from + count ≤ to) ⊎ (to + count ≤ from) }
+    ensures { bytes.new.items ≡ copy_within bytes.old.items from (from + count) to }
+{
+    if from < to {
+        let (low, high) = bytes.split_at_mut(to);
+        high[..count].copy_from_slice(&low[from..from + count]);
+    } else {
+        let (low, high) = bytes.split_at_mut(from);
+        low[to..to + count].copy_from_slice(&high[..count]);
+    }
 }

@@ -5,7 +5,7 @@ ghost use Rattle.frame_pool.specs.Lending.{LendsPage};
 ghost use Rattle.frame_pool.specs.Pool.{bytes_of, evictable_count, evictable_frames, is_evictable, is_held, is_pinned, with_bytes};
 
 use crate::marks::Marks;
-use crate::part::part_mut;
+use crate::part::{copy_part, part_mut};
 use number_pool::NumberPool;
 use std::alloc::Global;
 use std::marker::Model;
@@ -184,17 +184,13 @@ impl FramePool {
         requires apart { from.0 ≢ to.0 }
         ensures { self.new ≡ with_bytes self.old to.0 (bytes_of self.old from.0) }
     {
-        let from_start = from.0 as usize * self.page;
-        let to_start = to.0 as usize * self.page;
-        if from_start < to_start {
-            let (low, high) = self.region.split_at_mut(to_start);
-            let bytes = &low[from_start..from_start + self.page];
-            high[..self.page].copy_from_slice(bytes);
-        } else if to_start < from_start {
-            let (low, high) = self.region.split_at_mut(from_start);
-            let bytes = &high[..self.page];
-            low[to_start..to_start + self.page].copy_from_slice(bytes);
-        }
+        let page = self.page;
+        copy_part(
+            &mut self.region,
+            from.0 as usize * page,
+            to.0 as usize * page,
+            page,
+        );
     }
 
     /// Makes the bytes of a frame zeros.

@@ -4,6 +4,7 @@ use Rattle.std.specs.Option.{option_map_or}
 use Rattle.vm_ids.specs.Counting.{MapperCounts, RoseBy}
 use Rattle.vm_ids.specs.declared.command.Command.{Command}
 use Rattle.vm_ids.specs.declared.command.Command.TheVariants as commands
+use Rattle.vm_ids.specs.declared.numbers.CacheId.{CacheId}
 use Rattle.vm_ids.specs.declared.numbers.PageNo.{PageNo}
 use Rattle.vm_ids.specs.declared.node_name.NodeName.{NodeName}
 use Rattle.vm_ids.specs.declared.numbers.FrameId.{FrameId}
@@ -21,10 +22,10 @@ use Rattle.local_cache.specs.declared.own_state.OwnState.TheVariants.{Zero}
 use Rattle.local_cache.specs.Arena.{Arena, HasNode, is_granted}
 use Rattle.local_cache.specs.Own.{is_resident, own_of}
 use Rattle.local_cache.specs.Reading.{forest_of, name_of}
-use Rattle.residency.specs.World.{is_pulled}
+use Rattle.residency.specs.World.{HasOwnPage, is_pulled}
 use Rattle.residency.specs.declared.miss.Miss.{Miss}
 use Rattle.residency.specs.declared.miss.Miss.TheVariants.{Victim}
-use Rattle.fault_path.specs.Faults.{is_at_hand}
+use Rattle.fault_path.specs.Faults.{IsOwner, is_at_hand}
 use Rattle.vm_model.specs.Place as model
 use Rattle.vm_model.specs.Place.{place}
 use Rattle.vm_port.specs.declared.traits.mapper.Mapper.{Ghosts}
@@ -47,6 +48,13 @@ pub record HasPageAt (p : Manager) (at : model.Place) (o : NodeId) : Type 0 wher
   pub held : HasNode p.caches o
   pub owner : name_of p.caches o
       ≡ owner_of (nodes_of p) (page_name (record { 0 = at.region.cache }) at.page)
+
+-- n is the node of a page of a cache, and o is its owner
+pub record AreNodesOf (a : Arena) (cache : CacheId) (page : PageNo) (n o : NodeId) : Type 0 where
+  pub held : HasNode a n
+  pub name : name_of a n ≡ page_name cache page.0
+  pub owner : IsOwner a n o
+  pub own : HasOwnPage a o
 
 -- the owner of a page has it in a frame, or it is zeros
 abbrev pub is_page_at_hand : Arena → NodeName → Bool

@@ -7,10 +7,13 @@ ghost use Rattle.vm_model.specs.Machine.{numbered as has_number};
 ghost use Rattle.vm_model.specs.Place.{place_of_actor};
 ghost use Rattle.regions.specs.AddressSpace.{place_told};
 ghost use Rattle.vm_model.specs.Run.{IsUnrefused};
+ghost use Rattle.local_cache.specs.Arena.{HasNode};
+ghost use Rattle.local_cache.specs.Own.{own_of};
+ghost use Rattle.fault_path.specs.Faults as faults;
 ghost use Rattle.gmi_calls.specs.Calling.{CallDone, Fits, MapperCall};
 ghost use Rattle.gmi_calls.specs.Parking.{AccessCall, IsDelivered, NoMoreReady, NoPull, StillAdmits, Waits};
 ghost use Rattle.pvm_core.specs.Access as access;
-ghost use Rattle.pvm_core.specs.Access.{Admits, IsAtHand, IsLoaded, IsMissAt, is_ready};
+ghost use Rattle.pvm_core.specs.Access.{Admits, AreNodesOf, IsAtHand, IsLoaded, IsMissAt, is_ready};
 ghost use Rattle.pvm_core.specs.Keeping.{SameButSeen};
 ghost use Rattle.pvm_core.specs.Manager.{IsValid, machine_of, meaning, state_at};
 
@@ -24,7 +27,7 @@ use regions::Place;
 use vm_ids::{ActorId, Command, NodeId, Piece, Refusal, Reply, Trouble};
 use vm_port::{Chooser, Mapper};
 
-// The node of a page, and the node whose page it reads.
+// The node of a page, and the node whose own page it reads.
 #[derive(Clone, Copy)]
 pub(crate) struct NodesAt {
     pub(crate) node: NodeId,
@@ -89,9 +92,34 @@ impl Pvm {
         }
     }
 
-    // A load at a place.
+    // The nodes of the page at a place.
+    pub(crate) fn nodes_at(&self, place: Place) -> NodesAt
+        requires place { (actor : ℕ) × (address : ℕ) × (count : ℕ) × (Ok place ≡ place_told
+            (place_of_actor self.now.page_bytes (has_number self.now.actors actor) address count)) }
+        ensures nodes { AreNodesOf self.now.caches place.cache place.page
+            result.node result.owner }
+        ensures ready { (actor address count : ℕ) → Ok place ≡ place_told
+            (place_of_actor self.now.page_bytes (has_number self.now.actors actor) address count)
+            → faults.is_at_hand (own_of self.now.caches result.owner)
+            ≡ access.is_ready self.now actor address }
+    {
+        let node = node_of(&self.caches, place.cache, place.page);
+        let owner = owner_of(&self.caches, node);
+        NodesAt { node, owner }
+    }
+
+    // Whether the own page of a node is at hand.
+    pub(crate) fn is_here(&self, owner: NodeId) -> bool
+        requires { HasNode self.now.caches owner }
+        ensures { result ≡ faults.is_at_hand (own_of self.now.caches owner) }
+    {
+        has_page_here(&self.caches, owner)
+    }
+
+    // A load at a place, the nodes of whose page are told.
     pub(crate) fn load_at<M: Mapper, C: Chooser>(
         &mut self,
+        nodes: NodesAt,
         place: Place,
         actor: ActorId,
         address: u64,
@@ -103,6 +131,8 @@ impl Pvm {
         requires few { bytes ≤ 64 }
         requires place { Ok place ≡ place_told (place_of_actor self.old.page_bytes
             (has_number self.old.actors actor.0) address bytes) }
+        requires nodes { AreNodesOf self.old.caches place.cache place.page
+            nodes.node nodes.owner }
         requires valid { IsValid self.old (M.held mapper.old) }
         requires fits { Fits (M.page_bytes mapper.old) (machine_of self.old (M.held mapper.old)) }
         ensures call { MapperCall M.Mapper meaning mapper.old self.old
@@ -122,31 +152,13 @@ impl Pvm {
         ensures loaded { IfOk result (IsLoaded (M.counts mapper.old) (M.counts mapper.new)
             (M.given mapper.new) self.old self.new actor.0 address bytes) }
     {
-        let owner = self.nodes_at(place).owner;
-        self.load_from(owner, place, actor, address, bytes, mapper, chooser)
-    }
-
-    // The node of the page at a place, and its owner.
-    pub(crate) fn nodes_at(&self, place: Place) -> NodesAt {
-        let node = node_of(&self.caches, place.cache, place.page);
-        NodesAt {
-            node,
-            owner: owner_of(&self.caches, node),
-        }
-    }
-
-    // A load at a place, the owner of whose page is told.
-    fn load_from<M: Mapper, C: Chooser>(
-        &mut self,
-        owner: NodeId,
-        place: Place,
-        actor: ActorId,
-        address: u64,
-        bytes: u8,
-        mapper: &mut M,
-        chooser: &mut C,
-    ) -> Result<Piece, Trouble> {
-        match read_owner(&mut self.store, &mut self.caches, owner, mapper, chooser) {
+        match read_owner(
+            &mut self.store,
+            &mut self.caches,
+            nodes.owner,
+            mapper,
+            chooser,
+        ) {
             Ok(found) => {
                 remember_found(&mut self.store, &self.contexts, actor, address, found);
                 Ok(part_of(&self.store, found, place.at, bytes))
@@ -189,11 +201,9 @@ impl Pvm {
             Some(piece) => Some(Ok(piece)),
             None => match self.locate(actor, address, bytes) {
                 Ok(place) => {
-                    let owner = self.nodes_at(place).owner;
-                    if has_page_here(&self.caches, owner) {
-                        Some(self.load_from(
-                            owner, place, actor, address, bytes, mapper, chooser,
-                        ))
+                    let nodes = self.nodes_at(place);
+                    if self.is_here(nodes.owner) {
+                        Some(self.load_at(nodes, place, actor, address, bytes, mapper, chooser))
                     } else {
                         None
                     }
@@ -233,9 +243,9 @@ impl Pvm {
             Some(piece) => (Ok(piece), true),
             None => match self.locate(actor, address, bytes) {
                 Ok(place) => {
-                    let owner = self.nodes_at(place).owner;
-                    let ready = has_page_here(&self.caches, owner);
-                    match self.load_from(owner, place, actor, address, bytes, mapper, chooser) {
+                    let nodes = self.nodes_at(place);
+                    let ready = self.is_here(nodes.owner);
+                    match self.load_at(nodes, place, actor, address, bytes, mapper, chooser) {
                         Ok(piece) => (Ok(piece), true),
                         Err(trouble) => (Err(trouble), ready),
                     }

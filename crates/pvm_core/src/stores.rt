@@ -11,20 +11,19 @@ ghost use Rattle.vm_model.specs.Run.{IsUnrefused};
 ghost use Rattle.gmi_calls.specs.Calling.{CallDone, Fits, MapperCall, done_by};
 ghost use Rattle.gmi_calls.specs.Parking.{AccessCall, IsDelivered, NoMoreReady, NoPull, StillAdmits, Waits};
 ghost use Rattle.segment_ops.specs.Access.{GrantsStay};
-ghost use Rattle.pvm_core.specs.Access.{Admits, AskedInVain, IsLookedFor, IsMissAt, IsNoPage, IsReadyToWrite, OnNoAccess, is_ready};
+ghost use Rattle.pvm_core.specs.Access.{Admits, AreNodesOf, AskedInVain, IsLookedFor, IsMissAt, IsNoPage, IsReadyToWrite, OnNoAccess, is_ready};
 ghost use Rattle.pvm_core.specs.Manager.{IsValid, machine_of, meaning, numbered, state_at};
 ghost use Rattle.pvm_core.specs.Translated.{found_for, frame_to_write};
 
 use crate::Pvm;
 use crate::loads::NodesAt;
-use crate::nodes::has_page_here;
 use crate::pieces::{fault_of, write_found, write_frame};
 use crate::translations::{byte_at, remember, translated_for_writing};
 use crate::writes::grant_range;
 use fault_path::{read_owner, write_fault};
 use page_tables::Translation;
 use regions::Place;
-use vm_ids::{ActorId, Command, Extent, FaultAt, NodeId, Piece, Refusal, Trouble};
+use vm_ids::{ActorId, Command, Extent, FaultAt, Piece, Refusal, Trouble};
 use vm_port::{Chooser, Mapper};
 
 impl Pvm {
@@ -108,9 +107,10 @@ impl Pvm {
         Ok(place)
     }
 
-    // A store at a place, where the page may be written.
+    // A store at a place, where the page may be written, whose nodes are told.
     pub(crate) fn store_at<M: Mapper, C: Chooser>(
         &mut self,
+        nodes: NodesAt,
         place: Place,
         actor: ActorId,
         address: u64,
@@ -120,6 +120,8 @@ impl Pvm {
     ) -> Result<(), Trouble>
         requires place { Ok place ≡ place_told (place_of_actor self.old.page_bytes
             (has_number self.old.actors actor.0) address (length piece.now)) }
+        requires nodes { AreNodesOf self.old.caches place.cache place.page
+            nodes.node nodes.owner }
         requires may_write { place.prot.write ≡ true }
         requires writable { IsWritable self.old.caches (page_name place.cache place.page.0) }
         requires valid { IsValid self.old (M.held mapper.old) }
@@ -141,21 +143,6 @@ impl Pvm {
         ensures translated { OnOk result (IsSome (frame_to_write (found_for self.new.page_bytes
             self.new.store.tables actor.0 address (length piece.now)))) }
     {
-        let nodes = self.nodes_at(place);
-        self.store_from(nodes, place, actor, address, piece, mapper, chooser)
-    }
-
-    // A store at a place where the page may be written, whose owner is told.
-    fn store_from<M: Mapper, C: Chooser>(
-        &mut self,
-        nodes: NodesAt,
-        place: Place,
-        actor: ActorId,
-        address: u64,
-        piece: &Piece,
-        mapper: &mut M,
-        chooser: &mut C,
-    ) -> Result<(), Trouble> {
         let bytes = piece.as_slice();
         match write_fault(
             &mut self.store,
@@ -178,19 +165,25 @@ impl Pvm {
         }
     }
 
-    // The page at a place is brought in where it isn't at hand.
+    // The page at a place, whose nodes are told, is brought in where it isn't at hand.
     fn bring_page<M: Mapper, C: Chooser>(
         &mut self,
-        owner: NodeId,
+        nodes: NodesAt,
         place: Place,
+        actor: ActorId,
+        address: u64,
         mapper: &mut M,
         chooser: &mut C,
     ) -> Result<(), Trouble>
         requires place { (n : ℕ) × (Ok place ≡ place_told (place_of_actor self.old.page_bytes
             (has_number self.old.actors actor.0) address n)) }
+        requires nodes { AreNodesOf self.old.caches place.cache place.page
+            nodes.node nodes.owner }
         requires valid { IsValid self.old (M.held mapper.old) }
         requires fits { Fits (M.page_bytes mapper.old) (machine_of self.old (M.held mapper.old)) }
         ensures brought { IsLookedFor M.Mapper mapper.old self.old mapper.new self.new }
+        ensures nodes { AreNodesOf self.new.caches place.cache place.page
+            nodes.node nodes.owner }
         ensures ready { OnOk result (is_ready self.new actor.0 address ≡ true) }
         ensures pulled { OnOk result (is_ready self.old actor.0 address ≡ false
             → RoseBy 1 (M.counts mapper.old).pulls (M.counts mapper.new).pulls) }
@@ -205,6 +198,7 @@ impl Pvm {
         ensures admits { StillAdmits Admits self.old self.new }
         ensures grants { GrantsStay self.old.caches self.new.caches }
     {
+        let owner = nodes.owner;
         if let Err(miss) = read_owner(&mut self.store, &mut self.caches, owner, mapper, chooser) {
             return Err(Trouble::Mapper(fault_of(miss, place.page)));
         }
@@ -248,10 +242,8 @@ impl Pvm {
         match self.place_to_write(actor, address, piece, mapper) {
             Ok(place) => {
                 let nodes = self.nodes_at(place);
-                if has_page_here(&self.caches, nodes.owner) {
-                    Some(self.store_from(
-                        nodes, place, actor, address, piece, mapper, chooser,
-                    ))
+                if self.is_here(nodes.owner) {
+                    Some(self.store_at(nodes, place, actor, address, piece, mapper, chooser))
                 } else {
                     None
                 }
@@ -295,14 +287,18 @@ impl Pvm {
             Err(trouble) => return (Err(trouble), self.is_ready(actor, address)),
         };
         let nodes = self.nodes_at(place);
-        if !has_page_here(&self.caches, nodes.owner) {
-            if let Err(trouble) = self.bring_page(nodes.owner, place, mapper, chooser) {
-                return (Err(trouble), false);
-            }
+        if self.is_here(nodes.owner) {
+            return (
+                self.store_at(nodes, place, actor, address, piece, mapper, chooser),
+                true,
+            );
         }
-        (
-            self.store_from(nodes, place, actor, address, piece, mapper, chooser),
-            true,
-        )
+        match self.bring_page(nodes, place, actor, address, mapper, chooser) {
+            Ok(()) => (
+                self.store_at(nodes, place, actor, address, piece, mapper, chooser),
+                true,
+            ),
+            Err(trouble) => (Err(trouble), false),
+        }
     }
 }

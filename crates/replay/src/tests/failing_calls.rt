@@ -5,11 +5,11 @@ ghost use Rattle.std.specs.Prelude.{◌≡◌};
 
 use super::following::Follower;
 use super::playing::{failing, said, text, written, written_at_once};
-use super::rows;
-use super::segment_rows::{
+use super::rows::segments::{
     A_SAVE_FAILS, A_SAVE_FAILS_REPLIES, HOSTILE, HOSTILE_REPLIES, SAVES, SAVES_REPLIES,
     TEXT_SHARED_AND_DATA_FORKED, TEXT_SHARED_AND_DATA_FORKED_REPLIES,
 };
+use super::rows::{copies, frames};
 use std::alloc::Global;
 use std::process::Abort;
 use vm_ids::{NoMemory, PAGE, PageNo, SegId};
@@ -123,30 +123,33 @@ fn faults_of(
 fn worked_scripts_tell_of_the_page_forest(rt: HostRuntime) -> Result<(), NoMemory> {
     for (script, replies) in [
         (
-            rows::TREE_COPY_OF_NINE_PAGES,
-            rows::TREE_COPY_OF_NINE_PAGES_REPLIES,
-        ),
-        (rows::COPIED_THREE_TIMES, rows::COPIED_THREE_TIMES_REPLIES),
-        (rows::STUBS, rows::STUBS_REPLIES),
-        (rows::THERE_AND_BACK, rows::THERE_AND_BACK_REPLIES),
-        (rows::COPY_OF_A_COPY, rows::COPY_OF_A_COPY_REPLIES),
-        (
-            rows::DEAD_SOURCE_THEN_A_MERGE,
-            rows::DEAD_SOURCE_THEN_A_MERGE_REPLIES,
+            copies::TREE_COPY_OF_NINE_PAGES,
+            copies::TREE_COPY_OF_NINE_PAGES_REPLIES,
         ),
         (
-            rows::MOVE_OF_A_COPIED_PAGE,
-            rows::MOVE_OF_A_COPIED_PAGE_REPLIES,
+            copies::COPIED_THREE_TIMES,
+            copies::COPIED_THREE_TIMES_REPLIES,
+        ),
+        (copies::STUBS, copies::STUBS_REPLIES),
+        (copies::THERE_AND_BACK, copies::THERE_AND_BACK_REPLIES),
+        (copies::COPY_OF_A_COPY, copies::COPY_OF_A_COPY_REPLIES),
+        (
+            copies::DEAD_SOURCE_THEN_A_MERGE,
+            copies::DEAD_SOURCE_THEN_A_MERGE_REPLIES,
         ),
         (
-            rows::TREE_CHILD_BEFORE_STUBS,
-            rows::TREE_CHILD_BEFORE_STUBS_REPLIES,
+            copies::MOVE_OF_A_COPIED_PAGE,
+            copies::MOVE_OF_A_COPIED_PAGE_REPLIES,
         ),
         (
-            rows::MOVE_INSIDE_ONE_CACHE,
-            rows::MOVE_INSIDE_ONE_CACHE_REPLIES,
+            copies::TREE_CHILD_BEFORE_STUBS,
+            copies::TREE_CHILD_BEFORE_STUBS_REPLIES,
         ),
-        (rows::LOCKS, rows::LOCKS_REPLIES),
+        (
+            copies::MOVE_INSIDE_ONE_CACHE,
+            copies::MOVE_INSIDE_ONE_CACHE_REPLIES,
+        ),
+        (frames::LOCKS, frames::LOCKS_REPLIES),
         (A_SAVE_FAILS, A_SAVE_FAILS_REPLIES),
         (
             TEXT_SHARED_AND_DATA_FORKED,

@@ -7,7 +7,7 @@ use super::drawn::{Touched, as_answered, drawn_script};
 use super::draws::Draws;
 use super::playing::{failing, said, text, written};
 use super::processes::fails_in_turn;
-use super::{rows, segment_rows};
+use super::rows::{accesses, copies, frames, segments};
 use std::alloc::Global;
 use std::process::Abort;
 use vm_ids::{NoMemory, PAGE};
@@ -167,26 +167,26 @@ fn answer_the_same(
 #[test]
 fn both_managers_answer_worked_scripts_the_same(rt: HostRuntime) -> Result<(), NoMemory> {
     for script in [
-        rows::LEAST_SUCCESS,
-        rows::EMPTY_SCRIPT,
-        rows::ZEROS,
-        rows::BORDERS,
-        rows::TREE_COPY_OF_NINE_PAGES,
-        rows::COPIED_THREE_TIMES,
-        rows::STUBS,
-        rows::THERE_AND_BACK,
-        rows::COPY_OF_A_COPY,
-        rows::DEAD_SOURCE_THEN_A_MERGE,
-        rows::THREE_FRAMES,
-        rows::MOVE_OF_A_COPIED_PAGE,
-        rows::TREE_CHILD_BEFORE_STUBS,
-        rows::MOVE_INSIDE_ONE_CACHE,
-        rows::OVERLAP,
-        rows::REFUSALS,
-        rows::TRANSLATION_TO_THE_SOURCE,
-        rows::LOCKS,
-        segment_rows::REFUSED_MOVES,
-        segment_rows::INVALIDATE_AND_FLUSH,
+        accesses::LEAST_SUCCESS,
+        accesses::EMPTY_SCRIPT,
+        accesses::ZEROS,
+        accesses::BORDERS,
+        copies::TREE_COPY_OF_NINE_PAGES,
+        copies::COPIED_THREE_TIMES,
+        copies::STUBS,
+        copies::THERE_AND_BACK,
+        copies::COPY_OF_A_COPY,
+        copies::DEAD_SOURCE_THEN_A_MERGE,
+        frames::THREE_FRAMES,
+        copies::MOVE_OF_A_COPIED_PAGE,
+        copies::TREE_CHILD_BEFORE_STUBS,
+        copies::MOVE_INSIDE_ONE_CACHE,
+        copies::OVERLAP,
+        accesses::REFUSALS,
+        frames::TRANSLATION_TO_THE_SOURCE,
+        frames::LOCKS,
+        segments::REFUSED_MOVES,
+        segments::INVALIDATE_AND_FLUSH,
     ] {
         let lines = without_forest(rt.alloc(), script)?.as_str().lines().count();
         let (flat, run) = (["flat", "--frames", "64"], ["run", "--frames", "64"]);

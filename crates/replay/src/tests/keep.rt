@@ -6,6 +6,7 @@ ghost use Rattle.replay.specs.Commanding.{page_size_of};
 use super::draws::{Draws, Script, Turn};
 use super::playing::{said, text, written};
 use super::processes::fails_in_turn;
+use super::rows::kept::{AGAIN, GIVEN_UP_LATER, GIVEN_UP_LATER_REPLIES, KEPT, NOT_KEPT};
 use super::segments::two_pages;
 use std::alloc::Global;
 use std::collections::VecDeque;
@@ -31,79 +32,6 @@ fn three_segments(alloc: Global, fails: &[CallNo]) -> Result<MemoryMapper, NoMem
     ];
     MemoryMapper::new(alloc, &segments, &[], 512, fails, PAGE as u32)
 }
-
-const AGAIN: &str = "open 1
-open 1
-actor
-map a1 c1 0 1 10000 rw
-store a1 10000 58
-close 1
-close 1
-close 1
-load a1 10000 1
-unmap r1
-temp 1
-copy c1 0 c2 0 1
-open 1
-copy c1 0 c2 0 1
-";
-
-const KEPT: &str = "1 ok c1
-2 ok c1
-3 ok a1
-4 ok r1
-5 ok
-6 ok
-7 ok
-8 no NotOpen
-9 ok 58
-10 ok
-11 ok c2
-12 no NoCache
-13 ok c1
-14 ok
-";
-
-const NOT_KEPT: &str = "1 ok c1
-2 ok c1
-3 ok a1
-4 ok r1
-5 ok
-6 ok
-7 ok
-8 no NotOpen
-9 ok 58
-10 ok
-11 ok c2
-12 no NoCache
-13 ok c3
-14 no NoCache
-";
-
-// Where the push fails by which the cache would go at line 6, it stays, and goes at line 8.
-const GIVEN_UP_LATER: &str = "open 1
-actor
-map a1 c1 0 1 10000 rw
-store a1 10000 58
-close 1
-unmap r1
-open 1
-close 1
-open 1
-destroy c2
-";
-
-const GIVEN_UP_LATER_REPLIES: &str = "1 ok c1
-2 ok a1
-3 ok r1
-4 ok
-5 ok
-6 ok
-7 ok c1
-8 ok
-9 ok c2
-10 no BadLine
-";
 
 // For these words a script has these replies; then the first segment begins with this byte.
 fn keeps(
@@ -276,6 +204,29 @@ impl Plain {
         "ok"
     }
 
+    fn store(&mut self, place: usize, at: usize, page: usize, byte: u8) -> &'static str {
+        match self.byte(place, at, page) {
+            Some(seen) => {
+                *seen = byte;
+                "ok"
+            }
+            None => "no BadAddress",
+        }
+    }
+
+    fn load(
+        &mut self,
+        alloc: Global,
+        place: usize,
+        at: usize,
+        page: usize,
+    ) -> Result<String, NoMemory> {
+        Ok(match self.byte(place, at, page) {
+            Some(seen) => format!(in alloc; "ok {seen:02x}")?,
+            None => format!(in alloc; "no BadAddress")?,
+        })
+    }
+
     fn number(&self, place: usize) -> u32 {
         match self.segments.get(place) {
             Some(segment) => segment.number(),
@@ -299,70 +250,52 @@ fn turn(line: String, reply: String) -> Turn {
     Turn { line, reply }
 }
 
+// A line that is to be answered by these words.
+fn told(alloc: Global, line: String, reply: &str) -> Result<Turn, NoMemory> {
+    Ok(turn(line, format!(in alloc; "{reply}")?))
+}
+
 // The next drawn line, played on the plain machine. What is drawn depends on no answer.
 fn play(alloc: Global, draws: &mut Draws, plain: &mut Plain) -> Result<Turn, NoMemory> {
     let (segment, at, page) = (draws.below(3), draws.below(2), draws.below(2));
     let (s, a, p) = (segment as usize, at as usize, page as usize);
     let byte = draws.below(256) as u8;
-    let address = 0x10000 * (2 * segment as u64 + at as u64 + 1) + page as u64 * PAGE as u64;
+    let start = 0x10000 * (2 * segment as u64 + at as u64 + 1);
+    let address = start + page as u64 * PAGE as u64;
     let number = plain.number(s);
     match draws.below(16) {
-        0 => Ok(turn(format!(in alloc; "pageout 3")?, format!(in alloc; "ok")?)),
+        0 => told(alloc, format!(in alloc; "pageout 3")?, "ok"),
         1..=2 => Ok(turn(
             format!(in alloc; "open {}", segment + 1)?,
             plain.open(alloc, s)?,
         )),
         3..=5 => {
             let reply = plain.close(s)?;
-            Ok(turn(
-                format!(in alloc; "close {}", segment + 1)?,
-                format!(in alloc; "{reply}")?,
-            ))
+            told(alloc, format!(in alloc; "close {}", segment + 1)?, reply)
         }
-        6..=7 => {
-            let start = 0x10000 * (2 * segment as u64 + at as u64 + 1);
-            Ok(turn(
-                format!(in alloc; "map a1 c{number} 0 2 {start:x} rw")?,
-                plain.map(alloc, s, a)?,
-            ))
-        }
+        6..=7 => Ok(turn(
+            format!(in alloc; "map a1 c{number} 0 2 {start:x} rw")?,
+            plain.map(alloc, s, a)?,
+        )),
         8 => {
             let region = plain.region(s, a);
             let reply = plain.unmap(s, a)?;
-            Ok(turn(
-                format!(in alloc; "unmap r{region}")?,
-                format!(in alloc; "{reply}")?,
-            ))
+            told(alloc, format!(in alloc; "unmap r{region}")?, reply)
         }
         9..=10 => {
             let other = (s + 1) % SEGMENTS;
             let to = plain.number(other);
-            let reply = plain.copy(s, other, p);
-            Ok(turn(
-                format!(in alloc; "copy c{number} {page} c{to} {page} 1")?,
-                format!(in alloc; "{reply}")?,
-            ))
+            let line = format!(in alloc; "copy c{number} {page} c{to} {page} 1")?;
+            told(alloc, line, plain.copy(s, other, p))
         }
         11..=13 => {
-            let reply = match plain.byte(s, a, p) {
-                Some(seen) => {
-                    *seen = byte;
-                    "ok"
-                }
-                None => "no BadAddress",
-            };
-            Ok(turn(
-                format!(in alloc; "store a1 {address:x} {byte:02x}")?,
-                format!(in alloc; "{reply}")?,
-            ))
+            let line = format!(in alloc; "store a1 {address:x} {byte:02x}")?;
+            told(alloc, line, plain.store(s, a, p, byte))
         }
-        _ => {
-            let reply = match plain.byte(s, a, p) {
-                Some(seen) => format!(in alloc; "ok {seen:02x}")?,
-                None => format!(in alloc; "no BadAddress")?,
-            };
-            Ok(turn(format!(in alloc; "load a1 {address:x} 1")?, reply))
-        }
+        _ => Ok(turn(
+            format!(in alloc; "load a1 {address:x} 1")?,
+            plain.load(alloc, s, a, p)?,
+        )),
     }
 }
 

@@ -1,6 +1,6 @@
 // Whole runs over a mapper that never fails and gives wrong pages.
-use super::rows;
-use super::segment_rows::{HOSTILE, HOSTILE_REPLIES};
+use super::rows::accesses;
+use super::rows::segments::{HOSTILE, HOSTILE_REPLIES};
 use crate::{Status, run};
 use std::alloc::Global;
 use std::process::Abort;
@@ -28,8 +28,8 @@ fn written(rt: &impl Abort, alloc: Global, script: &str) -> Result<MemorySink, N
 // The bytes that are loaded are those that the mapper gave, and each page is asked for once.
 #[test]
 fn wrong_pages_are_loaded_as_they_came(rt: HostRuntime) -> Result<(), NoMemory> {
-    let sink = written(&rt, rt.alloc(), rows::WRONG_PAGES)?;
-    assert_eq!(&rt; sink.written(), rows::WRONG_PAGES_REPLIES.as_bytes());
+    let sink = written(&rt, rt.alloc(), accesses::WRONG_PAGES)?;
+    assert_eq!(&rt; sink.written(), accesses::WRONG_PAGES_REPLIES.as_bytes());
     Ok(())
 }
 

@@ -15,13 +15,13 @@ mod playing;
 mod ports;
 mod processes;
 mod rows;
-mod segment_rows;
 mod segments;
 mod streams;
 mod transit;
 mod words;
 
 use crate::{Status, page_size, run};
+use rows::{accesses, copies, frames, hundred_pages};
 use std::alloc::Global;
 use std::cell::Cell;
 use std::process::Abort;
@@ -97,60 +97,86 @@ fn has_its_replies(
 }
 
 #[test]
-fn scripts_have_their_replies_however_they_are_cut(rt: HostRuntime) -> Result<(), NoMemory> {
+fn accesses_have_their_replies_however_they_are_cut(rt: HostRuntime) -> Result<(), NoMemory> {
     for (frames, script, replies) in [
-        ("3", rows::LEAST_SUCCESS, rows::LEAST_SUCCESS_REPLIES),
-        ("8", rows::EMPTY_SCRIPT, rows::EMPTY_SCRIPT_REPLIES),
-        ("8", rows::ZEROS, rows::ZEROS_REPLIES),
-        ("8", rows::BORDERS, rows::BORDERS_REPLIES),
         (
-            "8",
-            rows::TREE_COPY_OF_NINE_PAGES,
-            rows::TREE_COPY_OF_NINE_PAGES_REPLIES,
+            "3",
+            accesses::LEAST_SUCCESS,
+            accesses::LEAST_SUCCESS_REPLIES,
         ),
-        (
-            "8",
-            rows::COPIED_THREE_TIMES,
-            rows::COPIED_THREE_TIMES_REPLIES,
-        ),
-        ("3", rows::LINKS_AS_RUNS, rows::LINKS_AS_RUNS_REPLIES),
-        ("8", rows::STUBS, rows::STUBS_REPLIES),
-        ("8", rows::THERE_AND_BACK, rows::THERE_AND_BACK_REPLIES),
-        ("8", rows::COPY_OF_A_COPY, rows::COPY_OF_A_COPY_REPLIES),
-        (
-            "8",
-            rows::DEAD_SOURCE_THEN_A_MERGE,
-            rows::DEAD_SOURCE_THEN_A_MERGE_REPLIES,
-        ),
-        ("3", rows::THREE_FRAMES, rows::THREE_FRAMES_REPLIES),
-        (
-            "8",
-            rows::MOVE_OF_A_COPIED_PAGE,
-            rows::MOVE_OF_A_COPIED_PAGE_REPLIES,
-        ),
-        (
-            "8",
-            rows::TREE_CHILD_BEFORE_STUBS,
-            rows::TREE_CHILD_BEFORE_STUBS_REPLIES,
-        ),
-        (
-            "8",
-            rows::MOVE_INSIDE_ONE_CACHE,
-            rows::MOVE_INSIDE_ONE_CACHE_REPLIES,
-        ),
-        ("8", rows::OVERLAP, rows::OVERLAP_REPLIES),
-        ("8", rows::REFUSALS, rows::REFUSALS_REPLIES),
-        (
-            "8",
-            rows::TRANSLATION_TO_THE_SOURCE,
-            rows::TRANSLATION_TO_THE_SOURCE_REPLIES,
-        ),
-        ("8", rows::LOCKS, rows::LOCKS_REPLIES),
-        ("3", rows::LIVE_PAGE_LIMIT, rows::LIVE_PAGE_LIMIT_REPLIES),
+        ("8", accesses::EMPTY_SCRIPT, accesses::EMPTY_SCRIPT_REPLIES),
+        ("8", accesses::ZEROS, accesses::ZEROS_REPLIES),
+        ("8", accesses::BORDERS, accesses::BORDERS_REPLIES),
+        ("8", accesses::REFUSALS, accesses::REFUSALS_REPLIES),
         (
             "8",
             "actor\nstat",
             "1 ok a1\n2 stat live 0 working 0 copies 0\n",
+        ),
+    ] {
+        has_its_replies(&rt, rt.alloc(), frames, script, replies)?;
+    }
+    Ok(())
+}
+
+#[test]
+fn copies_have_their_replies_however_they_are_cut(rt: HostRuntime) -> Result<(), NoMemory> {
+    for (frames, script, replies) in [
+        (
+            "8",
+            copies::TREE_COPY_OF_NINE_PAGES,
+            copies::TREE_COPY_OF_NINE_PAGES_REPLIES,
+        ),
+        (
+            "8",
+            copies::COPIED_THREE_TIMES,
+            copies::COPIED_THREE_TIMES_REPLIES,
+        ),
+        ("3", copies::LINKS_AS_RUNS, copies::LINKS_AS_RUNS_REPLIES),
+        ("8", copies::STUBS, copies::STUBS_REPLIES),
+        ("8", copies::THERE_AND_BACK, copies::THERE_AND_BACK_REPLIES),
+        ("8", copies::COPY_OF_A_COPY, copies::COPY_OF_A_COPY_REPLIES),
+        (
+            "8",
+            copies::DEAD_SOURCE_THEN_A_MERGE,
+            copies::DEAD_SOURCE_THEN_A_MERGE_REPLIES,
+        ),
+        (
+            "8",
+            copies::MOVE_OF_A_COPIED_PAGE,
+            copies::MOVE_OF_A_COPIED_PAGE_REPLIES,
+        ),
+        (
+            "8",
+            copies::TREE_CHILD_BEFORE_STUBS,
+            copies::TREE_CHILD_BEFORE_STUBS_REPLIES,
+        ),
+        (
+            "8",
+            copies::MOVE_INSIDE_ONE_CACHE,
+            copies::MOVE_INSIDE_ONE_CACHE_REPLIES,
+        ),
+        ("8", copies::OVERLAP, copies::OVERLAP_REPLIES),
+    ] {
+        has_its_replies(&rt, rt.alloc(), frames, script, replies)?;
+    }
+    Ok(())
+}
+
+#[test]
+fn few_frames_have_their_replies_however_they_are_cut(rt: HostRuntime) -> Result<(), NoMemory> {
+    for (frames, script, replies) in [
+        ("3", frames::THREE_FRAMES, frames::THREE_FRAMES_REPLIES),
+        (
+            "8",
+            frames::TRANSLATION_TO_THE_SOURCE,
+            frames::TRANSLATION_TO_THE_SOURCE_REPLIES,
+        ),
+        ("8", frames::LOCKS, frames::LOCKS_REPLIES),
+        (
+            "3",
+            frames::LIVE_PAGE_LIMIT,
+            frames::LIVE_PAGE_LIMIT_REPLIES,
         ),
     ] {
         has_its_replies(&rt, rt.alloc(), frames, script, replies)?;
@@ -179,7 +205,7 @@ fn a_victim_whose_push_fails_stays(rt: HostRuntime) -> Result<(), NoMemory> {
         nth: 1,
     }];
     let mut mapper = swap_area(rt.alloc(), PAGE as u32, &fails)?;
-    let mut source = MemorySource::new(rows::VICTIMS_PUSH_FAILS.as_bytes(), &[]);
+    let mut source = MemorySource::new(frames::VICTIMS_PUSH_FAILS.as_bytes(), &[]);
     let mut sink = MemorySink::new(rt.alloc(), 4096, &[])?;
     let words = ["run", "--frames", "3"];
     let mut chooser = Clock::new();
@@ -193,7 +219,10 @@ fn a_victim_whose_push_fails_stays(rt: HostRuntime) -> Result<(), NoMemory> {
         &mut ListedTurns::new(&[]),
     );
     assert_eq!(&rt; status, Status::Done);
-    assert_eq!(&rt; sink.written(), rows::VICTIMS_PUSH_FAILS_REPLIES.as_bytes());
+    assert_eq!(&rt;
+        sink.written(),
+        frames::VICTIMS_PUSH_FAILS_REPLIES.as_bytes()
+    );
     Ok(())
 }
 
@@ -202,7 +231,7 @@ fn a_victim_whose_push_fails_stays(rt: HostRuntime) -> Result<(), NoMemory> {
 fn a_copy_moves_no_bytes(rt: HostRuntime) -> Result<(), NoMemory> {
     let words = ["run", "--frames", "4"];
     for behind in ["copy", "load"] {
-        let Some((front, _)) = rows::COPY_MOVES_NO_BYTES.split_once(behind) else {
+        let Some((front, _)) = hundred_pages::COPY_MOVES_NO_BYTES.split_once(behind) else {
             panic!(&rt; "no such line");
         };
         let mut mapper = swap_area(rt.alloc(), PAGE as u32, &[])?;
@@ -221,13 +250,13 @@ fn a_copy_moves_no_bytes(rt: HostRuntime) -> Result<(), NoMemory> {
         assert_eq!(&rt; status, Status::Done);
         assert_eq!(&rt; (mapper.pulls(), mapper.pushes()), (0, 96));
     }
-    let script = rows::COPY_MOVES_NO_BYTES.as_bytes();
+    let script = hundred_pages::COPY_MOVES_NO_BYTES.as_bytes();
     let mut sink = MemorySink::new(rt.alloc(), 4096, &[])?;
     let status = replay_cut(rt.alloc(), "4", script, 4096, &mut sink)?;
     assert_eq!(&rt; status, Status::Done);
     assert_eq!(&rt;
         sink.written(),
-        rows::COPY_MOVES_NO_BYTES_REPLIES.as_bytes()
+        hundred_pages::COPY_MOVES_NO_BYTES_REPLIES.as_bytes()
     );
     Ok(())
 }

@@ -1,7 +1,8 @@
 // Whole runs over segments in memory: what is answered, and what the segments hold then.
 ghost use Rattle.std.specs.Prelude.{◌≡◌, ◌≤◌, ◌<◌, ◌*◌, ◌-◌, ◌^◌, length, All, IfOk};
 
-use super::{SLOTS, segment_rows as rows};
+use super::SLOTS;
+use super::rows::segments;
 use crate::{Status, run};
 use std::alloc::Global;
 use std::process::Abort;
@@ -78,8 +79,8 @@ fn a_copy_outlives_the_cache_of_its_segment(rt: HostRuntime) -> Result<(), NoMem
     let mapper = play(
         &rt,
         alloc,
-        rows::SEGMENT_REOPENED,
-        rows::SEGMENT_REOPENED_REPLIES,
+        segments::SEGMENT_REOPENED,
+        segments::SEGMENT_REOPENED_REPLIES,
         &segments,
         &[],
         &[],
@@ -94,8 +95,8 @@ fn what_was_flushed_is_there_after_invalidate(rt: HostRuntime) -> Result<(), NoM
     let mapper = play(
         &rt,
         rt.alloc(),
-        rows::INVALIDATE_AND_FLUSH,
-        rows::INVALIDATE_AND_FLUSH_REPLIES,
+        segments::INVALIDATE_AND_FLUSH,
+        segments::INVALIDATE_AND_FLUSH_REPLIES,
         &segments,
         &[],
         &[],
@@ -104,8 +105,8 @@ fn what_was_flushed_is_there_after_invalidate(rt: HostRuntime) -> Result<(), NoM
     play(
         &rt,
         rt.alloc(),
-        rows::REFUSED_MOVES,
-        rows::REFUSED_MOVES_REPLIES,
+        segments::REFUSED_MOVES,
+        segments::REFUSED_MOVES_REPLIES,
         &segments,
         &[],
         &[],
@@ -119,8 +120,8 @@ fn a_denied_page_is_not_written(rt: HostRuntime) -> Result<(), NoMemory> {
     let mapper = play(
         &rt,
         rt.alloc(),
-        rows::DENIED_PAGE,
-        rows::DENIED_PAGE_REPLIES,
+        segments::DENIED_PAGE,
+        segments::DENIED_PAGE_REPLIES,
         &segments,
         &[(SegId(1), PageNo(1))],
         &[],
@@ -140,8 +141,8 @@ fn a_save_that_fails_leaves_the_cache(rt: HostRuntime) -> Result<(), NoMemory> {
     play(
         &rt,
         rt.alloc(),
-        rows::A_SAVE_FAILS,
-        rows::A_SAVE_FAILS_REPLIES,
+        segments::A_SAVE_FAILS,
+        segments::A_SAVE_FAILS_REPLIES,
         &segments,
         &[],
         &fails,
@@ -157,8 +158,8 @@ fn text_is_shared_and_data_forked_in_six_frames(rt: HostRuntime) -> Result<(), N
     play(
         &rt,
         rt.alloc(),
-        rows::TEXT_SHARED_AND_DATA_FORKED,
-        rows::TEXT_SHARED_AND_DATA_FORKED_REPLIES,
+        segments::TEXT_SHARED_AND_DATA_FORKED,
+        segments::TEXT_SHARED_AND_DATA_FORKED_REPLIES,
         &[text],
         &[],
         &[],

@@ -3,7 +3,7 @@
 ghost use Rattle.std.specs.Prelude.{◌≤◌};
 
 use super::replay_cut;
-use super::rows::{LEAST_SUCCESS, LEAST_SUCCESS_REPLIES};
+use super::rows::accesses::{LEAST_SUCCESS, LEAST_SUCCESS_REPLIES};
 use crate::{Status, run};
 use std::alloc::Global;
 use std::process::Abort;

@@ -1,5 +1,6 @@
 // Command lines: what they ask for, and those that ask for nothing.
-use super::{replay_source, rows};
+use super::replay_source;
+use super::rows::accesses;
 use crate::asked::{Asked, Generated, Size};
 use crate::words::read_words;
 use crate::{Status, folder, page_size};
@@ -207,7 +208,7 @@ fn other_words_ask_for_nothing(rt: HostRuntime) {
 
 #[test]
 fn other_words_read_and_write_nothing(rt: HostRuntime) -> Result<(), NoMemory> {
-    let mut source = MemorySource::new(rows::ZEROS.as_bytes(), &[]);
+    let mut source = MemorySource::new(accesses::ZEROS.as_bytes(), &[]);
     let mut sink = MemorySink::new(rt.alloc(), 4096, &[])?;
     for words in [
         [].as_slice(),
@@ -222,7 +223,7 @@ fn other_words_read_and_write_nothing(rt: HostRuntime) -> Result<(), NoMemory> {
     let words = ["run", "--segments", "d", "--frames=3"];
     let status = replay_source(rt.alloc(), &words, &mut source, &mut sink)?;
     assert_eq!(&rt; status, Status::Done);
-    assert_eq!(&rt; sink.written(), rows::ZEROS_REPLIES.as_bytes());
+    assert_eq!(&rt; sink.written(), accesses::ZEROS_REPLIES.as_bytes());
     Ok(())
 }
 
@@ -258,11 +259,14 @@ fn page_frames_may_have_256_megabytes(rt: HostRuntime) -> Result<(), NoMemory> {
 
 #[test]
 fn a_page_may_have_512_bytes(rt: HostRuntime) -> Result<(), NoMemory> {
-    let mut source = MemorySource::new(rows::PAGE_OF_512_BYTES.as_bytes(), &[]);
+    let mut source = MemorySource::new(accesses::PAGE_OF_512_BYTES.as_bytes(), &[]);
     let mut sink = MemorySink::new(rt.alloc(), 4096, &[])?;
     let words = ["run", "--frames", "3", "--page", "512"];
     let status = replay_source(rt.alloc(), &words, &mut source, &mut sink)?;
     assert_eq!(&rt; status, Status::Done);
-    assert_eq!(&rt; sink.written(), rows::PAGE_OF_512_BYTES_REPLIES.as_bytes());
+    assert_eq!(&rt;
+        sink.written(),
+        accesses::PAGE_OF_512_BYTES_REPLIES.as_bytes()
+    );
     Ok(())
 }

@@ -1,6 +1,9 @@
-use Rattle.std.proofs.Common.{sym, ap, subst, ◌∙◌, ◌≡◌, true, arith}
+use Rattle.std.proofs.Common.{sym, ap, subst, ◌∙◌, ◌≡◌, ℕ, ◌+◌, Bool, true, cond, Option, is_some, arith}
+use Rattle.std.specs.Prelude.{OnOk}
+use Rattle.vm_ids.specs.declared.node_name.NodeName.{NodeName}
 use Rattle.vm_ids.specs.declared.numbers.NodeId.{NodeId}
 use Rattle.vm_ids.specs.Forest.Rules as forest
+use Rattle.local_cache.specs.Arena.{Arena}
 use Rattle.local_cache.specs.Own.{is_absent, own_of}
 use Rattle.residency.specs.World.{World, world}
 use Rattle.residency.proofs.Worlds.Arms.{if_ok}
@@ -10,7 +13,8 @@ use Rattle.fault_path.proofs.Calls.Kept.{absent_is}
 use Rattle.fault_path.proofs.Rules.ReadyForest.{own_ready}
 use Rattle.residency.specs.World.{HasOwnPage}
 use Rattle.fault_path.specs.Translating.{LeavesHomes}
-use Rattle.fault_path.specs.Costs.{TakesAtMost, pulls_to_copy}
+use Rattle.residency.specs.Causes.{frames_to_bring}
+use Rattle.fault_path.specs.Costs.{Takes, TakesAtMost, frames_to_copy, frames_to_write, heirs_to_save, pulls_to_copy, pulls_to_write}
 use Rattle.fault_path.proofs.Calls.Costs.{most_more}
 use Rattle.fault_path.proofs.OnePage.FoundPage.{each_owner, itself_owner, owner_same}
 use Rattle.fault_path.specs.Coming.{IsOfWrite, OnlyCome}
@@ -31,6 +35,20 @@ returns-in-None-clause-ready g c =
           (λ f owned. record { forest = owned.forest ∙ ready; bound = owned.bound; resident = owned.resident }) e.done;
       missed = e.missed;
     }
+
+pub returns-in-None-clause-traffic : goal.returns-in-None-clause-traffic
+returns-in-None-clause-traffic g c = λ o is.
+    let a : Arena = c.args.caches.now in
+    let n : NodeId = c.args.node in
+    let before = g.M.Mapper.counts c.args.mapper.now in
+    let now = g.M.Mapper.counts c.own_framed.new.mapper in
+    let many : ℕ = frames_to_copy (own_of a o) in
+    let absent : is_absent (own_of a n) ≡ true = sym (c.is_absent.ensures.absent ∙ ap is_absent c.own_state.ensures) ∙ c.if-is_absent.true in
+    let pulls : pulls_to_write a n o ≡ pulls_to_copy (own_of a o) = ap (λ (b : Bool). pulls_to_copy (own_of a (cond b o n))) absent in
+    let none : many + 0 ≡ many = omega arith in
+    let frames : frames_to_write a n o ≡ many = ap (λ (b : Bool). cond b many (frames_to_bring (own_of a n)) + heirs_to_save a n) absent ∙ ap (λ (h : Option NodeName). many + cond (is_some h) 1 0) (sym c.in-None.ensures.heir) ∙ none in
+    subst (λ (k : ℕ). OnOk c.own_framed.result (Takes k (frames_to_write a n o) c.args.store.now.frames before now)) (sym pulls)
+    (subst (λ (k : ℕ). OnOk c.own_framed.result (Takes (pulls_to_copy (own_of a o)) k c.args.store.now.frames before now)) (sym frames) (c.own_framed.ensures.traffic o is))
 
 pub returns-in-Some-heir-clause-drops : goal.returns-in-Some-heir-clause-drops
 returns-in-Some-heir-clause-drops g c =

@@ -77,29 +77,25 @@ own_page-requires-clause-sound g c =
 
 pub hand_page-requires-clause-node : goal.hand_page-requires-clause-node
 hand_page-requires-clause-node g c =
-    let owner : IsOwner c.args.caches.now c.args.node c.owner_of-owner.result = record { held = c.owner_of-owner.ensures.held; name = c.owner_of-owner.ensures.owner } in
-    step_there c.requires.right c.in_ok-frame.ensures.copied.done c.in-Ok.ensures.doubled.done c.requires.node c.requires.bare owner c.own_page.ensures c.args.node c.requires.node
+    step_there c.requires.right c.in_ok-frame.ensures.copied.done c.in-Ok.ensures.doubled.done c.requires.node c.requires.bare c.requires.owner c.own_page.ensures c.args.node c.requires.node
 
 pub hand_page-requires-clause-heir : goal.hand_page-requires-clause-heir
 hand_page-requires-clause-heir g c =
-    let owner : IsOwner c.args.caches.now c.args.node c.owner_of-owner.result = record { held = c.owner_of-owner.ensures.held; name = c.owner_of-owner.ensures.owner } in
     record {
-      held = step_there c.requires.right c.in_ok-frame.ensures.copied.done c.in-Ok.ensures.doubled.done c.requires.node c.requires.bare owner c.own_page.ensures c.args.next c.requires.next.held;
-      name = step_heir c.requires.right c.in_ok-frame.ensures.copied.done c.in-Ok.ensures.doubled.done c.requires.node c.requires.bare owner c.own_page.ensures c.args.next c.requires.next.name;
+      held = step_there c.requires.right c.in_ok-frame.ensures.copied.done c.in-Ok.ensures.doubled.done c.requires.node c.requires.bare c.requires.owner c.own_page.ensures c.args.next c.requires.next.held;
+      name = step_heir c.requires.right c.in_ok-frame.ensures.copied.done c.in-Ok.ensures.doubled.done c.requires.node c.requires.bare c.requires.owner c.own_page.ensures c.args.next c.requires.next.name;
     }
 
 pub hand_page-requires-clause-copies : goal.hand_page-requires-clause-copies
 hand_page-requires-clause-copies g c =
-    let owner : IsOwner c.args.caches.now c.args.node c.owner_of-owner.result = record { held = c.owner_of-owner.ensures.held; name = c.owner_of-owner.ensures.owner } in
-    let more = step_copies c.requires.right c.in_ok-frame.ensures.copied.done c.in-Ok.ensures.doubled.done c.requires.node c.requires.bare owner c.own_page.ensures in
+    let more = step_copies c.requires.right c.in_ok-frame.ensures.copied.done c.in-Ok.ensures.doubled.done c.requires.node c.requires.bare c.requires.owner c.own_page.ensures in
     omega (arith, more, c.requires.copies)
 
 pub settle_in-requires-2-clause-away : goal.settle_in-requires-2-clause-away
 settle_in-requires-2-clause-away g c =
-    let owner : IsOwner c.args.caches.now c.args.node c.owner_of-owner.result = record { held = c.owner_of-owner.ensures.held; name = c.owner_of-owner.ensures.owner } in
-    let step = step_gives c.requires.right c.in_ok-frame.ensures.copied.done c.in-Ok.ensures.doubled.done c.requires.node c.requires.bare owner c.own_page.ensures in
-    let next_there = step_there c.requires.right c.in_ok-frame.ensures.copied.done c.in-Ok.ensures.doubled.done c.requires.node c.requires.bare owner c.own_page.ensures c.args.next c.requires.next.held in
-    let next_is = step_heir c.requires.right c.in_ok-frame.ensures.copied.done c.in-Ok.ensures.doubled.done c.requires.node c.requires.bare owner c.own_page.ensures c.args.next c.requires.next.name in
+    let step = step_gives c.requires.right c.in_ok-frame.ensures.copied.done c.in-Ok.ensures.doubled.done c.requires.node c.requires.bare c.requires.owner c.own_page.ensures in
+    let next_there = step_there c.requires.right c.in_ok-frame.ensures.copied.done c.in-Ok.ensures.doubled.done c.requires.node c.requires.bare c.requires.owner c.own_page.ensures c.args.next c.requires.next.held in
+    let next_is = step_heir c.requires.right c.in_ok-frame.ensures.copied.done c.in-Ok.ensures.doubled.done c.requires.node c.requires.bare c.requires.owner c.own_page.ensures c.args.next c.requires.next.name in
     ap (λ (s : Store). bound_times s.map c.args.next.0) c.settle_in.ensures ∙ unbound _ step.right c.args.next (heir_absent c.own_page.new.caches step.sound _ c.args.next next_there next_is)
 
 pub returns-clause-ready : goal.returns-clause-ready
@@ -107,11 +103,10 @@ returns-clause-ready g c =
     let told = g.M.Mapper.held c.double.new.mapper in
     let size = g.M.Mapper.page_bytes c.double.new.mapper in
     let old : World = world (g.M.Mapper.held c.args.mapper.now) (g.M.Mapper.page_bytes c.args.mapper.now) c.args.caches.now c.args.store.now in
-    let owner : IsOwner c.args.caches.now c.args.node c.owner_of-owner.result = record { held = c.owner_of-owner.ensures.held; name = c.owner_of-owner.ensures.owner } in
     record {
       answered = let store : c.settle_in-2.new.store ≡ record c.double.new.store { frames = record c.double.new.store.frames { pinned = set (set c.double.new.store.frames.pinned c.in_ok-frame.frame.0 false) c.in-Ok.second.0 false }; map = set (set c.double.new.store.map c.in_ok-frame.frame.0 (Some c.args.node)) c.in-Ok.second.0 (Some c.args.next) }
           = c.settle_in-2.ensures ∙ ap (λ (s : Store). record s { frames = record s.frames { pinned = set s.frames.pinned c.in-Ok.second.0 false }; map = set s.map c.in-Ok.second.0 (Some c.args.next) }) c.settle_in.ensures in
-          let kept = two_kept c.requires.right c.in_ok-frame.ensures.copied.done c.in-Ok.ensures.doubled.done c.requires.node c.requires.bare owner c.own_page.ensures c.requires.next.held c.requires.next.name c.hand_page.ensures in
+          let kept = two_kept c.requires.right c.in_ok-frame.ensures.copied.done c.in-Ok.ensures.doubled.done c.requires.node c.requires.bare c.requires.owner c.own_page.ensures c.requires.next.held c.requires.next.name c.hand_page.ensures in
           record {
             kept = subst (λ (s : Store). Kept old (world told size c.hand_page.new.caches s)) (sym store) kept;
             later = later_then _ _ _ c.in_ok-frame.ensures.copied.later c.in-Ok.ensures.doubled.later;
@@ -119,86 +114,71 @@ returns-clause-ready g c =
           };
       done = let store : c.settle_in-2.new.store ≡ record c.double.new.store { frames = record c.double.new.store.frames { pinned = set (set c.double.new.store.frames.pinned c.in_ok-frame.frame.0 false) c.in-Ok.second.0 false }; map = set (set c.double.new.store.map c.in_ok-frame.frame.0 (Some c.args.node)) c.in-Ok.second.0 (Some c.args.next) }
           = c.settle_in-2.ensures ∙ ap (λ (s : Store). record s { frames = record s.frames { pinned = set s.frames.pinned c.in-Ok.second.0 false }; map = set s.map c.in-Ok.second.0 (Some c.args.next) }) c.settle_in.ensures in
-          let bound = two_bound c.requires.right c.in_ok-frame.ensures.copied.done c.in-Ok.ensures.doubled.done c.requires.node c.requires.bare owner c.own_page.ensures c.requires.next.held c.requires.next.name c.hand_page.ensures in
+          let bound = two_bound c.requires.right c.in_ok-frame.ensures.copied.done c.in-Ok.ensures.doubled.done c.requires.node c.requires.bare c.requires.owner c.own_page.ensures c.requires.next.held c.requires.next.name c.hand_page.ensures in
           record {
-            forest = ap (λ (s : Store). store_forest (world told size c.hand_page.new.caches s)) store ∙ two_forest c.requires.right c.in_ok-frame.ensures.copied.done c.in-Ok.ensures.doubled.done c.requires.node c.requires.bare owner c.own_page.ensures c.requires.next.held c.requires.next.name c.hand_page.ensures;
+            forest = ap (λ (s : Store). store_forest (world told size c.hand_page.new.caches s)) store ∙ two_forest c.requires.right c.in_ok-frame.ensures.copied.done c.in-Ok.ensures.doubled.done c.requires.node c.requires.bare c.requires.owner c.own_page.ensures c.requires.next.held c.requires.next.name c.hand_page.ensures;
             bound = search rules;
-            resident = two_resident c.requires.right c.in_ok-frame.ensures.copied.done c.in-Ok.ensures.doubled.done c.requires.node c.requires.bare owner c.own_page.ensures c.requires.next.held c.requires.next.name c.hand_page.ensures (λ e. apart_of_heir (forest_of c.args.caches.now) c.requires.right.sound.linked (name_of c.args.caches.now c.args.node) (name_of c.args.caches.now c.args.next) c.requires.next.name (ap (name_of c.args.caches.now) (sym e)));
+            resident = two_resident c.requires.right c.in_ok-frame.ensures.copied.done c.in-Ok.ensures.doubled.done c.requires.node c.requires.bare c.requires.owner c.own_page.ensures c.requires.next.held c.requires.next.name c.hand_page.ensures (λ e. apart_of_heir (forest_of c.args.caches.now) c.requires.right.sound.linked (name_of c.args.caches.now c.args.node) (name_of c.args.caches.now c.args.next) c.requires.next.name (ap (name_of c.args.caches.now) (sym e)));
           };
       missed = tt;
     }
 
 pub returns-clause-copies : goal.returns-clause-copies
 returns-clause-copies g c =
-    let owner : IsOwner c.args.caches.now c.args.node c.owner_of-owner.result = record { held = c.owner_of-owner.ensures.held; name = c.owner_of-owner.ensures.owner } in
-    two_copies c.requires.right c.in_ok-frame.ensures.copied.done c.in-Ok.ensures.doubled.done c.requires.node c.requires.bare owner c.own_page.ensures c.requires.next.held c.requires.next.name c.hand_page.ensures
+    two_copies c.requires.right c.in_ok-frame.ensures.copied.done c.in-Ok.ensures.doubled.done c.requires.node c.requires.bare c.requires.owner c.own_page.ensures c.requires.next.held c.requires.next.name c.hand_page.ensures
 
 pub returns-clause-traffic : goal.returns-clause-traffic
 returns-clause-traffic g c = λ o is. (
-    let it : NodeId = c.owner_of-owner.result in
-    let owner : IsOwner c.args.caches.now c.args.node it = record { held = c.owner_of-owner.ensures.held; name = c.owner_of-owner.ensures.owner } in
-    let own : OwnState = own_of c.args.caches.now it in
+    let own : OwnState = own_of c.args.caches.now c.args.owner in
     let first = c.in_ok-frame.ensures in
     let gathered = first.copied.done.gathered in
     let whole = gathered.still in
     let sum : Pulls (pulls_to_copy own) (frames_to_copy own + 1 - free_count c.args.store.now.frames) (g.M.Mapper.counts c.args.mapper.now) (g.M.Mapper.counts c.double.new.mapper) = pulls_more (frames_to_copy own) (pulls_to_copy own) c.args.store.now.frames.held c.copy_out.new.store.frames.held _ _ _ whole.stays.frames first.copied.held first.copied.traffic c.in-Ok.ensures.doubled.traffic c.double.ensures.doubled.later in
-    subst (λ (m : NodeId). Pulls (pulls_to_copy (own_of c.args.caches.now m)) (frames_to_copy (own_of c.args.caches.now m) + 1 - free_count c.args.store.now.frames) (g.M.Mapper.counts c.args.mapper.now) (g.M.Mapper.counts c.double.new.mapper)) (sym (owner_same c.args.caches.now c.requires.right.sound c.args.node o it is owner)) sum)
+    subst (λ (m : NodeId). Pulls (pulls_to_copy (own_of c.args.caches.now m)) (frames_to_copy (own_of c.args.caches.now m) + 1 - free_count c.args.store.now.frames) (g.M.Mapper.counts c.args.mapper.now) (g.M.Mapper.counts c.double.new.mapper)) (sym (owner_same c.args.caches.now c.requires.right.sound c.args.node o c.args.owner is c.requires.owner)) sum)
 
 pub returns-clause-most : goal.returns-clause-most
 returns-clause-most g c =
-    let it : NodeId = c.owner_of-owner.result in
-    let owner : IsOwner c.args.caches.now c.args.node it = record { held = c.owner_of-owner.ensures.held; name = c.owner_of-owner.ensures.owner } in
-    let own : OwnState = own_of c.args.caches.now it in
+    let own : OwnState = own_of c.args.caches.now c.args.owner in
     let first = c.in_ok-frame.ensures in
     let gathered = first.copied.done.gathered in
     let whole = gathered.still in
     let sum : Pulls (pulls_to_copy own) (frames_to_copy own + 1 - free_count c.args.store.now.frames) (g.M.Mapper.counts c.args.mapper.now) (g.M.Mapper.counts c.double.new.mapper) = pulls_more (frames_to_copy own) (pulls_to_copy own) c.args.store.now.frames.held c.copy_out.new.store.frames.held _ _ _ whole.stays.frames first.copied.held first.copied.traffic c.in-Ok.ensures.doubled.traffic c.double.ensures.doubled.later in
     let bounds = copy_most own in
-    each_owner (λ (m : NodeId). TakesAtMost (pulls_to_copy (own_of c.args.caches.now m)) 3 c.args.store.now.frames (g.M.Mapper.counts c.args.mapper.now) (g.M.Mapper.counts c.double.new.mapper)) c.args.caches.now c.requires.right.sound c.args.node it owner
+    each_owner (λ (m : NodeId). TakesAtMost (pulls_to_copy (own_of c.args.caches.now m)) 3 c.args.store.now.frames (g.M.Mapper.counts c.args.mapper.now) (g.M.Mapper.counts c.double.new.mapper)) c.args.caches.now c.requires.right.sound c.args.node c.args.owner c.requires.owner
     (pulls_most _ _ _ _ _ _ sum (omega arith) (omega (arith, bounds.1)))
 
 pub returns-in_default-clause-most : goal.returns-in_default-clause-most
 returns-in_default-clause-most g c =
-    let it : NodeId = c.owner_of-owner.result in
-    let owner : IsOwner c.args.caches.now c.args.node it = record { held = c.owner_of-owner.ensures.held; name = c.owner_of-owner.ensures.owner } in
-    let own : OwnState = own_of c.args.caches.now it in
+    let own : OwnState = own_of c.args.caches.now c.args.owner in
     let first = c.in_ok-frame.ensures.copied in
     let then = c.in_default.ensures.doubled in
     let one = c.in_ok-frame.ensures.copied.done.gathered in
     let bounds = copy_most own in
-    each_owner (λ (m : NodeId). TakesAtMost (pulls_to_copy (own_of c.args.caches.now m)) 3 c.args.store.now.frames (g.M.Mapper.counts c.args.mapper.now) (g.M.Mapper.counts c.double.new.mapper)) c.args.caches.now c.requires.right.sound c.args.node it owner
+    each_owner (λ (m : NodeId). TakesAtMost (pulls_to_copy (own_of c.args.caches.now m)) 3 c.args.store.now.frames (g.M.Mapper.counts c.args.mapper.now) (g.M.Mapper.counts c.double.new.mapper)) c.args.caches.now c.requires.right.sound c.args.node c.args.owner c.requires.owner
     (most_then _ _ _ _ _ _ _ _ _ first.traffic then.most then.later (omega arith)
     (omega (arith, bounds.1, pushes_then (frames_to_copy own) c.args.store.now.frames.held c.copy_out.new.store.frames.held one.still.stays.frames first.held)))
 
 pub returns-in_err-frame-clause-most : goal.returns-in_err-frame-clause-most
 returns-in_err-frame-clause-most g c =
-    let it : NodeId = c.owner_of-owner.result in
-    let owner : IsOwner c.args.caches.now c.args.node it = record { held = c.owner_of-owner.ensures.held; name = c.owner_of-owner.ensures.owner } in
-    each_owner (λ (m : NodeId). TakesAtMost (pulls_to_copy (own_of c.args.caches.now m)) 3 c.args.store.now.frames (g.M.Mapper.counts c.args.mapper.now) (g.M.Mapper.counts c.copy_out.new.mapper)) c.args.caches.now c.requires.right.sound c.args.node it owner
-    (let bounds = copy_most (own_of c.args.caches.now it) in most_more _ _ _ _ _ _ c.copy_out.ensures.copied.most (omega arith) (omega (arith, bounds.1)))
+    each_owner (λ (m : NodeId). TakesAtMost (pulls_to_copy (own_of c.args.caches.now m)) 3 c.args.store.now.frames (g.M.Mapper.counts c.args.mapper.now) (g.M.Mapper.counts c.copy_out.new.mapper)) c.args.caches.now c.requires.right.sound c.args.node c.args.owner c.requires.owner
+    (let bounds = copy_most (own_of c.args.caches.now c.args.owner) in most_more _ _ _ _ _ _ c.copy_out.ensures.copied.most (omega arith) (omega (arith, bounds.1)))
 
 pub returns-in_err-frame-clause-drops : goal.returns-in_err-frame-clause-drops
 returns-in_err-frame-clause-drops g c =
-    let it : NodeId = c.owner_of-owner.result in
-    let owner : IsOwner c.args.caches.now c.args.node it = record { held = c.owner_of-owner.ensures.held; name = c.owner_of-owner.ensures.owner } in
-    λ o is. failed_leaves _ c.from_residual.result _ _ _ _ _ _ c.from_residual.ensures.1 (drops_more (λ n. n ≡ it) (MayCome c.args.caches.now o) c.args.caches.now c.copy_out.new.caches c.args.store.now c.copy_out.new.store (λ n e. inl (e ∙ sym (owner_same c.args.caches.now c.requires.right.sound c.args.node o it is owner))) c.copy_out.ensures.drops)
+    λ o is. failed_leaves _ c.from_residual.result _ _ _ _ _ _ c.from_residual.ensures.1 (drops_more (λ n. n ≡ c.args.owner) (MayCome c.args.caches.now o) c.args.caches.now c.copy_out.new.caches c.args.store.now c.copy_out.new.store (λ n e. inl (e ∙ sym (owner_same c.args.caches.now c.requires.right.sound c.args.node o c.args.owner is c.requires.owner))) c.copy_out.ensures.drops)
 
 pub returns-in_default-clause-drops : goal.returns-in_default-clause-drops
 returns-in_default-clause-drops g c =
-    let it : NodeId = c.owner_of-owner.result in
-    let owner : IsOwner c.args.caches.now c.args.node it = record { held = c.owner_of-owner.ensures.held; name = c.owner_of-owner.ensures.owner } in
-    let gathered : Drops (λ n. n ≡ it) c.args.caches.now c.args.store.now c.double.new.caches c.double.new.store = drops_trans (λ n. n ≡ it) Nobody (λ n. n ≡ it) c.args.caches.now c.copy_out.new.caches c.double.new.caches c.args.store.now c.copy_out.new.store c.double.new.store (λ n e. e) (λ n e. absurd e) c.copy_out.ensures.drops c.double.ensures.drops in
+    let gathered : Drops (λ n. n ≡ c.args.owner) c.args.caches.now c.args.store.now c.double.new.caches c.double.new.store = drops_trans (λ n. n ≡ c.args.owner) Nobody (λ n. n ≡ c.args.owner) c.args.caches.now c.copy_out.new.caches c.double.new.caches c.args.store.now c.copy_out.new.store c.double.new.store (λ n e. e) (λ n e. absurd e) c.copy_out.ensures.drops c.double.ensures.drops in
     λ o is. record {
       left = tt;
       home = tt;
       failed = drops_by (MayCome c.args.caches.now o) c.args.caches.now c.double.new.caches c.args.store.now c.double.new.store c.args.store.now c.release.new.store refl refl (ap (λ (s : Store). s.map) c.release.ensures) (ap (λ (s : Store). s.tables) c.release.ensures)
-          (drops_more (λ n. n ≡ it) (MayCome c.args.caches.now o) c.args.caches.now c.double.new.caches c.args.store.now c.double.new.store (λ n e. inl (e ∙ sym (owner_same c.args.caches.now c.requires.right.sound c.args.node o it is owner))) gathered);
+          (drops_more (λ n. n ≡ c.args.owner) (MayCome c.args.caches.now o) c.args.caches.now c.double.new.caches c.args.store.now c.double.new.store (λ n e. inl (e ∙ sym (owner_same c.args.caches.now c.requires.right.sound c.args.node o c.args.owner is c.requires.owner))) gathered);
     }
 
 pub returns-clause-drops : goal.returns-clause-drops
 returns-clause-drops g c =
-    let it : NodeId = c.owner_of-owner.result in
-    let owner : IsOwner c.args.caches.now c.args.node it = record { held = c.owner_of-owner.ensures.held; name = c.owner_of-owner.ensures.owner } in
     let old : World = world (g.M.Mapper.held c.args.mapper.now) (g.M.Mapper.page_bytes c.args.mapper.now) c.args.caches.now c.args.store.now in
     let v : World = world (g.M.Mapper.held c.double.new.mapper) (g.M.Mapper.page_bytes c.double.new.mapper) c.hand_page.new.caches c.settle_in-2.new.store in
     let one = c.in_ok-frame.ensures.copied.done.gathered in
@@ -220,21 +200,21 @@ returns-clause-drops g c =
     let both = returns-clause-ready g c in
     let answered : IsAnswered old v (g.M.Mapper.counts c.args.mapper.now) (g.M.Mapper.counts c.double.new.mapper) = both.answered in
     let framed : IsFramed readied c.args.node f1 old v = both.done in
-    let all : Drops (MayCome c.args.caches.now it) c.args.caches.now c.args.store.now c.hand_page.new.caches (without_homes it c.args.node c.settle_in-2.new.store) =
-    both_drops c.args.caches.now c.double.new.caches c.hand_page.new.caches c.args.store.now c.double.new.store c.settle_in-2.new.store c.requires.right whole answered.kept c.args.node it c.requires.node owner
-    (drops_trans (λ n. n ≡ it) Nobody (λ n. n ≡ it) c.args.caches.now c.copy_out.new.caches c.double.new.caches c.args.store.now c.copy_out.new.store c.double.new.store (λ n e. e) (λ n e. absurd e) c.copy_out.ensures.drops c.double.ensures.drops)
+    let all : Drops (MayCome c.args.caches.now c.args.owner) c.args.caches.now c.args.store.now c.hand_page.new.caches (without_homes c.args.owner c.args.node c.settle_in-2.new.store) =
+    both_drops c.args.caches.now c.double.new.caches c.hand_page.new.caches c.args.store.now c.double.new.store c.settle_in-2.new.store c.requires.right whole answered.kept c.args.node c.args.owner c.requires.node c.requires.owner
+    (drops_trans (λ n. n ≡ c.args.owner) Nobody (λ n. n ≡ c.args.owner) c.args.caches.now c.copy_out.new.caches c.double.new.caches c.args.store.now c.copy_out.new.store c.double.new.store (λ n e. e) (λ n e. absurd e) c.copy_out.ensures.drops c.double.ensures.drops)
     stays
     (λ f p at. elim (settled_comes c.settle_in.new.store.map f2 c.args.next within2 f p (ap (λ (m : List (Option NodeId)). node_of m f) (sym map2) ∙ at)) [
-      | inl there ↦ may_come c.args.caches.now it c.args.node p (ap is_absent c.requires.bare) (settled_comes c.double.new.store.map f1 c.args.node within1 f p (ap (λ (m : List (Option NodeId)). node_of m f) (sym map1) ∙ there))
-      | inr e ↦ may_come c.args.caches.now it c.args.next p absent (inr e)
+      | inl there ↦ may_come c.args.caches.now c.args.owner c.args.node p (ap is_absent c.requires.bare) (settled_comes c.double.new.store.map f1 c.args.node within1 f p (ap (λ (m : List (Option NodeId)). node_of m f) (sym map1) ∙ there))
+      | inr e ↦ may_come c.args.caches.now c.args.owner c.args.next p absent (inr e)
     ])
     (inr (ap is_absent c.requires.bare)) tables
     (framed.forest ∙ sym (readied_bare (store_forest old) (name_of c.args.caches.now c.args.node) (store_page old c.requires.right.sound c.args.node c.requires.node ∙ absent_none old c.args.node c.requires.bare))) in
     λ o is. record {
-      left = each_owner (λ (m : NodeId). Drops (MayCome c.args.caches.now m) c.args.caches.now c.args.store.now c.hand_page.new.caches (without_homes m c.args.node c.settle_in-2.new.store)) c.args.caches.now c.requires.right.sound c.args.node it owner all o is;
-      home = each_owner (λ (m : NodeId). StaysOrUnseen m c.args.store.now c.settle_in-2.new.store) c.args.caches.now c.requires.right.sound c.args.node it owner
-          (λ f at. elim (stays_or_unseen it c.copy_out.new.store c.double.new.store c.double.ensures.tables f (c.in_ok-frame.ensures.copied.done.home f at)) [
-            | inl there ↦ inl (stays f it there)
+      left = each_owner (λ (m : NodeId). Drops (MayCome c.args.caches.now m) c.args.caches.now c.args.store.now c.hand_page.new.caches (without_homes m c.args.node c.settle_in-2.new.store)) c.args.caches.now c.requires.right.sound c.args.node c.args.owner c.requires.owner all o is;
+      home = each_owner (λ (m : NodeId). StaysOrUnseen m c.args.store.now c.settle_in-2.new.store) c.args.caches.now c.requires.right.sound c.args.node c.args.owner c.requires.owner
+          (λ f at. elim (stays_or_unseen c.args.owner c.copy_out.new.store c.double.new.store c.double.ensures.tables f (c.in_ok-frame.ensures.copied.done.home f at)) [
+            | inl there ↦ inl (stays f c.args.owner there)
             | inr none ↦ inr (subst (NoneLeadTo f) (sym tables) none)
           ]) o is;
       failed = tt;
@@ -242,39 +222,33 @@ returns-clause-drops g c =
 
 -- the page of the owner was copied out, and doubled or not
 both_come : (g : Over) (c : After-double g) (still : Still (world (g.M.Mapper.held c.args.mapper.now) (g.M.Mapper.page_bytes c.args.mapper.now) c.args.caches.now c.args.store.now) (world (g.M.Mapper.held c.copy_out.new.mapper) (g.M.Mapper.page_bytes c.copy_out.new.mapper) c.copy_out.new.caches c.copy_out.new.store))
-    → OnlyCome (IsOfWrite c.args.caches.now c.args.node c.owner_of-owner.result) (world (g.M.Mapper.held c.args.mapper.now) (g.M.Mapper.page_bytes c.args.mapper.now) c.args.caches.now c.args.store.now) (world (g.M.Mapper.held c.double.new.mapper) (g.M.Mapper.page_bytes c.double.new.mapper) c.double.new.caches c.double.new.store)
+    → OnlyCome (IsOfWrite c.args.caches.now c.args.node c.args.owner) (world (g.M.Mapper.held c.args.mapper.now) (g.M.Mapper.page_bytes c.args.mapper.now) c.args.caches.now c.args.store.now) (world (g.M.Mapper.held c.double.new.mapper) (g.M.Mapper.page_bytes c.double.new.mapper) c.double.new.caches c.double.new.store)
 both_come g c still =
-    let may = IsOfWrite c.args.caches.now c.args.node c.owner_of-owner.result in
-    come_then may _ _ _ (still_like c.args.caches.now c.copy_out.new.caches still.stays.caches) (more_come (IsBroughtIn c.args.caches.now c.owner_of-owner.result) may _ _ (λ m e. inr (inr e)) c.copy_out.ensures.frames)
+    let may = IsOfWrite c.args.caches.now c.args.node c.args.owner in
+    come_then may _ _ _ (still_like c.args.caches.now c.copy_out.new.caches still.stays.caches) (more_come (IsBroughtIn c.args.caches.now c.args.owner) may _ _ (λ m e. inr (inr e)) c.copy_out.ensures.frames)
     (more_come Nobody may _ _ (λ m e. absurd e) c.double.ensures.frames)
 
 pub returns-in_err-frame-clause-frames : goal.returns-in_err-frame-clause-frames
 returns-in_err-frame-clause-frames g c =
-    let it : NodeId = c.owner_of-owner.result in
-    let owner : IsOwner c.args.caches.now c.args.node it = record { held = c.owner_of-owner.ensures.held; name = c.owner_of-owner.ensures.owner } in
     let old : World = world (g.M.Mapper.held c.args.mapper.now) (g.M.Mapper.page_bytes c.args.mapper.now) c.args.caches.now c.args.store.now in
     let w : World = world (g.M.Mapper.held c.copy_out.new.mapper) (g.M.Mapper.page_bytes c.copy_out.new.mapper) c.copy_out.new.caches c.copy_out.new.store in
-    each_owner (λ (m : NodeId). OnlyCome (IsOfWrite c.args.caches.now c.args.node m) old w) c.args.caches.now c.requires.right.sound c.args.node it owner
-    (more_come (IsBroughtIn c.args.caches.now it) (IsOfWrite c.args.caches.now c.args.node it) old w (λ m e. inr (inr e)) c.copy_out.ensures.frames)
+    each_owner (λ (m : NodeId). OnlyCome (IsOfWrite c.args.caches.now c.args.node m) old w) c.args.caches.now c.requires.right.sound c.args.node c.args.owner c.requires.owner
+    (more_come (IsBroughtIn c.args.caches.now c.args.owner) (IsOfWrite c.args.caches.now c.args.node c.args.owner) old w (λ m e. inr (inr e)) c.copy_out.ensures.frames)
 
 pub returns-in_default-clause-frames : goal.returns-in_default-clause-frames
 returns-in_default-clause-frames g c =
-    let it : NodeId = c.owner_of-owner.result in
-    let owner : IsOwner c.args.caches.now c.args.node it = record { held = c.owner_of-owner.ensures.held; name = c.owner_of-owner.ensures.owner } in
     let told = g.M.Mapper.held c.double.new.mapper in
     let size = g.M.Mapper.page_bytes c.double.new.mapper in
     let old : World = world (g.M.Mapper.held c.args.mapper.now) (g.M.Mapper.page_bytes c.args.mapper.now) c.args.caches.now c.args.store.now in
     let v : World = world told size c.double.new.caches c.double.new.store in
     let u : World = world told size c.double.new.caches c.release.new.store in
     let one = c.in_ok-frame.ensures.copied.done.gathered in
-    each_owner (λ (m : NodeId). OnlyCome (IsOfWrite c.args.caches.now c.args.node m) old u) c.args.caches.now c.requires.right.sound c.args.node it owner
-    (come_by (IsOfWrite c.args.caches.now c.args.node it) old v old u refl refl refl (ap (λ (s : Store). s.map) c.release.ensures) (ap (λ (s : Store). s.frames.bytes) c.release.ensures) refl
+    each_owner (λ (m : NodeId). OnlyCome (IsOfWrite c.args.caches.now c.args.node m) old u) c.args.caches.now c.requires.right.sound c.args.node c.args.owner c.requires.owner
+    (come_by (IsOfWrite c.args.caches.now c.args.node c.args.owner) old v old u refl refl refl (ap (λ (s : Store). s.map) c.release.ensures) (ap (λ (s : Store). s.frames.bytes) c.release.ensures) refl
     (both_come g (goal.at.returns-in_default-clause-frames g c).After-double one.still))
 
 pub returns-clause-frames : goal.returns-clause-frames
 returns-clause-frames g c =
-    let it : NodeId = c.owner_of-owner.result in
-    let owner : IsOwner c.args.caches.now c.args.node it = record { held = c.owner_of-owner.ensures.held; name = c.owner_of-owner.ensures.owner } in
     let told = g.M.Mapper.held c.double.new.mapper in
     let size = g.M.Mapper.page_bytes c.double.new.mapper in
     let old : World = world (g.M.Mapper.held c.args.mapper.now) (g.M.Mapper.page_bytes c.args.mapper.now) c.args.caches.now c.args.store.now in
@@ -289,17 +263,15 @@ returns-clause-frames g c =
     let within1 : f1 < length c.double.new.store.map = omega (arith, one.taken.within, gathered.still.stays.frames, gathered.still.stays.right.tied.fitted.map_frames) in
     let map1 : c.settle_in.new.store.map ≡ set c.double.new.store.map f1 (Some c.args.node) = ap (λ (s : Store). s.map) c.settle_in.ensures in
     let within2 : f2 < length c.settle_in.new.store.map = omega (arith, gathered.taken.within, gathered.still.stays.right.tied.fitted.map_frames, ap (λ (m : List (Option NodeId)). length m) map1, length-set c.double.new.store.map f1 (Some c.args.node)) in
-    let may = IsOfWrite c.args.caches.now c.args.node it in
-    let gives = step_gives c.requires.right c.in_ok-frame.ensures.copied.done c.in-Ok.ensures.doubled.done c.requires.node c.requires.bare owner c.own_page.ensures in
-    let handed = hands c.requires.right c.in_ok-frame.ensures.copied.done c.in-Ok.ensures.doubled.done c.requires.node c.requires.bare owner c.own_page.ensures c.requires.next.held c.requires.next.name c.hand_page.ensures in
-    each_owner (λ (m : NodeId). OnlyCome (IsOfWrite c.args.caches.now c.args.node m) old x) c.args.caches.now c.requires.right.sound c.args.node it owner
+    let may = IsOfWrite c.args.caches.now c.args.node c.args.owner in
+    let gives = step_gives c.requires.right c.in_ok-frame.ensures.copied.done c.in-Ok.ensures.doubled.done c.requires.node c.requires.bare c.requires.owner c.own_page.ensures in
+    let handed = hands c.requires.right c.in_ok-frame.ensures.copied.done c.in-Ok.ensures.doubled.done c.requires.node c.requires.bare c.requires.owner c.own_page.ensures c.requires.next.held c.requires.next.name c.hand_page.ensures in
+    each_owner (λ (m : NodeId). OnlyCome (IsOfWrite c.args.caches.now c.args.node m) old x) c.args.caches.now c.requires.right.sound c.args.node c.args.owner c.requires.owner
     (come_settled may old u x f2 c.args.next within2 (inr (inl c.requires.next.name)) (ap (λ (s : Store). s.map) c.settle_in-2.ensures) (ap (λ (s : Store). s.frames.bytes) c.settle_in-2.ensures) handed.others
     (come_settled may old v u f1 c.args.node within1 (inl refl) map1 (ap (λ (s : Store). s.frames.bytes) c.settle_in.ensures) gives.others
     (both_come g (goal.at.returns-clause-frames g c).After-double one.still)))
 
 pub returns-in_err-frame-clause-victim : goal.returns-in_err-frame-clause-victim
 returns-in_err-frame-clause-victim g c = λ o is hand.
-    let it : NodeId = c.owner_of-owner.result in
-    let owner : IsOwner c.args.caches.now c.args.node it = record { held = c.owner_of-owner.ensures.held; name = c.owner_of-owner.ensures.owner } in
-    let same : o ≡ it = owner_same c.args.caches.now c.requires.right.sound c.args.node o it is owner in
+    let same : o ≡ c.args.owner = owner_same c.args.caches.now c.requires.right.sound c.args.node o c.args.owner is c.requires.owner in
     victim_from c.from_residual.result c.in_err-frame.field-0.0 c.from_residual.ensures.1 (c.in_err-frame.ensures.victim (ap (λ (m : NodeId). is_at_hand (own_of c.args.caches.now m)) (sym same) ∙ hand))

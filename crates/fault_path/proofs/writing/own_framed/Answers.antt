@@ -45,16 +45,15 @@ returns-clause-owned g c =
     let old : World = world (g.M.Mapper.held c.args.mapper.now) (g.M.Mapper.page_bytes c.args.mapper.now) c.args.caches.now c.args.store.now in
     let w : World = world told size c.copy_out.new.caches c.copy_out.new.store in
     let k = c.in_ok-frame.ensures.copied.done.gathered in
-    let owner : IsOwner c.args.caches.now c.args.node c.owner_of-owner.result = record { held = c.owner_of-owner.ensures.held; name = c.owner_of-owner.ensures.owner } in
-    let gives = own_gives old w c.in_ok-frame.frame.0 k.still k.taken c.requires.right.sound c.requires.right.shaped c.args.node c.owner_of-owner.result c.requires.node c.requires.bare owner c.in_ok-frame.ensures.copied.done.page c.own_page.new.caches c.own_page.ensures in
+    let gives = own_gives old w c.in_ok-frame.frame.0 k.still k.taken c.requires.right.sound c.requires.right.shaped c.args.node c.args.owner c.requires.node c.requires.bare c.requires.owner c.in_ok-frame.ensures.copied.done.page c.own_page.new.caches c.own_page.ensures in
     record {
       answered = record {
-        kept = subst (Kept old) (sym (ap (λ (s : Store). world told size c.own_page.new.caches s) c.settle_in.ensures)) (own_kept old w c.in_ok-frame.frame.0 k.still k.taken c.requires.right.sound c.requires.right.shaped c.args.node c.owner_of-owner.result c.requires.node c.requires.bare owner c.in_ok-frame.ensures.copied.done.page c.own_page.new.caches c.own_page.ensures k);
+        kept = subst (Kept old) (sym (ap (λ (s : Store). world told size c.own_page.new.caches s) c.settle_in.ensures)) (own_kept old w c.in_ok-frame.frame.0 k.still k.taken c.requires.right.sound c.requires.right.shaped c.args.node c.args.owner c.requires.node c.requires.bare c.requires.owner c.in_ok-frame.ensures.copied.done.page c.own_page.new.caches c.own_page.ensures k);
         later = c.in_ok-frame.ensures.copied.later;
         told = tells_as _ _ _ _ _ refl c.in_ok-frame.ensures.copied.told;
       };
       done = record {
-        forest = ap (λ (s : Store). store_forest (world told size c.own_page.new.caches s)) c.settle_in.ensures ∙ own_forest old w c.in_ok-frame.frame.0 k.still k.taken c.requires.right.sound c.requires.right.shaped c.args.node c.owner_of-owner.result c.requires.node c.requires.bare owner c.in_ok-frame.ensures.copied.done.page c.own_page.new.caches c.own_page.ensures;
+        forest = ap (λ (s : Store). store_forest (world told size c.own_page.new.caches s)) c.settle_in.ensures ∙ own_forest old w c.in_ok-frame.frame.0 k.still k.taken c.requires.right.sound c.requires.right.shaped c.args.node c.args.owner c.requires.node c.requires.bare c.requires.owner c.in_ok-frame.ensures.copied.done.page c.own_page.new.caches c.own_page.ensures;
         bound = search rules;
         resident = gives.resident;
       };
@@ -68,25 +67,18 @@ returns-clause-copies g c =
     let old : World = world (g.M.Mapper.held c.args.mapper.now) (g.M.Mapper.page_bytes c.args.mapper.now) c.args.caches.now c.args.store.now in
     let w : World = world told size c.copy_out.new.caches c.copy_out.new.store in
     let k = c.in_ok-frame.ensures.copied.done.gathered in
-    let owner : IsOwner c.args.caches.now c.args.node c.owner_of-owner.result = record { held = c.owner_of-owner.ensures.held; name = c.owner_of-owner.ensures.owner } in
-    own_copies old w c.in_ok-frame.frame.0 k.still k.taken c.requires.right.sound c.requires.right.shaped c.args.node c.owner_of-owner.result c.requires.node c.requires.bare owner c.in_ok-frame.ensures.copied.done.page c.own_page.new.caches c.own_page.ensures
+    own_copies old w c.in_ok-frame.frame.0 k.still k.taken c.requires.right.sound c.requires.right.shaped c.args.node c.args.owner c.requires.node c.requires.bare c.requires.owner c.in_ok-frame.ensures.copied.done.page c.own_page.new.caches c.own_page.ensures
 
 pub returns-clause-traffic : goal.returns-clause-traffic
 returns-clause-traffic g c = λ o is. (
-    let it : NodeId = c.owner_of-owner.result in
-    let owner : IsOwner c.args.caches.now c.args.node it = record { held = c.owner_of-owner.ensures.held; name = c.owner_of-owner.ensures.owner } in
-    subst (λ (m : NodeId). Pulls (pulls_to_copy (own_of c.args.caches.now m)) (frames_to_copy (own_of c.args.caches.now m) - free_count c.args.store.now.frames) (g.M.Mapper.counts c.args.mapper.now) (g.M.Mapper.counts c.copy_out.new.mapper)) (sym (owner_same c.args.caches.now c.requires.right.sound c.args.node o it is owner)) c.in_ok-frame.ensures.copied.traffic)
+    subst (λ (m : NodeId). Pulls (pulls_to_copy (own_of c.args.caches.now m)) (frames_to_copy (own_of c.args.caches.now m) - free_count c.args.store.now.frames) (g.M.Mapper.counts c.args.mapper.now) (g.M.Mapper.counts c.copy_out.new.mapper)) (sym (owner_same c.args.caches.now c.requires.right.sound c.args.node o c.args.owner is c.requires.owner)) c.in_ok-frame.ensures.copied.traffic)
 
 pub returns-in_err-frame-clause-drops : goal.returns-in_err-frame-clause-drops
 returns-in_err-frame-clause-drops g c =
-    let it : NodeId = c.owner_of-owner.result in
-    let owner : IsOwner c.args.caches.now c.args.node it = record { held = c.owner_of-owner.ensures.held; name = c.owner_of-owner.ensures.owner } in
-    λ o is. failed_leaves _ c.from_residual.result _ _ _ _ _ _ c.from_residual.ensures.1 (drops_more (λ n. n ≡ it) (MayCome c.args.caches.now o) c.args.caches.now c.copy_out.new.caches c.args.store.now c.copy_out.new.store (λ n e. inl (e ∙ sym (owner_same c.args.caches.now c.requires.right.sound c.args.node o it is owner))) c.copy_out.ensures.drops)
+    λ o is. failed_leaves _ c.from_residual.result _ _ _ _ _ _ c.from_residual.ensures.1 (drops_more (λ n. n ≡ c.args.owner) (MayCome c.args.caches.now o) c.args.caches.now c.copy_out.new.caches c.args.store.now c.copy_out.new.store (λ n e. inl (e ∙ sym (owner_same c.args.caches.now c.requires.right.sound c.args.node o c.args.owner is c.requires.owner))) c.copy_out.ensures.drops)
 
 pub returns-clause-drops : goal.returns-clause-drops
 returns-clause-drops g c =
-    let it : NodeId = c.owner_of-owner.result in
-    let owner : IsOwner c.args.caches.now c.args.node it = record { held = c.owner_of-owner.ensures.held; name = c.owner_of-owner.ensures.owner } in
     let old : World = world (g.M.Mapper.held c.args.mapper.now) (g.M.Mapper.page_bytes c.args.mapper.now) c.args.caches.now c.args.store.now in
     let v : World = world (g.M.Mapper.held c.copy_out.new.mapper) (g.M.Mapper.page_bytes c.copy_out.new.mapper) c.own_page.new.caches c.settle_in.new.store in
     let k = c.in_ok-frame.ensures.copied.done.gathered in
@@ -95,45 +87,37 @@ returns-clause-drops g c =
     let framed : IsFramed forest.own c.args.node c.in_ok-frame.frame.0 old v = all.done in
     let within : c.in_ok-frame.frame.0 < length c.copy_out.new.store.map = omega (arith, k.taken.within, k.still.stays.right.tied.fitted.map_frames) in
     let map = ap (λ (s : Store). s.map) c.settle_in.ensures in
-    let whole : Drops (MayCome c.args.caches.now it) c.args.caches.now c.args.store.now c.own_page.new.caches (without_homes it c.args.node c.settle_in.new.store) =
-    own_drops c.args.caches.now c.copy_out.new.caches c.own_page.new.caches c.args.store.now c.copy_out.new.store c.settle_in.new.store c.requires.right k.still answered.kept c.args.node it c.requires.node owner c.copy_out.ensures.drops
+    let whole : Drops (MayCome c.args.caches.now c.args.owner) c.args.caches.now c.args.store.now c.own_page.new.caches (without_homes c.args.owner c.args.node c.settle_in.new.store) =
+    own_drops c.args.caches.now c.copy_out.new.caches c.own_page.new.caches c.args.store.now c.copy_out.new.store c.settle_in.new.store c.requires.right k.still answered.kept c.args.node c.args.owner c.requires.node c.requires.owner c.copy_out.ensures.drops
     (λ f p at. ap (λ (m : List (Option NodeId)). node_of m f) map ∙ settled_stays c.copy_out.new.store.map c.in_ok-frame.frame.0 c.args.node k.taken.unbound f p at)
-    (λ f p at. may_come c.args.caches.now it c.args.node p (ap is_absent c.requires.bare) (settled_comes c.copy_out.new.store.map c.in_ok-frame.frame.0 c.args.node within f p (ap (λ (m : List (Option NodeId)). node_of m f) (sym map) ∙ at)))
+    (λ f p at. may_come c.args.caches.now c.args.owner c.args.node p (ap is_absent c.requires.bare) (settled_comes c.copy_out.new.store.map c.in_ok-frame.frame.0 c.args.node within f p (ap (λ (m : List (Option NodeId)). node_of m f) (sym map) ∙ at)))
     (inr (ap is_absent c.requires.bare)) (ap (λ (s : Store). s.tables) c.settle_in.ensures) framed.forest in
     λ o is. record {
-      left = each_owner (λ (m : NodeId). Drops (MayCome c.args.caches.now m) c.args.caches.now c.args.store.now c.own_page.new.caches (without_homes m c.args.node c.settle_in.new.store)) c.args.caches.now c.requires.right.sound c.args.node it owner whole o is;
-      home = each_owner (λ (m : NodeId). StaysOrUnseen m c.args.store.now c.settle_in.new.store) c.args.caches.now c.requires.right.sound c.args.node it owner
-          (λ f at. inl (ap (λ (m : List (Option NodeId)). node_of m f) map ∙ settled_stays c.copy_out.new.store.map c.in_ok-frame.frame.0 c.args.node k.taken.unbound f it (c.in_ok-frame.ensures.copied.done.home f at))) o is;
+      left = each_owner (λ (m : NodeId). Drops (MayCome c.args.caches.now m) c.args.caches.now c.args.store.now c.own_page.new.caches (without_homes m c.args.node c.settle_in.new.store)) c.args.caches.now c.requires.right.sound c.args.node c.args.owner c.requires.owner whole o is;
+      home = each_owner (λ (m : NodeId). StaysOrUnseen m c.args.store.now c.settle_in.new.store) c.args.caches.now c.requires.right.sound c.args.node c.args.owner c.requires.owner
+          (λ f at. inl (ap (λ (m : List (Option NodeId)). node_of m f) map ∙ settled_stays c.copy_out.new.store.map c.in_ok-frame.frame.0 c.args.node k.taken.unbound f c.args.owner (c.in_ok-frame.ensures.copied.done.home f at))) o is;
       failed = tt;
     }
 
 pub returns-clause-most : goal.returns-clause-most
 returns-clause-most g c =
-    let it : NodeId = c.owner_of-owner.result in
-    let owner : IsOwner c.args.caches.now c.args.node it = record { held = c.owner_of-owner.ensures.held; name = c.owner_of-owner.ensures.owner } in
-    each_owner (λ (m : NodeId). TakesAtMost (pulls_to_copy (own_of c.args.caches.now m)) 2 c.args.store.now.frames (g.M.Mapper.counts c.args.mapper.now) (g.M.Mapper.counts c.copy_out.new.mapper)) c.args.caches.now c.requires.right.sound c.args.node it owner
-    (let bounds = copy_most (own_of c.args.caches.now it) in most_more _ _ _ _ _ _ c.copy_out.ensures.copied.most (omega arith) (omega (arith, bounds.1)))
+    each_owner (λ (m : NodeId). TakesAtMost (pulls_to_copy (own_of c.args.caches.now m)) 2 c.args.store.now.frames (g.M.Mapper.counts c.args.mapper.now) (g.M.Mapper.counts c.copy_out.new.mapper)) c.args.caches.now c.requires.right.sound c.args.node c.args.owner c.requires.owner
+    (let bounds = copy_most (own_of c.args.caches.now c.args.owner) in most_more _ _ _ _ _ _ c.copy_out.ensures.copied.most (omega arith) (omega (arith, bounds.1)))
 
 pub returns-in_err-frame-clause-most : goal.returns-in_err-frame-clause-most
 returns-in_err-frame-clause-most g c =
-    let it : NodeId = c.owner_of-owner.result in
-    let owner : IsOwner c.args.caches.now c.args.node it = record { held = c.owner_of-owner.ensures.held; name = c.owner_of-owner.ensures.owner } in
-    each_owner (λ (m : NodeId). TakesAtMost (pulls_to_copy (own_of c.args.caches.now m)) 2 c.args.store.now.frames (g.M.Mapper.counts c.args.mapper.now) (g.M.Mapper.counts c.copy_out.new.mapper)) c.args.caches.now c.requires.right.sound c.args.node it owner
-    (let bounds = copy_most (own_of c.args.caches.now it) in most_more _ _ _ _ _ _ c.copy_out.ensures.copied.most (omega arith) (omega (arith, bounds.1)))
+    each_owner (λ (m : NodeId). TakesAtMost (pulls_to_copy (own_of c.args.caches.now m)) 2 c.args.store.now.frames (g.M.Mapper.counts c.args.mapper.now) (g.M.Mapper.counts c.copy_out.new.mapper)) c.args.caches.now c.requires.right.sound c.args.node c.args.owner c.requires.owner
+    (let bounds = copy_most (own_of c.args.caches.now c.args.owner) in most_more _ _ _ _ _ _ c.copy_out.ensures.copied.most (omega arith) (omega (arith, bounds.1)))
 
 pub returns-in_err-frame-clause-frames : goal.returns-in_err-frame-clause-frames
 returns-in_err-frame-clause-frames g c =
-    let it : NodeId = c.owner_of-owner.result in
-    let owner : IsOwner c.args.caches.now c.args.node it = record { held = c.owner_of-owner.ensures.held; name = c.owner_of-owner.ensures.owner } in
     let old : World = world (g.M.Mapper.held c.args.mapper.now) (g.M.Mapper.page_bytes c.args.mapper.now) c.args.caches.now c.args.store.now in
     let w : World = world (g.M.Mapper.held c.copy_out.new.mapper) (g.M.Mapper.page_bytes c.copy_out.new.mapper) c.copy_out.new.caches c.copy_out.new.store in
-    each_owner (λ (m : NodeId). OnlyCome (IsOfWrite c.args.caches.now c.args.node m) old w) c.args.caches.now c.requires.right.sound c.args.node it owner
-    (more_come (IsBroughtIn c.args.caches.now it) (IsOfWrite c.args.caches.now c.args.node it) old w (λ m e. inr (inr e)) c.copy_out.ensures.frames)
+    each_owner (λ (m : NodeId). OnlyCome (IsOfWrite c.args.caches.now c.args.node m) old w) c.args.caches.now c.requires.right.sound c.args.node c.args.owner c.requires.owner
+    (more_come (IsBroughtIn c.args.caches.now c.args.owner) (IsOfWrite c.args.caches.now c.args.node c.args.owner) old w (λ m e. inr (inr e)) c.copy_out.ensures.frames)
 
 pub returns-clause-frames : goal.returns-clause-frames
 returns-clause-frames g c =
-    let it : NodeId = c.owner_of-owner.result in
-    let owner : IsOwner c.args.caches.now c.args.node it = record { held = c.owner_of-owner.ensures.held; name = c.owner_of-owner.ensures.owner } in
     let told = g.M.Mapper.held c.copy_out.new.mapper in
     let size = g.M.Mapper.page_bytes c.copy_out.new.mapper in
     let old : World = world (g.M.Mapper.held c.args.mapper.now) (g.M.Mapper.page_bytes c.args.mapper.now) c.args.caches.now c.args.store.now in
@@ -141,15 +125,13 @@ returns-clause-frames g c =
     let v : World = world told size c.own_page.new.caches c.settle_in.new.store in
     let k = c.in_ok-frame.ensures.copied.done.gathered in
     let within : c.in_ok-frame.frame.0 < length c.copy_out.new.store.map = omega (arith, k.taken.within, k.still.stays.right.tied.fitted.map_frames) in
-    let may = IsOfWrite c.args.caches.now c.args.node it in
-    let gives = own_gives old w c.in_ok-frame.frame.0 k.still k.taken c.requires.right.sound c.requires.right.shaped c.args.node it c.requires.node c.requires.bare owner c.in_ok-frame.ensures.copied.done.page c.own_page.new.caches c.own_page.ensures in
-    each_owner (λ (m : NodeId). OnlyCome (IsOfWrite c.args.caches.now c.args.node m) old v) c.args.caches.now c.requires.right.sound c.args.node it owner
+    let may = IsOfWrite c.args.caches.now c.args.node c.args.owner in
+    let gives = own_gives old w c.in_ok-frame.frame.0 k.still k.taken c.requires.right.sound c.requires.right.shaped c.args.node c.args.owner c.requires.node c.requires.bare c.requires.owner c.in_ok-frame.ensures.copied.done.page c.own_page.new.caches c.own_page.ensures in
+    each_owner (λ (m : NodeId). OnlyCome (IsOfWrite c.args.caches.now c.args.node m) old v) c.args.caches.now c.requires.right.sound c.args.node c.args.owner c.requires.owner
     (come_settled may old w v c.in_ok-frame.frame.0 c.args.node within (inl refl) (ap (λ (s : Store). s.map) c.settle_in.ensures) (ap (λ (s : Store). s.frames.bytes) c.settle_in.ensures) gives.others
-    (more_come (IsBroughtIn c.args.caches.now it) may old w (λ m e. inr (inr e)) c.copy_out.ensures.frames))
+    (more_come (IsBroughtIn c.args.caches.now c.args.owner) may old w (λ m e. inr (inr e)) c.copy_out.ensures.frames))
 
 pub returns-in_err-frame-clause-victim : goal.returns-in_err-frame-clause-victim
 returns-in_err-frame-clause-victim g c = λ o is hand.
-    let it : NodeId = c.owner_of-owner.result in
-    let owner : IsOwner c.args.caches.now c.args.node it = record { held = c.owner_of-owner.ensures.held; name = c.owner_of-owner.ensures.owner } in
-    let same : o ≡ it = owner_same c.args.caches.now c.requires.right.sound c.args.node o it is owner in
+    let same : o ≡ c.args.owner = owner_same c.args.caches.now c.requires.right.sound c.args.node o c.args.owner is c.requires.owner in
     victim_from c.from_residual.result c.in_err-frame.field-0.0 c.from_residual.ensures.1 (c.in_err-frame.ensures.victim (ap (λ (m : NodeId). is_at_hand (own_of c.args.caches.now m)) (sym same) ∙ hand))

@@ -25,21 +25,19 @@ drop_translations-requires g c =
 pub returns-clause-answered : goal.returns-clause-answered
 returns-clause-answered g c =
     let old : World = world (g.M.Mapper.held c.args.mapper.now) (g.M.Mapper.page_bytes c.args.mapper.now) c.args.caches.now c.args.store.now in
-    let same = forgot_world (g.M.Mapper.held c.make_ready.new.mapper) (g.M.Mapper.page_bytes c.make_ready.new.mapper) c.make_ready.new.caches c.make_ready.new.store c.drop_translations.new.store c.owner_of-owner.result c.args.node c.drop_translations.ensures in
+    let same = forgot_world (g.M.Mapper.held c.make_ready.new.mapper) (g.M.Mapper.page_bytes c.make_ready.new.mapper) c.make_ready.new.caches c.make_ready.new.store c.drop_translations.new.store c.args.owner c.args.node c.drop_translations.ensures in
     subst (λ (w : World). IsAnswered old w (g.M.Mapper.counts c.args.mapper.now) (g.M.Mapper.counts c.make_ready.new.mapper)) (sym same) c.make_ready.ensures.ready.answered
 
 pub returns-clause-ready : goal.returns-clause-ready
 returns-clause-ready g c =
     let old : World = world (g.M.Mapper.held c.args.mapper.now) (g.M.Mapper.page_bytes c.args.mapper.now) c.args.caches.now c.args.store.now in
-    let same = forgot_world (g.M.Mapper.held c.make_ready.new.mapper) (g.M.Mapper.page_bytes c.make_ready.new.mapper) c.make_ready.new.caches c.make_ready.new.store c.drop_translations.new.store c.owner_of-owner.result c.args.node c.drop_translations.ensures in
+    let same = forgot_world (g.M.Mapper.held c.make_ready.new.mapper) (g.M.Mapper.page_bytes c.make_ready.new.mapper) c.make_ready.new.caches c.make_ready.new.store c.drop_translations.new.store c.args.owner c.args.node c.drop_translations.ensures in
     subst (λ (w : World). IsFramed readied c.args.node c.in_ok-frame.frame.0 old w) (sym same) c.in_ok-frame.ensures.ready.done
 
 pub returns-clause-drops : goal.returns-clause-drops
 returns-clause-drops g c =
-    let it : NodeId = c.owner_of-owner.result in
-    let owner : IsOwner c.args.caches.now c.args.node it = record { held = c.owner_of-owner.ensures.held; name = c.owner_of-owner.ensures.owner } in
     λ o is. subst (λ (s : Store). Drops (MayCome c.args.caches.now o) c.args.caches.now c.args.store.now c.make_ready.new.caches s)
-    (ap (λ (m : NodeId). without_homes m c.args.node c.make_ready.new.store) (owner_same c.args.caches.now c.requires.right.sound c.args.node o it is owner) ∙ sym c.drop_translations.ensures)
+    (ap (λ (m : NodeId). without_homes m c.args.node c.make_ready.new.store) (owner_same c.args.caches.now c.requires.right.sound c.args.node o c.args.owner is c.requires.owner) ∙ sym c.drop_translations.ensures)
     (let e = c.in_ok-frame.ensures.drops o is in e.left)
 
 pub returns-in_err-frame-clause-drops : goal.returns-in_err-frame-clause-drops
@@ -53,24 +51,18 @@ returns-clause-alone g c =
 
 pub returns-clause-homes : goal.returns-clause-homes
 returns-clause-homes g c =
-    let it : NodeId = c.owner_of-owner.result in
-    let owner : IsOwner c.args.caches.now c.args.node it = record { held = c.owner_of-owner.ensures.held; name = c.owner_of-owner.ensures.owner } in
-    each_owner (λ (o : NodeId). DropsHomes o c.args.node c.args.store.now c.drop_translations.new.store) c.args.caches.now c.requires.right.sound c.args.node it owner
-    (let e = c.in_ok-frame.ensures.drops it owner in drops_homes it c.args.node c.args.store.now c.make_ready.new.store c.drop_translations.new.store e.home c.drop_translations.ensures)
+    each_owner (λ (o : NodeId). DropsHomes o c.args.node c.args.store.now c.drop_translations.new.store) c.args.caches.now c.requires.right.sound c.args.node c.args.owner c.requires.owner
+    (let e = c.in_ok-frame.ensures.drops c.args.owner c.requires.owner in drops_homes c.args.owner c.args.node c.args.store.now c.make_ready.new.store c.drop_translations.new.store e.home c.drop_translations.ensures)
 
 pub returns-clause-most : goal.returns-clause-most
 returns-clause-most g c =
-    let it : NodeId = c.owner_of-owner.result in
-    let owner : IsOwner c.args.caches.now c.args.node it = record { held = c.owner_of-owner.ensures.held; name = c.owner_of-owner.ensures.owner } in
-    let bounds = copy_most (own_of c.args.caches.now it) in
-    most_more _ _ _ _ _ _ (c.make_ready.ensures.most it owner) bounds.0 (omega arith)
+    let bounds = copy_most (own_of c.args.caches.now c.args.owner) in
+    most_more _ _ _ _ _ _ (c.make_ready.ensures.most c.args.owner c.requires.owner) bounds.0 (omega arith)
 
 pub returns-in_err-frame-clause-most : goal.returns-in_err-frame-clause-most
 returns-in_err-frame-clause-most g c =
-    let it : NodeId = c.owner_of-owner.result in
-    let owner : IsOwner c.args.caches.now c.args.node it = record { held = c.owner_of-owner.ensures.held; name = c.owner_of-owner.ensures.owner } in
-    let bounds = copy_most (own_of c.args.caches.now it) in
-    most_more _ _ _ _ _ _ (c.make_ready.ensures.most it owner) bounds.0 (omega arith)
+    let bounds = copy_most (own_of c.args.caches.now c.args.owner) in
+    most_more _ _ _ _ _ _ (c.make_ready.ensures.most c.args.owner c.requires.owner) bounds.0 (omega arith)
 
 pub returns-clause-no_pull : goal.returns-clause-no_pull
 returns-clause-no_pull g c = λ o is. at_hand_pulls (own_of c.args.caches.now o) _ _ _ (c.make_ready.ensures.most o is) c.make_ready.ensures.ready.answered.later
@@ -81,5 +73,5 @@ returns-in_err-frame-clause-no_pull g c = λ o is. at_hand_pulls (own_of c.args.
 pub returns-clause-frames : goal.returns-clause-frames
 returns-clause-frames g c =
     let old : World = world (g.M.Mapper.held c.args.mapper.now) (g.M.Mapper.page_bytes c.args.mapper.now) c.args.caches.now c.args.store.now in
-    let same = forgot_world (g.M.Mapper.held c.make_ready.new.mapper) (g.M.Mapper.page_bytes c.make_ready.new.mapper) c.make_ready.new.caches c.make_ready.new.store c.drop_translations.new.store c.owner_of-owner.result c.args.node c.drop_translations.ensures in
+    let same = forgot_world (g.M.Mapper.held c.make_ready.new.mapper) (g.M.Mapper.page_bytes c.make_ready.new.mapper) c.make_ready.new.caches c.make_ready.new.store c.drop_translations.new.store c.args.owner c.args.node c.drop_translations.ensures in
     λ o is. subst (OnlyCome (IsOfWrite c.args.caches.now c.args.node o) old) (sym same) (c.make_ready.ensures.frames o is)

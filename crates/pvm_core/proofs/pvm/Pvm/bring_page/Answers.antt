@@ -13,7 +13,7 @@ use Rattle.fault_path.specs.Faults.{IsOwner, is_at_hand}
 use Rattle.gmi_calls.specs.Calling.{MapperCall, RaisesMade}
 use Rattle.vm_ids.specs.declared.command.Command.{Command}
 use Rattle.vm_model.specs.Machine.{Machine}
-use Rattle.pvm_core.specs.Access.{is_page_at_hand, is_ready, IsFoundIn, IsLookedFor}
+use Rattle.pvm_core.specs.Access.{AreNodesOf, is_page_at_hand, is_ready, IsFoundIn, IsLookedFor}
 use Rattle.pvm_core.specs.Translated.{AreTranslationsRight}
 use Rattle.pvm_core.proofs.Accesses.Found.{missed_pulls, found_in, pulled_one}
 use Rattle.vm_model.specs.PageForest.{PageForest}
@@ -29,15 +29,15 @@ use Rattle.pvm_core.proofs.Answering.Reaching.{reach_denied}
 use Rattle.pvm_core.proofs.Answering.Kept.{seen}
 use Rattle.pvm_core.proofs.Answering.Standing.{Stands, stands}
 use Rattle.contexts.proofs.Placing.{IsFoundAt, found_at, spot}
-use Rattle.pvm_core.proofs.Accesses.Loading.{owner_there}
 use Rattle.pvm_core.proofs.Accesses.Seen.{same_grants}
 use Rattle.pvm_core.proofs.Translating.Dropped.{dropped_right}
 use Rattle.pvm_core.proofs.Answering.Recorded.{asks_missed}
 use Rattle.regions.specs.AddressSpace.{place_told}
 use Rattle.pvm_core.proofs.pvm.Pvm.bring_page.Given.{Over}
-use Rattle.pvm_core.proofs.pvm.Pvm.bring_page.Goals.{After-node_of-node, After-read_fault, After-self}
+use Rattle.pvm_core.proofs.pvm.Pvm.bring_page.Goals.{After-read_owner, After-self}
 use Rattle.gmi_calls.specs.Parking.{NoMoreReady}
 use Rattle.residency.specs.declared.miss.Miss.TheVariants.{Pull, Victim}
+use Rattle.fault_path.proofs.OnePage.FoundPage.{owner_page}
 use Rattle.pvm_core.proofs.Accesses.AtHand.{failed_hand, owner_hand, owner_some}
 use Rattle.pvm_core.proofs.Accesses.Ready.{no_more, ready_is, found_hand}
 use Rattle.vm_model.specs.Answering.{Answer}
@@ -53,11 +53,6 @@ found g c =
     spot (size_of c.self.inside.caches) c.self.inside.contexts c.args.actor.0 c.args.address n c.args.place c.self.invariant.sound.actors
     (subst (λ (p : Manager). Ok c.args.place ≡ place_told (place_of_actor p.page_bytes (has_number p.actors c.args.actor.0) c.args.address n)) (sym c.self.view_is) c.requires.place.1)
 
-pub node_of-node-requires-clause-page : goal.node_of-node-requires-clause-page
-node_of-node-requires-clause-page g c =
-    let r = found g (goal.at.node_of-node-requires-clause-page g c).After-self in
-    (r.count, r.there, r.less)
-
 valid_before : (g : Over) (c : After-self g) → IsValid (seen c.self.inside.caches c.self.inside.store c.self.inside.contexts) (g.M.Mapper.held c.args.mapper.now)
 valid_before g c = subst (λ (p : Manager). IsValid p (g.M.Mapper.held c.args.mapper.now)) (sym c.self.view_is) c.requires.valid
 
@@ -67,44 +62,43 @@ raised Pull page m command next before now same = omega (arith, same)
 raised Victim page m command next before now same = omega (arith, same)
 
 -- the page is looked for: what the manager stands for stays
-looked : (g : Over) (c : After-read_fault g) → Stands (seen c.self.inside.caches c.self.inside.store c.self.inside.contexts) c.read_fault.new.caches c.read_fault.new.store c.self.inside.contexts c.self.inside.live (g.M.Mapper.held c.args.mapper.now) (g.M.Mapper.held c.read_fault.new.mapper) (g.M.Mapper.counts c.args.mapper.now) (g.M.Mapper.counts c.read_fault.new.mapper)
+looked : (g : Over) (c : After-read_owner g) → Stands (seen c.self.inside.caches c.self.inside.store c.self.inside.contexts) c.read_owner.new.caches c.read_owner.new.store c.self.inside.contexts c.self.inside.live (g.M.Mapper.held c.args.mapper.now) (g.M.Mapper.held c.read_owner.new.mapper) (g.M.Mapper.counts c.args.mapper.now) (g.M.Mapper.counts c.read_owner.new.mapper)
 looked g c =
     let i = c.self.inside in
-    let n = c.read_fault.new in
-    let e = c.read_fault.ensures in
+    let n = c.read_owner.new in
+    let e = c.read_owner.ensures in
     let size = g.M.Mapper.page_bytes c.args.mapper.now in
     let now = g.M.Mapper.page_bytes n.mapper in
-    stands i.caches n.caches i.store n.store (g.M.Mapper.held c.args.mapper.now) (g.M.Mapper.held c.read_fault.new.mapper) size now e.answered.kept i.contexts i.live c.self.invariant.sound (g.M.Mapper.counts c.args.mapper.now) (g.M.Mapper.counts c.read_fault.new.mapper) e.forest
-    (reached (seen c.self.inside.caches c.self.inside.store c.self.inside.contexts) (g.M.Mapper.held c.args.mapper.now) c.self.invariant.sound.nodes c.self.invariant.sound.apart size now n.caches n.store (g.M.Mapper.held c.read_fault.new.mapper) (g.M.Mapper.counts c.args.mapper.now) (g.M.Mapper.counts c.read_fault.new.mapper) e.answered.later e.answered.told)
-    (valid_before g (goal.at.After-read_fault g c).After-self)
+    stands i.caches n.caches i.store n.store (g.M.Mapper.held c.args.mapper.now) (g.M.Mapper.held c.read_owner.new.mapper) size now e.answered.kept i.contexts i.live c.self.invariant.sound (g.M.Mapper.counts c.args.mapper.now) (g.M.Mapper.counts c.read_owner.new.mapper) e.forest
+    (reached (seen c.self.inside.caches c.self.inside.store c.self.inside.contexts) (g.M.Mapper.held c.args.mapper.now) c.self.invariant.sound.nodes c.self.invariant.sound.apart size now n.caches n.store (g.M.Mapper.held c.read_owner.new.mapper) (g.M.Mapper.counts c.args.mapper.now) (g.M.Mapper.counts c.read_owner.new.mapper) e.answered.later e.answered.told)
+    (valid_before g (goal.at.After-read_owner g c).After-self)
 
--- and the node whose page is read
-owner : (g : Over) (c : After-node_of-node g) → (o : NodeId) × IsOwner c.self.inside.caches c.node_of-node.result o
-owner g c = owner_there c.self.inside.caches c.self.invariant.sound.nodes c.node_of-node.result c.node_of-node.ensures.held
+-- the nodes of the page
+told_nodes : (g : Over) (c : After-self g) → AreNodesOf c.self.inside.caches c.args.place.cache c.args.place.page c.args.nodes.node c.args.nodes.owner
+told_nodes g c = subst (λ (p : Manager). AreNodesOf p.caches c.args.place.cache c.args.place.page c.args.nodes.node c.args.nodes.owner) (sym c.self.view_is) c.requires.nodes
 
-still_right : (g : Over) (c : After-read_fault g) → AreTranslationsRight c.read_fault.new.caches c.read_fault.new.store c.self.inside.contexts
+still_right : (g : Over) (c : After-read_owner g) → AreTranslationsRight c.read_owner.new.caches c.read_owner.new.store c.self.inside.contexts
 still_right g c =
     let i = c.self.inside in
-    let n = c.read_fault.new in
-    let e = c.read_fault.ensures in
-    let o = owner g (goal.at.After-read_fault g c).After-node_of-node in
-    dropped_right (λ m. m ≡ o.0) i.caches n.caches i.store n.store i.contexts (e.drops o.0 o.1) (same_grants i.caches n.caches e.answered.kept.nodes.caches) c.self.invariant.translated
+    let n = c.read_owner.new in
+    let e = c.read_owner.ensures in
+    dropped_right (λ m. m ≡ c.args.nodes.owner) i.caches n.caches i.store n.store i.contexts e.drops (same_grants i.caches n.caches e.answered.kept.nodes.caches) c.self.invariant.translated
 
 pub invariant_of-self : goal.invariant_of-self
 invariant_of-self g c =
-    let at = (goal.at.invariant_of-self g c).After-read_fault in
+    let at = (goal.at.invariant_of-self g c).After-read_owner in
     record { sound = (looked g at).sound; translated = still_right g at }
 
 pub invariant_of-self-2 : goal.invariant_of-self-2
 invariant_of-self-2 g c =
-    let at = (goal.at.invariant_of-self-2 g c).After-read_fault in
+    let at = (goal.at.invariant_of-self-2 g c).After-read_owner in
     record { sound = (looked g at).sound; translated = still_right g at }
 
-looked_for : (g : Over) (c : After-read_fault g) → IsLookedFor g.M.Mapper c.args.mapper.now c.args.self.now c.read_fault.new.mapper (seen c.read_fault.new.caches c.read_fault.new.store c.self.inside.contexts)
+looked_for : (g : Over) (c : After-read_owner g) → IsLookedFor g.M.Mapper c.args.mapper.now c.args.self.now c.read_owner.new.mapper (seen c.read_owner.new.caches c.read_owner.new.store c.self.inside.contexts)
 looked_for g c =
     let i = c.self.inside in
-    let n = c.read_fault.new in
-    let e = c.read_fault.ensures in
+    let n = c.read_owner.new in
+    let e = c.read_owner.ensures in
     let k = looked g c in
     let p : Manager = seen i.caches i.store i.contexts in
     let q : Manager = seen n.caches n.store i.contexts in
@@ -123,67 +117,89 @@ looked_for g c =
     })
 
 pub returns-clause-brought : goal.returns-clause-brought
-returns-clause-brought g c = looked_for g (goal.at.returns-clause-brought g c).After-read_fault
+returns-clause-brought g c = looked_for g (goal.at.returns-clause-brought g c).After-read_owner
 
 pub returns-in-Err-clause-brought : goal.returns-in-Err-clause-brought
-returns-in-Err-clause-brought g c = looked_for g (goal.at.returns-in-Err-clause-brought g c).After-read_fault
+returns-in-Err-clause-brought g c = looked_for g (goal.at.returns-in-Err-clause-brought g c).After-read_owner
+
+-- its nodes are the same
+still_nodes : (g : Over) (c : After-read_owner g) → AreNodesOf c.read_owner.new.caches c.args.place.cache c.args.place.page c.args.nodes.node c.args.nodes.owner
+still_nodes g c =
+    let i = c.self.inside in
+    let n = c.read_owner.new in
+    let e = c.read_owner.ensures in
+    let old = c.self.invariant.sound.nodes in
+    let l = looked g c in
+    let node = c.args.nodes.node in
+    let o = told_nodes g (goal.at.After-read_owner g c).After-self in
+    let w : World = world (g.M.Mapper.held c.args.mapper.now) (g.M.Mapper.page_bytes c.args.mapper.now) i.caches i.store in
+    let v : World = world (g.M.Mapper.held n.mapper) (g.M.Mapper.page_bytes n.mapper) n.caches n.store in
+    let held = e.answered.kept.nodes.held node ∙ o.held in
+    let owner = still_owner w v e.still old.sound node c.args.nodes.owner o.owner in
+    record {
+      held = held;
+      name = e.answered.kept.nodes.name node ∙ o.name;
+      owner = owner;
+      own = owner_page n.caches c.args.nodes.owner owner.held (owner_some n.caches l.sound.nodes.sound l.sound.nodes.consistent.shaped node c.args.nodes.owner held owner);
+    }
+
+pub returns-clause-nodes : goal.returns-clause-nodes
+returns-clause-nodes g c = still_nodes g (goal.at.returns-clause-nodes g c).After-read_owner
+
+pub returns-in-Err-clause-nodes : goal.returns-in-Err-clause-nodes
+returns-in-Err-clause-nodes g c = still_nodes g (goal.at.returns-in-Err-clause-nodes g c).After-read_owner
 
 pub returns-clause-ready : goal.returns-clause-ready
 returns-clause-ready g c =
     let places = goal.at.returns-clause-ready g c in
     let i = c.self.inside in
-    let n = c.read_fault.new in
-    let e = c.read_fault.ensures in
-    let old = c.self.invariant.sound.nodes in
-    let l = looked g places.After-read_fault in
-    let node = c.node_of-node.result in
-    let o = owner g places.After-node_of-node in
+    let n = c.read_owner.new in
+    let e = c.read_owner.ensures in
+    let l = looked g places.After-read_owner in
     let r = found g places.After-self in
-    let w : World = world (g.M.Mapper.held c.args.mapper.now) (g.M.Mapper.page_bytes c.args.mapper.now) i.caches i.store in
-    let v : World = world (g.M.Mapper.held n.mapper) (g.M.Mapper.page_bytes n.mapper) n.caches n.store in
-    let there : IsFoundIn (seen n.caches n.store i.contexts) o.0 c.in_default.field-0 = found_in (g.M.Mapper.held n.mapper) (g.M.Mapper.page_bytes n.mapper) i.caches n.caches n.store i.contexts e.answered.kept.right o.0 c.in_default.field-0 (c.in_default.ensures.frame o.0 o.1) (λ hand. (e.idle o.0 o.1 hand).2) in
+    let o = still_nodes g places.After-read_owner in
+    let there : IsFoundIn (seen n.caches n.store i.contexts) c.args.nodes.owner c.in_default.field-0 = found_in (g.M.Mapper.held n.mapper) (g.M.Mapper.page_bytes n.mapper) i.caches n.caches n.store i.contexts e.answered.kept.right c.args.nodes.owner c.in_default.field-0 c.in_default.ensures.frame (λ hand. (e.idle hand).2) in
     ready_is n.caches n.store i.contexts c.self.invariant.sound.actors.some c.args.actor.0 c.args.address c.requires.place.0 (found_at r.region c.args.place) (sym r.is)
-    ∙ ap (is_page_at_hand n.caches) (sym (e.answered.kept.nodes.name node ∙ c.node_of-node.ensures.name))
-    ∙ owner_hand n.caches l.sound.nodes.sound l.sound.nodes.consistent.shaped node o.0 (e.answered.kept.nodes.held node ∙ c.node_of-node.ensures.held) (still_owner w v e.still old.sound node o.0 o.1)
-    ∙ found_hand (seen n.caches n.store i.contexts) o.0 c.in_default.field-0 there
+    ∙ ap (is_page_at_hand n.caches) (sym o.name)
+    ∙ owner_hand n.caches l.sound.nodes.sound l.sound.nodes.consistent.shaped c.args.nodes.node c.args.nodes.owner o.held o.owner
+    ∙ found_hand (seen n.caches n.store i.contexts) c.args.nodes.owner c.in_default.field-0 there
 
 pub returns-clause-pulled : goal.returns-clause-pulled
 returns-clause-pulled g c = λ away.
     let i = c.self.inside in
     let nodes = c.self.invariant.sound.nodes in
     let p : Manager = seen i.caches i.store i.contexts in
-    let o = owner g (goal.at.returns-clause-pulled g c).After-node_of-node in
+    let o = told_nodes g (goal.at.returns-clause-pulled g c).After-self in
     let r = found g (goal.at.returns-clause-pulled g c).After-self in
     let at : Place = found_at r.region c.args.place in
     let before : is_ready p c.args.actor.0 c.args.address ≡ false = subst (λ (p : Manager). is_ready p c.args.actor.0 c.args.address ≡ false) (sym c.self.view_is) away in
-    let out : is_at_hand (own_of i.caches o.0) ≡ false = sym (owner_hand i.caches nodes.sound nodes.consistent.shaped c.node_of-node.result o.0 c.node_of-node.ensures.held o.1) ∙ ap (is_page_at_hand i.caches) c.node_of-node.ensures.name
+    let out : is_at_hand (own_of i.caches c.args.nodes.owner) ≡ false = sym (owner_hand i.caches nodes.sound nodes.consistent.shaped c.args.nodes.node c.args.nodes.owner o.held o.owner) ∙ ap (is_page_at_hand i.caches) o.name
     ∙ sym (ready_is i.caches i.store i.contexts c.self.invariant.sound.actors.some c.args.actor.0 c.args.address c.requires.place.0 at (sym r.is)) ∙ before in
-    pulled_one (own_of i.caches o.0) c.read_fault.result c.in_default.field-0 (g.M.Mapper.counts c.args.mapper.now) (g.M.Mapper.counts c.read_fault.new.mapper) c.in_default.is (owner_some i.caches nodes.sound nodes.consistent.shaped c.node_of-node.result o.0 c.node_of-node.ensures.held o.1) out
-    (λ zero. (_, c.read_fault.ensures.traffic o.0 o.1 zero))
+    pulled_one (own_of i.caches c.args.nodes.owner) c.read_owner.result c.in_default.field-0 (g.M.Mapper.counts c.args.mapper.now) (g.M.Mapper.counts c.read_owner.new.mapper) c.in_default.is (owner_some i.caches nodes.sound nodes.consistent.shaped c.args.nodes.node c.args.nodes.owner o.held o.owner) out
+    (λ zero. (_, c.read_owner.ensures.traffic zero))
 
 pub returns-in-Err-clause-missed : goal.returns-in-Err-clause-missed
 returns-in-Err-clause-missed g c =
     let i = c.self.inside in
-    let o = owner g (goal.at.returns-in-Err-clause-missed g c).After-node_of-node in
-    let e = c.read_fault.ensures in
+    let e = c.read_owner.ensures in
     record {
       miss = c.in-Err.miss;
       page = c.args.place.page;
       is = ap (λ (f : FaultAt). troubles.Mapper f) c.fault_of.ensures;
-      no_pull = λ victim. missed_pulls (own_of i.caches o.0) c.read_fault.result (g.M.Mapper.counts c.args.mapper.now) (g.M.Mapper.counts c.read_fault.new.mapper) (c.in-Err.is ∙ ap (λ (m : Miss). Err m) victim)
-          (λ zero. (_, e.traffic o.0 o.1 zero)) (λ hand. (e.idle o.0 o.1 hand).0);
+      no_pull = λ victim. missed_pulls (own_of i.caches c.args.nodes.owner) c.read_owner.result (g.M.Mapper.counts c.args.mapper.now) (g.M.Mapper.counts c.read_owner.new.mapper) (c.in-Err.is ∙ ap (λ (m : Miss). Err m) victim)
+          (λ zero. (_, e.traffic zero)) (λ hand. (e.idle hand).0);
     }
 
 pub returns-in-Err-clause-no_more : goal.returns-in-Err-clause-no_more
 returns-in-Err-clause-no_more g c =
     let i = c.self.inside in
-    let n = c.read_fault.new in
+    let n = c.read_owner.new in
     let p : Manager = seen i.caches i.store i.contexts in
     let q : Manager = seen n.caches n.store i.contexts in
     let w : World = world (g.M.Mapper.held c.args.mapper.now) (g.M.Mapper.page_bytes c.args.mapper.now) i.caches i.store in
     let v : World = world (g.M.Mapper.held n.mapper) (g.M.Mapper.page_bytes n.mapper) n.caches n.store in
     subst (λ (p : Manager). NoMoreReady is_ready p q) c.self.view_is
-    (no_more p q refl refl (failed_hand w v c.read_fault.ensures.still c.self.invariant.sound.nodes.sound c.self.invariant.sound.nodes.consistent.shaped c.in-Err.ensures.failed))
+    (no_more p q refl refl (failed_hand w v c.read_owner.ensures.still c.self.invariant.sound.nodes.sound c.self.invariant.sound.nodes.consistent.shaped c.in-Err.ensures.failed))
 
 pub returns-in-Err-clause-call : goal.returns-in-Err-clause-call
 returns-in-Err-clause-call g c = λ piece may granted told.
@@ -191,15 +207,15 @@ returns-in-Err-clause-call g c = λ piece may granted told.
     let i = c.self.inside in
     let h = g.M.Mapper.held c.args.mapper.now in
     let before = g.M.Mapper.counts c.args.mapper.now in
-    let n = c.read_fault.new in
+    let n = c.read_owner.new in
     let k = g.M.Mapper.held n.mapper in
     let after = g.M.Mapper.counts n.mapper in
     let p : Manager = seen i.caches i.store i.contexts in
     let q : Manager = seen n.caches n.store i.contexts in
     let nodes = c.self.invariant.sound.nodes in
     let valid = valid_before g places.After-self in
-    let l = looked g places.After-read_fault in
-    let brought = looked_for g places.After-read_fault in
+    let l = looked g places.After-read_owner in
+    let brought = looked_for g places.After-read_owner in
     let r = spot (size_of i.caches) i.contexts c.args.actor.0 c.args.address (length piece) c.args.place c.self.invariant.sound.actors
     (subst (λ (p : Manager). Ok c.args.place ≡ place_told (place_of_actor p.page_bytes (has_number p.actors c.args.actor.0) c.args.address (length piece))) (sym c.self.view_is) told) in
     let at : Place = found_at r.region c.args.place in

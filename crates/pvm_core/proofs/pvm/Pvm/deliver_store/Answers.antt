@@ -1,4 +1,4 @@
-use Rattle.std.proofs.Common.{◌≡◌, Bool, true, false, Err, sym, ap, subst, ◌∙◌, arith}
+use Rattle.std.proofs.Common.{◌≡◌, Bool, true, false, Err, length, sym, ap, subst, ◌∙◌, arith}
 use Rattle.vm_ids.specs.Counting.{RoseBy}
 use Rattle.vm_ids.specs.declared.command.Command.TheVariants as commands
 use Rattle.vm_ids.specs.declared.reply.Trouble.{Trouble}
@@ -11,23 +11,34 @@ use Rattle.pvm_core.proofs.Accesses.Behind.{done_or_victim, looked_then}
 use Rattle.pvm_core.proofs.Accesses.Parked.{access_call, any_access, came_not, came_ready, came_stored, missed_access, trouble_no_page, victim_no_page}
 use Rattle.pvm_core.proofs.Accesses.Parts.{quiet_then}
 use Rattle.pvm_core.proofs.pvm.Pvm.deliver_store.Given.{Over}
-use Rattle.pvm_core.proofs.pvm.Pvm.deliver_store.Goals.{After-is_ready-ready, Else-store_seen, In-Ok}
+use Rattle.pvm_core.proofs.pvm.Pvm.deliver_store.Goals.{After-is_here, After-place_to_write, Else-store_seen, In-Ok}
 use Rattle.pvm_core.proofs.pvm.Pvm.deliver_store.Goals as goal
 
 -- where the page is looked for, the manager is as before
 unseen : (g : Over) (c : Else-store_seen g) → c.store_seen.new.self ≡ c.args.self.now
 unseen g c = c.store_seen.ensures.unseen c.if-store_seen.false
 
--- whether the access was ready
-asked : (g : Over) (c : After-is_ready-ready g) → c.is_ready-ready.result ≡ is_ready c.args.self.now c.args.actor.0 c.args.address
-asked g c = c.is_ready-ready.ensures ∙ ap (λ (p : Manager). is_ready p c.args.actor.0 c.args.address) (unseen g (goal.at.After-is_ready-ready g c).Else-store_seen)
+-- the place of the access
+pub nodes_at-nodes-requires : goal.nodes_at-nodes-requires
+nodes_at-nodes-requires g c = record { place = (c.args.actor.0, c.args.address, length c.args.piece.now, c.in-Ok.ensures.place) }
+
+-- whether the access is ready
+asked_now : (g : Over) (c : After-is_here g) → c.is_here.result ≡ is_ready c.place_to_write.new.self c.args.actor.0 c.args.address
+asked_now g c = c.is_here.ensures ∙ c.nodes_at-nodes.ensures.ready c.args.actor.0 c.args.address (length c.args.piece.now) c.in-Ok.ensures.place
+
+-- the questions for write access leave what is ready
+as_before : (g : Over) (c : After-place_to_write g) → is_ready c.place_to_write.new.self c.args.actor.0 c.args.address ≡ is_ready c.args.self.now c.args.actor.0 c.args.address
+as_before g c = c.place_to_write.ensures.hands c.args.actor.0 c.args.address ∙ ap (λ (p : Manager). is_ready p c.args.actor.0 c.args.address) (unseen g (goal.at.After-place_to_write g c).Else-store_seen)
+
+asked : (g : Over) (c : After-is_here g) → c.is_here.result ≡ is_ready c.args.self.now c.args.actor.0 c.args.address
+asked g c = asked_now g c ∙ as_before g (goal.at.After-is_here g c).After-place_to_write
 
 pub returns-in-Err-clause-delivered : goal.returns-in-Err-clause-delivered
 returns-in-Err-clause-delivered g c =
     let at = goal.at.returns-in-Err-clause-delivered g c in
     let command = commands.Store c.args.actor c.args.address c.args.piece.now in
     let call = subst (λ (p : Manager). MapperCall g.M.Mapper meaning c.args.mapper.now p command (Err c.in-Err.trouble) c.place_to_write.new.mapper c.place_to_write.new.self) (unseen g at.Else-store_seen) c.in-Err.ensures.call in
-    access_call _ 0 call tt (trouble_no_page c.in-Err.trouble c.in-Err.ensures.no_page) c.place_to_write.ensures.no_pull (λ r e. came_not _ _ c.in-Err.trouble r (asked g at.After-is_ready-ready) e)
+    access_call _ 0 call tt (trouble_no_page c.in-Err.trouble c.in-Err.ensures.no_page) c.place_to_write.ensures.no_pull (λ r e. came_not _ _ c.in-Err.trouble r (c.is_ready.ensures ∙ as_before g at.After-place_to_write) e)
 
 -- a call behind the questions for write access
 behind_questions : (g : Over) (c : In-Ok g) → numbered c.place_to_write.new.self ≡ numbered c.args.self.now
@@ -35,14 +46,14 @@ behind_questions g c =
     let w = c.in-Ok.ensures.ready in
     omega (arith, w.nodes.made, w.nodes.copies, ap numbered (unseen g (goal.at.In-Ok g c).Else-store_seen))
 
-pub returns-then-ready-clause-delivered : goal.returns-then-ready-clause-delivered
-returns-then-ready-clause-delivered g c =
-    let at = goal.at.returns-then-ready-clause-delivered g c in
+pub returns-then-is_here-clause-delivered : goal.returns-then-is_here-clause-delivered
+returns-then-is_here-clause-delivered g c =
+    let at = goal.at.returns-then-is_here-clause-delivered g c in
     let w = c.in-Ok.ensures.ready in
     let m = c.args.mapper.now in
     let state = w.state ∙ ap (λ (p : Manager). state_at p (g.M.Mapper.held m)) (unseen g at.Else-store_seen) in
     let call = quiet_then w.later w.asked.traffic state (behind_questions g at.In-Ok) w.page c.store_at.ensures.call in
-    any_access _ call (λ r. came_ready _ _ r (sym (asked g at.After-is_ready-ready) ∙ c.if-ready.true))
+    any_access _ call (λ r. came_ready _ _ r (sym (asked g at.After-is_here) ∙ c.if-is_here.true))
 
 pub returns-in-Err-bring_page-clause-delivered : goal.returns-in-Err-bring_page-clause-delivered
 returns-in-Err-bring_page-clause-delivered g c =
@@ -57,7 +68,7 @@ returns-in-Err-bring_page-clause-delivered g c =
     let state = w.state ∙ ap (λ (p : Manager). state_at p (g.M.Mapper.held m)) (unseen g at.Else-store_seen) in
     let first : MapperCall g.M.Mapper meaning c.place_to_write.new.mapper c.place_to_write.new.self command (Err trouble) k q = c.in-Err-bring_page.ensures.call c.args.piece.now w.may_write w.writable c.in-Ok.ensures.place in
     let call : MapperCall g.M.Mapper meaning m c.args.self.now command (Err trouble) k q = quiet_then w.later w.asked.traffic state (behind_questions g at.In-Ok) w.page first in
-    let away : is_ready c.args.self.now c.args.actor.0 c.args.address ≡ false = sym (asked g at.After-is_ready-ready) ∙ c.if-ready.false in
+    let away : is_ready c.args.self.now c.args.actor.0 c.args.address ≡ false = sym (asked g at.After-is_here) ∙ c.if-is_here.false in
     let none : miss.miss ≡ Victim → RoseBy 0 (g.M.Mapper.counts m).pulls (g.M.Mapper.counts k).pulls = λ victim low. (
     let later = first.answers.rose.pulls_later in
     let y = miss.no_pull victim low in
@@ -80,7 +91,7 @@ returns-in-Ok-bring_page-clause-delivered g c =
     let then = c.store_at-in-Ok-bring_page.ensures.call in
     let call : MapperCall g.M.Mapper meaning m c.args.self.now (commands.Store c.args.actor c.args.address c.args.piece.now) (done_by c.store_at-in-Ok-bring_page.result) k c.store_at-in-Ok-bring_page.new.self
     = quiet_then w.later w.asked.traffic state (behind_questions g at.In-Ok) w.page (looked_then looked (done_or_victim c.store_at-in-Ok-bring_page.result victim) then) in
-    let away : is_ready c.place_to_write.new.self c.args.actor.0 c.args.address ≡ false = c.place_to_write.ensures.hands c.args.actor.0 c.args.address ∙ sym c.is_ready-ready.ensures ∙ c.if-ready.false in
+    let away : is_ready c.place_to_write.new.self c.args.actor.0 c.args.address ≡ false = sym (asked_now g at.After-is_here) ∙ c.if-is_here.false in
     let one : RoseBy 1 (g.M.Mapper.counts m).pulls (g.M.Mapper.counts k).pulls = λ low. (
     let last = then.answers.rose.pulls_later in
     let later = looked.reach.later.pulls in
@@ -88,7 +99,7 @@ returns-in-Ok-bring_page-clause-delivered g c =
     let y = c.in-Ok-bring_page.ensures.pulled away (omega (arith, last, low)) in
     let x = c.place_to_write.ensures.no_pull (omega (arith, last, later, low)) in
     omega (arith, x, y, z)) in
-    access_call _ 1 call tt (victim_no_page c.store_at-in-Ok-bring_page.result victim) one (λ r pulled. came_stored _ c.store_at-in-Ok-bring_page.result r (sym (asked g at.After-is_ready-ready) ∙ c.if-ready.false) victim pulled)
+    access_call _ 1 call tt (victim_no_page c.store_at-in-Ok-bring_page.result victim) one (λ r pulled. came_stored _ c.store_at-in-Ok-bring_page.result r (sym (asked g at.After-is_here) ∙ c.if-is_here.false) victim pulled)
 
 pub returns-in-Ok-bring_page-clause-still_admits : goal.returns-in-Ok-bring_page-clause-still_admits
 returns-in-Ok-bring_page-clause-still_admits g c = λ command e. c.store_at-in-Ok-bring_page.ensures.admits command (c.bring_page.ensures.admits command (c.place_to_write.ensures.admits command (c.store_seen.ensures.admits command e)))

@@ -1,4 +1,4 @@
-use Rattle.std.proofs.Common.{◌≡◌, true, Ok, Err, sym, subst, ◌∙◌, Result}
+use Rattle.std.proofs.Common.{◌≡◌, true, Ok, Err, sym, ap, subst, ◌∙◌, Result}
 use Rattle.std.specs.Prelude.{IsOk}
 use Rattle.vm_ids.specs.Counting.{RoseBy}
 use Rattle.vm_ids.specs.declared.command.Command.TheVariants as commands
@@ -9,13 +9,14 @@ use Rattle.vm_ids.specs.declared.reply.Trouble.TheVariants as troubles
 use Rattle.vm_model.specs.Answering.{answer_by}
 use Rattle.gmi_calls.specs.Calling.{MapperCall}
 use Rattle.gmi_calls.specs.Parking.{AccessCall, NoPull}
+use Rattle.pvm_core.specs.Access.{is_ready}
 use Rattle.pvm_core.specs.Keeping.{SameButSeen}
 use Rattle.pvm_core.specs.Manager.{IsValid, Manager, meaning}
 use Rattle.pvm_core.proofs.Accesses.Found.{no_rise}
 use Rattle.pvm_core.proofs.Accesses.Parked.{IsNoPage, access_call}
 use Rattle.pvm_core.proofs.Accesses.Parts.{mapper_call}
 use Rattle.pvm_core.proofs.pvm.Pvm.issue_load.Given.{Over}
-use Rattle.pvm_core.proofs.pvm.Pvm.issue_load.Goals.{After-load_at, In-None}
+use Rattle.pvm_core.proofs.pvm.Pvm.issue_load.Goals.{After-is_here, After-load_at, In-None}
 use Rattle.pvm_core.proofs.pvm.Pvm.issue_load.Goals as goal
 
 -- no page is pulled where the mapper isn't called
@@ -34,19 +35,37 @@ returns-in-Err-clause-answered g c =
     let valid = subst (λ (p : Manager). IsValid p (g.M.Mapper.held m)) (sym (unseen g at.In-None)) c.requires.valid in
     subst (λ (p : Manager). AccessCall g.M.Mapper meaning NoPull m p (commands.Load c.args.actor c.args.address c.args.bytes) (Err (troubles.Refused c.in-Err.refusal)) m q) (unseen g at.In-None) (access_call NoPull 0 (mapper_call c.in-Err.ensures.load valid) tt tt (no_rise _) (λ r e. e))
 
+-- the place of the access
+pub nodes_at-nodes-requires : goal.nodes_at-nodes-requires
+nodes_at-nodes-requires g c = record { place = (c.args.actor.0, c.args.address, c.args.bytes, sym c.in-Ok.is ∙ c.locate.ensures.place) }
+
+-- whether the access is ready
+ready : (g : Over) (c : After-is_here g) → c.is_here.result ≡ is_ready c.load_seen.new.self c.args.actor.0 c.args.address
+ready g c = c.is_here.ensures ∙ c.nodes_at-nodes.ensures.ready c.args.actor.0 c.args.address c.args.bytes (sym c.in-Ok.is ∙ c.locate.ensures.place)
+
 -- what a load leaves that is ready
-at_hand : (g : Over) (c : After-load_at g) → c.is_ready.result ≡ true → IsOk c.load_at.result × SameButSeen c.load_seen.new.self c.load_at.new.self × (c.load_at.new.mapper ≡ c.args.mapper.now)
-at_hand g c ready = c.load_at.ensures.idle (c.load_at.ensures.at_hand (sym c.is_ready.ensures ∙ ready))
+at_hand : (g : Over) (c : After-load_at g) → c.is_here.result ≡ true → IsOk c.load_at.result × SameButSeen c.load_seen.new.self c.load_at.new.self × (c.load_at.new.mapper ≡ c.args.mapper.now)
+at_hand g c here = c.load_at.ensures.idle (c.load_at.ensures.at_hand (sym (ready g (goal.at.After-load_at g c).After-is_here) ∙ here))
 
 ok_no_page : (r : Result Piece Trouble) → IsOk r → IsNoPage (answer_by replies.Bytes r)
 ok_no_page (Ok x) e = tt
 ok_no_page (Err x) e = absurd (cc e)
 
-pub returns-then-is_ready-clause-answered : goal.returns-then-is_ready-clause-answered
-returns-then-is_ready-clause-answered g c =
-    let at = goal.at.returns-then-is_ready-clause-answered g c in
+pub returns-then-is_here-clause-answered : goal.returns-then-is_here-clause-answered
+returns-then-is_here-clause-answered g c =
+    let at = goal.at.returns-then-is_here-clause-answered g c in
     let m = c.args.mapper.now in
-    let idle = at_hand g at.After-load_at c.if-is_ready.true in
+    let idle = at_hand g at.After-load_at c.if-is_here.true in
     let call = subst (λ (p : Manager). MapperCall g.M.Mapper meaning m p (commands.Load c.args.actor c.args.address c.args.bytes) (answer_by replies.Bytes c.load_at.result) c.load_at.new.mapper c.load_at.new.self) (unseen g at.In-None) c.load_at.ensures.call in
     let none : RoseBy 0 (g.M.Mapper.counts m).pulls (g.M.Mapper.counts c.load_at.new.mapper).pulls = subst (λ k. RoseBy 0 (g.M.Mapper.counts m).pulls (g.M.Mapper.counts k).pulls) (sym idle.2) (no_rise _) in
     access_call NoPull 0 call tt (ok_no_page c.load_at.result idle.0) none (λ r e. e)
+
+pub returns-then-is_here-clause-at_hand : goal.returns-then-is_here-clause-at_hand
+returns-then-is_here-clause-at_hand g c = λ ok.
+    let at = goal.at.returns-then-is_here-clause-at_hand g c in
+    sym (ap (λ (p : Manager). is_ready p c.args.actor.0 c.args.address) (unseen g at.In-None)) ∙ sym (ready g at.After-is_here) ∙ c.if-is_here.true
+
+pub returns-else-is_here-clause-not_ready : goal.returns-else-is_here-clause-not_ready
+returns-else-is_here-clause-not_ready g c =
+    let at = goal.at.returns-else-is_here-clause-not_ready g c in
+    sym (ap (λ (p : Manager). is_ready p c.args.actor.0 c.args.address) (unseen g at.In-None)) ∙ sym (ready g at.After-is_here) ∙ c.if-is_here.false

@@ -59,6 +59,9 @@ returns-in_err-place-in-None-clause-idle g c = λ hand.
     let at_hand : IsAtHand q c.args.actor.0 c.args.address c.args.bytes = subst (λ (p : Manager). IsAtHand p c.args.actor.0 c.args.address c.args.bytes) (sym (unseen g at.In-None)) hand in
     absurd (let e : Err c.in_err-place-in-None.field-0.0 ≡ Ok at_hand.at = refused_at (place (machine_by q no_forest) c.args.actor.0 c.args.address c.args.bytes) c.in_err-place-in-None.field-0.0 (sym c.in_err-place-in-None.was ∙ c.locate.ensures.place) ∙ at_hand.place in cc e)
 
+pub nodes_at-nodes-requires : goal.nodes_at-nodes-requires
+nodes_at-nodes-requires g c = record { place = (c.args.actor.0, c.args.address, c.args.bytes, sym c.in_ok-place-in-None.was ∙ c.locate.ensures.place) }
+
 pub load_at-requires-clause-place : goal.load_at-requires-clause-place
 load_at-requires-clause-place g c = sym c.in_ok-place-in-None.was ∙ c.locate.ensures.place
 

@@ -77,6 +77,9 @@ returns-in_err-place-clause-grants g c = subst (λ (p : Manager). GrantsStay p.c
 
 -- Or it may
 
+pub nodes_at-nodes-requires : goal.nodes_at-nodes-requires
+nodes_at-nodes-requires g c = record { place = (c.args.actor.0, c.args.address, length c.args.piece.now, c.in_ok-place.ensures.place) }
+
 pub store_at-requires-clause-made : goal.store_at-requires-clause-made
 store_at-requires-clause-made g c =
     let nodes = c.in_ok-place.ensures.ready.nodes in

@@ -42,7 +42,7 @@ use Rattle.pvm_core.proofs.Answering.Kept.{kept_by, kept_sound, seen, sizeless, 
 use Rattle.pvm_core.proofs.Answering.Standing.{Stands, stands}
 use Rattle.contexts.proofs.Placing.{IsFoundAt, found_at, spot}
 use Rattle.pvm_core.proofs.Accesses.Asked.{missed_by, same_tables}
-use Rattle.pvm_core.proofs.Accesses.Loading.{owner_there, sized_table}
+use Rattle.pvm_core.proofs.Accesses.Loading.{sized_table}
 use Rattle.pvm_core.proofs.Accesses.AccessedPages.{ends_within}
 use Rattle.pvm_core.proofs.Accesses.Seen.{alone_seen, led_page, led_right, led_writes, same_grants, seen_sound, seen_state, seen_valid}
 use Rattle.pvm_core.proofs.Translating.Dropped.{dropped_right, fewer_right}
@@ -54,9 +54,9 @@ use Rattle.pvm_core.proofs.Meaning.Values.{followed_of}
 use Rattle.pvm_core.proofs.Answering.Recorded.{asks_missed}
 use Rattle.page_release.specs.Homes.{IsWritable}
 use Rattle.pvm_core.proofs.pvm.Pvm.store_at.Given.{Over}
-use Rattle.pvm_core.proofs.pvm.Pvm.store_at.Goals.{After-node_of-node, After-remember, After-self, After-write_fault, In-Err, In-Ok}
+use Rattle.pvm_core.proofs.pvm.Pvm.store_at.Goals.{After-remember, After-self, After-write_fault, In-Err, In-Ok}
 use Rattle.gmi_calls.specs.Parking.{NoMoreReady, StillAdmits}
-use Rattle.pvm_core.specs.Access.{Admits, is_page_at_hand, is_ready}
+use Rattle.pvm_core.specs.Access.{Admits, AreNodesOf, is_page_at_hand, is_ready}
 use Rattle.pvm_core.proofs.Accesses.Ready.{no_more, ready_is, still_admits}
 use Rattle.residency.specs.World.{World}
 use Rattle.residency.specs.declared.miss.Miss.{Miss}
@@ -75,6 +75,10 @@ found g c =
     let i = c.self.inside in
     spot (size_of i.caches) i.contexts c.args.actor.0 c.args.address (length c.args.piece.now) c.args.place c.self.invariant.sound.actors
     (subst (λ (p : Manager). Ok c.args.place ≡ place_told (place_of_actor p.page_bytes (has_number p.actors c.args.actor.0) c.args.address (length c.args.piece.now))) (sym c.self.view_is) c.requires.place)
+
+-- the nodes of the page
+told_nodes : (g : Over) (c : After-self g) → AreNodesOf c.self.inside.caches c.args.place.cache c.args.place.page c.args.nodes.node c.args.nodes.owner
+told_nodes g c = subst (λ (p : Manager). AreNodesOf p.caches c.args.place.cache c.args.place.page c.args.nodes.node c.args.nodes.owner) (sym c.self.view_is) c.requires.nodes
 
 -- where the page may be written
 writable : (g : Over) (c : After-self g) → IsWritable c.self.inside.caches (page_name c.args.place.cache c.args.place.page.0)
@@ -99,13 +103,8 @@ remember-requires-clause-mark g c =
     let fitted = e.answered.kept.right.tied.fitted in
     omega (arith, c.in-Ok.ensures.ready.bound.0, fitted.map_frames, fitted.marks_frames, ap (λ (s : Store). length s.marks) c.write_frame.ensures)
 
-pub node_of-node-requires-clause-page : goal.node_of-node-requires-clause-page
-node_of-node-requires-clause-page g c =
-    let r = found g (goal.at.node_of-node-requires-clause-page g c).After-self in
-    (r.count, r.there, r.less)
-
 pub write_fault-requires-clause-granted : goal.write_fault-requires-clause-granted
-write_fault-requires-clause-granted g c = writable_node c.self.inside.caches c.node_of-node.result c.args.place.cache c.args.place.page.0 c.node_of-node.ensures.name (writable g (goal.at.write_fault-requires-clause-granted g c).After-self)
+write_fault-requires-clause-granted g c = writable_node c.self.inside.caches c.args.nodes.node c.args.place.cache c.args.place.page.0 (told_nodes g (goal.at.write_fault-requires-clause-granted g c).After-self).name (writable g (goal.at.write_fault-requires-clause-granted g c).After-self)
 
 pub write_fault-requires-clause-copies : goal.write_fault-requires-clause-copies
 write_fault-requires-clause-copies g c = omega (arith, c.requires.made, ap numbered c.self.view_is)
@@ -128,8 +127,8 @@ translated_then g c =
     let a = c.self.inside.caches in
     let n = c.write_fault.new in
     let e = c.write_fault.ensures in
-    let o = owner_there a c.self.invariant.sound.nodes c.node_of-node.result c.node_of-node.ensures.held in
-    dropped_right (MayCome a o.0) a n.caches i.store n.store i.contexts (e.drops o.0 o.1) (same_grants a n.caches e.answered.kept.nodes.caches) c.self.invariant.translated
+    let o = told_nodes g (goal.at.After-write_fault g c).After-self in
+    dropped_right (MayCome a c.args.nodes.owner) a n.caches i.store n.store i.contexts (e.drops c.args.nodes.owner o.owner) (same_grants a n.caches e.answered.kept.nodes.caches) c.self.invariant.translated
 
 pub invariant_of-self : goal.invariant_of-self
 invariant_of-self g c =
@@ -138,17 +137,18 @@ invariant_of-self g c =
     let a = c.self.inside.caches in
     let n = c.write_fault.new in
     let e = c.write_fault.ensures in
-    let node = c.node_of-node in
+    let node : NodeId = c.args.nodes.node in
+    let o = told_nodes g places.After-self in
     let s = c.write_frame.new.store in
     let u = c.remember.new.store in
     let pl = c.args.place in
     let to : Translation = record { frame = c.in-Ok.frame; writable = true } in
     let r = found g places.After-self in
     let at : Place = found_at r.region pl in
-    let name : name_of n.caches node.result ≡ name_at at = e.answered.kept.nodes.name node.result ∙ node.ensures.name in
+    let name : name_of n.caches node ≡ name_at at = e.answered.kept.nodes.name node ∙ o.name in
     let alone : IsAlone n.caches (name_at at) = subst (IsAlone n.caches) name c.in-Ok.ensures.alone in
-    let held = e.answered.kept.nodes.held node.result ∙ node.ensures.held in
-    let seen_there = alone_seen n.caches n.store e.answered.kept.right.tied.placed e.answered.kept.sound e.answered.kept.shaped node.result held c.in-Ok.ensures.alone c.in-Ok.frame.0 c.in-Ok.ensures.ready.bound.1 in
+    let held = e.answered.kept.nodes.held node ∙ o.held in
+    let seen_there = alone_seen n.caches n.store e.answered.kept.right.tied.placed e.answered.kept.sound e.answered.kept.shaped node held c.in-Ok.ensures.alone c.in-Ok.frame.0 c.in-Ok.ensures.ready.bound.1 in
     let may : MayBeWritten n.caches at = record {
       allowed = c.requires.may_write;
       alone = alone;
@@ -202,17 +202,18 @@ written_then g c =
     let frames = ap (λ (s : Store). length s.frames.held) stored_at ∙ e.answered.kept.frames in
     let by : (f : PageForest) → machine_by q f ≡ machine_by p f = λ f. (λ j. machine_by (seen n.caches (stored_at j) i.contexts) f) ∙ kept_by a n.caches i.store n.store h k size then_size e.answered.kept i.contexts f in
     let ready = c.in-Ok.ensures.ready in
+    let o = told_nodes g places.After-self in
     let rule : forest_of q k ≡ write (forest_of p h) (page_name pl.cache pl.page.0) (option_map (overwrite pl.at c.args.piece.now))
     = (λ j. store_forest (world k None n.caches (stored_at j))) ∙ sym (sizeless k then_size n.caches (record n.store { frames = with_bytes n.store.frames c.in-Ok.frame.0 new }))
-    ∙ stored_forest (world h size a i.store) (world k then_size n.caches n.store) c.in-Ok.frame.0 c.node_of-node.result (page_name pl.cache pl.page.0) pl.at c.args.piece.now e.answered.kept
-    (ready.forest ∙ ap (readied (store_forest (world h size a i.store))) c.node_of-node.ensures.name) (e.answered.kept.nodes.name c.node_of-node.result ∙ c.node_of-node.ensures.name) ready.bound.0 ready.bound.1
+    ∙ stored_forest (world h size a i.store) (world k then_size n.caches n.store) c.in-Ok.frame.0 c.args.nodes.node (page_name pl.cache pl.page.0) pl.at c.args.piece.now e.answered.kept
+    (ready.forest ∙ ap (readied (store_forest (world h size a i.store))) o.name) (e.answered.kept.nodes.name c.args.nodes.node ∙ o.name) ready.bound.0 ready.bound.1
     ∙ ap (λ f. write f (page_name pl.cache pl.page.0) (option_map (overwrite pl.at c.args.piece.now))) (sizeless h size a i.store) in
     let followed = followed_of p h sound.nodes sound.actors.some valid.whole in
     let less : pl.page.0 < length t.0.pages = omega (arith, r.less, t.2) in
     let fits : pl.at + length c.args.piece.now ≤ p.page_bytes = r.fits in
     let both = reach_told (machine_of p h) h k before after reach in
     let now : IsValid q k = record {
-      right = bytes_right k n.caches n.store c.write_frame.new.store c.in-Ok.frame.0 new stored_at (unsized_right k then_size n.caches n.store e.answered.kept.right) (dirty_here n.caches n.store c.in-Ok.frame.0 c.node_of-node.result ready.bound.1 ready.resident);
+      right = bytes_right k n.caches n.store c.write_frame.new.store c.in-Ok.frame.0 new stored_at (unsized_right k then_size n.caches n.store e.answered.kept.right) (dirty_here n.caches n.store c.in-Ok.frame.0 c.args.nodes.node ready.bound.1 ready.resident);
       sized = sized_after p n.caches h k (λ cache. ap (λ (ts : List (Option Table)). option_map (λ (t : Table). t.segment) (table_at ts cache)) e.answered.kept.nodes.caches) (λ cache. ap (λ (ts : List (Option Table)). option_map (λ (t : Table). length t.pages) (table_at ts cache)) e.answered.kept.nodes.caches) reach.pushes reach.rule valid.sized;
       full = full_after p n.caches h k (λ cache. ap (λ (ts : List (Option Table)). option_map (λ (t : Table). t.segment) (table_at ts cache)) e.answered.kept.nodes.caches) reach.pushes reach.rule valid.whole valid.full;
       whole = whole_stored p q h k c.args.actor c.args.address at c.args.piece.now t.0 t.1 less fits sound.actors.some e.answered.kept.nodes.caches (refl, frames, refl, refl) sound.nodes then.nodes valid.whole followed rule both by;
@@ -317,18 +318,15 @@ returns-in-Err-clause-asked g c = missed_by _ c.fault_of.result c.in-Err.miss c.
 
 -- Accesses that are ready, and admitted
 
-owner : (g : Over) (c : After-node_of-node g) → (o : NodeId) × IsOwner c.self.inside.caches c.node_of-node.result o
-owner g c = owner_there c.self.inside.caches c.self.invariant.sound.nodes c.node_of-node.result c.node_of-node.ensures.held
-
 -- the owner is at hand
-hand_there : (g : Over) (c : After-node_of-node g) → is_ready c.args.self.now c.args.actor.0 c.args.address ≡ true → is_at_hand (own_of c.self.inside.caches (owner g c).0) ≡ true
+hand_there : (g : Over) (c : After-self g) → is_ready c.args.self.now c.args.actor.0 c.args.address ≡ true → is_at_hand (own_of c.self.inside.caches c.args.nodes.owner) ≡ true
 hand_there g c ready =
     let i = c.self.inside in
-    let o = owner g c in
-    let r = found g (goal.at.After-node_of-node g c).After-self in
+    let o = told_nodes g c in
+    let r = found g c in
     let nodes = c.self.invariant.sound.nodes in
     let before : is_ready (seen i.caches i.store i.contexts) c.args.actor.0 c.args.address ≡ true = subst (λ (p : Manager). is_ready p c.args.actor.0 c.args.address ≡ true) (sym c.self.view_is) ready in
-    sym (owner_hand i.caches nodes.sound nodes.consistent.shaped c.node_of-node.result o.0 c.node_of-node.ensures.held o.1) ∙ ap (is_page_at_hand i.caches) c.node_of-node.ensures.name
+    sym (owner_hand i.caches nodes.sound nodes.consistent.shaped c.args.nodes.node c.args.nodes.owner o.held o.owner) ∙ ap (is_page_at_hand i.caches) o.name
     ∙ sym (ready_is i.caches i.store i.contexts c.self.invariant.sound.actors.some c.args.actor.0 c.args.address (length c.args.piece.now) (found_at r.region c.args.place) (sym r.is)) ∙ before
 
 pub returns-in-Ok-clause-no_more : goal.returns-in-Ok-clause-no_more
@@ -338,13 +336,13 @@ returns-in-Ok-clause-no_more g c = λ ready.
     let n = c.write_fault.new in
     let e = c.write_fault.ensures in
     let nodes = c.self.invariant.sound.nodes in
-    let o = owner g at.After-node_of-node in
+    let o = told_nodes g at.After-self in
     let p : Manager = seen i.caches i.store i.contexts in
     let q : Manager = seen n.caches c.remember.new.store i.contexts in
     let w : World = world (g.M.Mapper.held c.args.mapper.now) (g.M.Mapper.page_bytes c.args.mapper.now) i.caches i.store in
     let v : World = world (g.M.Mapper.held n.mapper) (g.M.Mapper.page_bytes n.mapper) n.caches n.store in
     subst (λ (p : Manager). NoMoreReady is_ready p q) c.self.view_is (no_more p q refl refl
-    (written_hand w v e.answered.kept nodes.sound nodes.consistent.shaped c.node_of-node.result o.0 c.node_of-node.ensures.held o.1 (hand_there g at.After-node_of-node ready) (e.frames o.0 o.1) c.in-Ok.ensures.ready.forest))
+    (written_hand w v e.answered.kept nodes.sound nodes.consistent.shaped c.args.nodes.node c.args.nodes.owner o.held o.owner (hand_there g at.After-self ready) (e.frames c.args.nodes.owner o.owner) c.in-Ok.ensures.ready.forest))
 
 pub returns-in-Err-clause-no_more : goal.returns-in-Err-clause-no_more
 returns-in-Err-clause-no_more g c = λ ready.
@@ -353,13 +351,13 @@ returns-in-Err-clause-no_more g c = λ ready.
     let n = c.write_fault.new in
     let e = c.write_fault.ensures in
     let nodes = c.self.invariant.sound.nodes in
-    let o = owner g at.After-node_of-node in
+    let o = told_nodes g at.After-self in
     let p : Manager = seen i.caches i.store i.contexts in
     let q : Manager = seen n.caches n.store i.contexts in
     let w : World = world (g.M.Mapper.held c.args.mapper.now) (g.M.Mapper.page_bytes c.args.mapper.now) i.caches i.store in
     let v : World = world (g.M.Mapper.held n.mapper) (g.M.Mapper.page_bytes n.mapper) n.caches n.store in
     subst (λ (p : Manager). NoMoreReady is_ready p q) c.self.view_is (no_more p q refl refl
-    (missed_hand w v c.in-Err.ensures.missed.still nodes.sound nodes.consistent.shaped c.node_of-node.result o.0 o.1 (hand_there g at.After-node_of-node ready) (e.frames o.0 o.1)))
+    (missed_hand w v c.in-Err.ensures.missed.still nodes.sound nodes.consistent.shaped c.args.nodes.node c.args.nodes.owner o.owner (hand_there g at.After-self ready) (e.frames c.args.nodes.owner o.owner)))
 
 pub returns-in-Ok-clause-admits : goal.returns-in-Ok-clause-admits
 returns-in-Ok-clause-admits g c =
@@ -379,19 +377,19 @@ returns-in-Err-clause-admits g c =
 
 pub returns-in-Ok-clause-no_pull : goal.returns-in-Ok-clause-no_pull
 returns-in-Ok-clause-no_pull g c = λ ready.
-    let at = (goal.at.returns-in-Ok-clause-no_pull g c).After-node_of-node in
-    let o = owner g at in
-    c.write_fault.ensures.no_pull o.0 o.1 (hand_there g at ready)
+    let at = (goal.at.returns-in-Ok-clause-no_pull g c).After-self in
+    let o = told_nodes g at in
+    c.write_fault.ensures.no_pull c.args.nodes.owner o.owner (hand_there g at ready)
 
 pub returns-in-Err-clause-no_pull : goal.returns-in-Err-clause-no_pull
 returns-in-Err-clause-no_pull g c = λ ready.
-    let at = (goal.at.returns-in-Err-clause-no_pull g c).After-node_of-node in
-    let o = owner g at in
-    c.write_fault.ensures.no_pull o.0 o.1 (hand_there g at ready)
+    let at = (goal.at.returns-in-Err-clause-no_pull g c).After-self in
+    let o = told_nodes g at in
+    c.write_fault.ensures.no_pull c.args.nodes.owner o.owner (hand_there g at ready)
 
 pub returns-in-Err-clause-victim : goal.returns-in-Err-clause-victim
 returns-in-Err-clause-victim g c = λ ready.
-    let at = (goal.at.returns-in-Err-clause-victim g c).After-node_of-node in
-    let o = owner g at in
-    let miss : c.in-Err.miss ≡ Victim = subst (λ (r : Result FrameId Miss). IfErr r (λ m. m ≡ Victim)) c.in-Err.is (c.write_fault.ensures.victim o.0 o.1 (hand_there g at ready)) in
+    let at = (goal.at.returns-in-Err-clause-victim g c).After-self in
+    let o = told_nodes g at in
+    let miss : c.in-Err.miss ≡ Victim = subst (λ (r : Result FrameId Miss). IfErr r (λ m. m ≡ Victim)) c.in-Err.is (c.write_fault.ensures.victim c.args.nodes.owner o.owner (hand_there g at ready)) in
     ap (λ (f : FaultAt). troubles.Mapper f) (c.fault_of.ensures ∙ ap (λ (m : Miss). fault_at m c.args.place.page) miss)

@@ -1,6 +1,6 @@
 use Rattle.std.proofs.Common.{None, sym, ap, ◌∙◌}
 use Rattle.vm_model.specs.Machine.{Machine}
-use Rattle.pvm_core.proofs.tests.memory_is_there.Goals as goal
+use Rattle.histories.proofs.manager.memory_is_there.Goals as goal
 
 pub succeeds-requires-clause-valid : goal.succeeds-requires-clause-valid
 succeeds-requires-clause-valid g c = c.in_ok-gmi.ensures.valid _

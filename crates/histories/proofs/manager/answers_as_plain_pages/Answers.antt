@@ -1,6 +1,6 @@
 use Rattle.std.proofs.Common.{None, sym, ap, ◌∙◌}
 use Rattle.vm_model.specs.Machine.{Machine}
-use Rattle.pvm_core.proofs.tests.answers_as_plain_pages.Goals as goal
+use Rattle.histories.proofs.manager.answers_as_plain_pages.Goals as goal
 
 pub answer_both-requires-clause-valid : goal.answer_both-requires-clause-valid
 answer_both-requires-clause-valid g c = c.in_ok-gmi.ensures.valid _

@@ -1,6 +1,6 @@
 use Rattle.std.proofs.Common.{None, sym, ap, ◌∙◌}
 use Rattle.vm_model.specs.Machine.{Machine}
-use Rattle.pvm_core.proofs.tests.whole_copies_stand_in_four_runs.Goals as goal
+use Rattle.histories.proofs.manager.whole_copies_stand_in_four_runs.Goals as goal
 
 pub copies_whole-requires-clause-valid : goal.copies_whole-requires-clause-valid
 copies_whole-requires-clause-valid g c = c.in_ok-gmi.ensures.valid _

@@ -2,7 +2,7 @@ use Rattle.std.proofs.Common.{Some, ◌≡◌, ◌+◌, ◌*◌, ◌≤◌}
 use Rattle.vm_model.specs.declared.limits.TheConstants.{LIVE_PAGES}
 use Rattle.vm_model.specs.Machine.{live_pages}
 use Rattle.vm_port.specs.Mapping.{held_of}
-use Rattle.pvm_core.proofs.tests.answer_both.Given as goal
+use Rattle.histories.proofs.manager.answer_both.Given as goal
 
 abbrev pub invariant-loop-step : goal.invariant-loop-step
 invariant-loop-step g l =

@@ -1,0 +1,22 @@
+// Numbers that look like chance, the same each time.
+ghost use Rattle.std.specs.Prelude.{◌<◌};
+
+// A linear congruential generator of 64 bits, whose upper bits are given.
+#[derive(Drop)]
+pub(crate) struct Draws {
+    pub(crate) state: u64,
+}
+
+impl Draws {
+    // A number below this one.
+    pub(crate) fn below(&mut self, limit: u32) -> u32
+        requires { 0 < limit }
+        ensures { result < limit }
+    {
+        self.state = self
+            .state
+            .wrapping_mul(6_364_136_223_846_793_005)
+            .wrapping_add(1_442_695_040_888_963_407);
+        (self.state >> 33) as u32 % limit
+    }
+}
