@@ -22,7 +22,7 @@ fn is_untouched(caches: &Caches, node: NodeId) -> bool
     ensures tree { IsTrue result → (cell caches.now node).tree ≡ [] }
 {
     is_on_segment(caches.own_state(node))
-        && caches.parent(node).is_none()
+        && caches.links(node).parent.is_none()
         && caches.tree_child(node, 0).is_none()
 }
 
