@@ -15,10 +15,22 @@ STUBS = {
     "history_tree": [("linking.rt", None, ["link"])],
     "tree_merge": [("retiring.rt", None, ["renew_node", "retire_node"]), ("retiring_many.rt", None, ["retire_many"])],
 }
-ABOVE = {"move_pages": {"tree_merge": [("lone.rt", None, ["leaf_nodes", "leave_many", "gather", "gather_leaves"])]}}
+ABOVE = {
+    "move_pages": {"tree_merge": [("lone.rt", None, ["leaf_nodes", "leave_many", "gather", "gather_leaves"])]},
+    "page_release": {
+        "history_tree": [("owner.rt", None, ["owner_of"])],
+        "tree_merge": [("detaching.rt", None, ["detach"]), ("settling_many.rt", None, ["settle_some"]),
+                       ("stepping.rt", None, ["copy_step", "retire_step"])],
+        "move_pages": [("step.rt", None, ["move_step"])],
+        "residency": [("store.rt", "Store", ["give_back_frame", "unbind", "rekey", "give_back_slot"])],
+    },
+}
+STORE = ["vm_port", "number_pool", "frame_pool", "slot_pool", "probe_table", "global_map", "page_tables"]
 BELOW = {"stretches": "std", "linear_index": "std", "least_heap": "std", "mixed_map": "std,stretches,linear_index",
          "local_cache": "std,vm_ids,least_heap,mixed_map,stretches", "page_stubs": "std,vm_ids,local_cache",
-         "history_tree": "std,vm_ids,local_cache", "tree_merge": "std,vm_ids,local_cache,page_stubs,history_tree"}
+         "history_tree": "std,vm_ids,local_cache", "tree_merge": "std,vm_ids,local_cache,page_stubs,history_tree",
+         "move_pages": "std,vm_ids,local_cache,tree_merge",
+         "residency": "std,vm_ids,vm_port,frame_pool,slot_pool,page_tables,global_map,local_cache"}
 
 def calling_itself(text, kind, names):
     """the text in which these functions, or all of an impl, call themselves alone, and their names"""
@@ -82,6 +94,9 @@ def main():
         stub(f"{to}/{it}", it, STUBS.get(it, []) + ABOVE.get(name, {}).get(it, []))
     args = [f"{KIT}/bin/rattle", "check", "--crate-name", name, "src/lib.rt", "--extern", f"std={KIT}/rlibs/std.rlib",
             "--extern", f"vm_ids={HERE}/crates/vm_ids/out/rlib/vm_ids.rlib", "-L", f"dependency={KIT}/rlibs"]
+    if "residency" in below:
+        for it in STORE:
+            args += ["--extern", f"{it}={HERE}/crates/{it}/out/rlib/{it}.rlib"]
     for it in below:
         args += ["--lib", f"{it}:{BELOW[it]}=../{it}/src/lib.rt"]
     args += ["--antt-project", f"{KIT}/rattle/logic/antt-project.json", "--logic-built", f"{KIT}/logic_built",
