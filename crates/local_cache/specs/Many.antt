@@ -93,19 +93,20 @@ abbrev pub over_two_many : Arena → NodeId → NodeId → NodeId → ℕ → Ar
 over_two_many a n older newer count =
     each (λ k b. with_tree b (next_node n k) (next_node older k ∷ next_node newer k ∷ [])) count a
 
--- The node so many numbers behind another one is like it: it has the same own state and no stubs,
+-- The node so many numbers behind another one is like it: it has the same plain own state, no stubs,
 -- its parent by a tree link and its tree children are as many numbers further on, and it is named
--- by a page as many further on, or is a working node too.
+-- by a page or a working number as many further on.
 pub record IsAlike (a : Arena) (n : NodeId) (k : ℕ) : Type 0 where
   pub held : HasNode a (next_node n k)
   pub own : (cell a (next_node n k)).own ≡ (cell a n).own
+  pub plain : IsPlain (cell a n).own
   pub links : (cell a (next_node n k)).links
       ≡ record no_links { parent = next_if (cell a n).links.parent k }
   pub tree : (cell a (next_node n k)).tree ≡ map (λ child. next_node child k) (cell a n).tree
   pub page : (cache : CacheId) (page : PageNo) → (cell a n).name ≡ Live cache page
       → (cell a (next_node n k)).name ≡ Live cache (record { 0 = page.0 + k })
   pub working : (number : ℕ) → (cell a n).name ≡ Working number
-      → (other : ℕ) × ((cell a (next_node n k)).name ≡ Working other)
+      → (cell a (next_node n k)).name ≡ Working (number + k)
 
 -- so many nodes from one on are alike
 abbrev pub AreAlike : Arena → NodeId → ℕ → Type 0

@@ -106,7 +106,7 @@ entry_of a cache page d at = go (entry_at a.caches cache page) (sym (node_by_ent
 -- In the caches
 
 -- a node that goes whatever was changed of it but its name
-without_put : (e : Arena) (d : NodeId) (c : Cell) → c.name ≡ (cell e d).name → without (put e d c) d ≡ without e d
+pub without_put : (e : Arena) (d : NodeId) (c : Cell) → c.name ≡ (cell e d).name → without (put e d c) d ≡ without e d
 unfolding put without
 without_put e d c same =
     let name : (cell (put e d c) d).name ≡ (cell e d).name = ap (λ (k : Cell). k.name) (cell-put e d c) ∙ same in
@@ -117,7 +117,7 @@ without_put e d c same =
     }
 
 -- a node that goes, and comes again for its page
-new_again : (e : Arena) (d : NodeId) (cache : CacheId) (page : PageNo) (s : OwnState) → (cell e d).name ≡ Live cache page → node_at e cache.0 page.0 ≡ Some d
+pub new_again : (e : Arena) (d : NodeId) (cache : CacheId) (page : PageNo) (s : OwnState) → (cell e d).name ≡ Live cache page → node_at e cache.0 page.0 ≡ Some d
     → with_new (without e d) d (Live cache page) s ≡ on_cell e d (renewed s)
 unfolding put with_new without
 new_again e d cache page s name at =

@@ -8,3 +8,7 @@ mod Cells
 pub mod Step
 -- The same where the parent and the child are written once each.
 pub mod AtOnce
+-- The same by one call.
+pub mod Once
+-- Working nodes that are alike give way, all at once.
+pub mod Many

@@ -24,7 +24,6 @@ use Rattle.tree_merge.specs.declared.released.Released.TheVariants.{Nothing, Dro
 use Rattle.tree_merge.specs.declared.step.Step.{Step}
 use Rattle.tree_merge.specs.Copying.{IsEmpty, page_after, span_pairs_after}
 use Rattle.tree_merge.specs.Releasing.{IsReleased, IsRetired}
-use Rattle.tree_merge.specs.Retiring.{IsRetiredAtOnce}
 
 -- From a to b the node of one page was retired, and this was released.
 pub record IsRetiredAlone (a b : Arena) (cache : CacheId) (page : PageNo) (released : Released)
@@ -37,7 +36,33 @@ pub record IsRetiredAlone (a b : Arena) (cache : CacheId) (page : PageNo) (relea
   pub retired : IsRetired a b node released
   pub told : IsReleased a b released
 
--- From a to b it was, and then a fresh node was made for the page, with this own state.
+-- And its own page was none or zeros.
+pub record IsRetiredBare (a b : Arena) (cache : CacheId) (page : PageNo) : Type 0 where
+  pub released : Released
+  pub alone : IsRetiredAlone a b cache page released
+  pub empty : (n : NodeId) → node_at a cache.0 page.0 ≡ Some n → IsEmpty (own_of a n)
+
+-- From a to b so many pages were retired so, from one page on, one after the other.
+abbrev pub AreRetiredBare : (a b : Arena) → CacheId → PageNo → (count : ℕ) → Type 0
+AreRetiredBare a b cache page zero = b ≡ a
+AreRetiredBare a b cache page (suc k) =
+    (c : Arena) × AreRetiredBare a c cache page k × IsRetiredBare c b cache (page_after page k)
+
+-- From a to b so many pages are retired, as by the rule, one after the other.
+pub record AreRetired (a b : Arena) (cache : CacheId) (page : PageNo) (count : ℕ) : Type 0 where
+  pub forest : forest_of b ≡ retire_all (page_names cache page.0 count) (forest_of a)
+  pub sound : IsSound b
+  pub sizes : SameCaches a b
+  pub room : a.room.nodes ≤ b.room.nodes
+  pub in_turn : AreRetiredBare a b cache page count
+
+-- And those of an extent are, behind those that are done.
+abbrev pub IsRetiredAtOnce : (a b : Arena) → Extent → (done count : ℕ) → Type 0
+IsRetiredAtOnce a b extent done count =
+    AreRetired a b extent.cache (page_after extent.first done) count
+
+-- From a to b the node of one page was retired, and then a fresh one was made for the page, with
+-- this own state.
 pub record IsDetachedAlone (a b : Arena) (cache : CacheId) (page : PageNo) (state : OwnState)
     (released : Released) : Type 0 where
   pub forest : forest_of b ≡ detach (forest_of a) (Live cache page) (page_of state)

@@ -1,17 +1,19 @@
 -- Page nodes that are alike, on the arena.
-use Rattle.std.proofs.Common.{◌≡◌, ℕ, ◌+◌, ◌-◌, ◌^◌, ◌<◌, max, min, List, [], ◌∷◌, map as list_map, Option, Some, None, refl, ap, sym, ◌∙◌, inl, inr, arith}
+use Rattle.std.proofs.Common.{◌≡◌, ℕ, ◌+◌, ◌-◌, ◌^◌, ◌<◌, max, min, List, [], ◌∷◌, map as list_map, Option, Some, None, refl, ap, sym, subst, ◌∙◌, inl, inr, arith}
 use Rattle.std.specs.Prelude.{is_some, unwrap_or}
 use Rattle.std.proofs.lemmas.Bool.{cases_eq}
 use Rattle.std.specs.FinMap as map
 use Rattle.vm_ids.specs.declared.node_name.NodeName.{NodeName}
 use Rattle.vm_ids.specs.declared.numbers.NodeId.{NodeId}
+use Rattle.local_cache.specs.declared.runs.run.PlainState.{PlainState}
+use Rattle.local_cache.specs.declared.runs.run.PlainState.TheVariants.{Absent as PlainAbsent, Zero as PlainZero, OnSegment as PlainOnSegment}
 use Rattle.local_cache.specs.Arena.{Cell, blank, no_links}
 use Rattle.local_cache.specs.Arena as arena
 use Rattle.local_cache.specs.ArenaBy.{CacheRows, arena_by}
 use Rattle.local_cache.specs.GoingOn.{run_goes_on}
-use Rattle.local_cache.specs.Many.{AreAlike}
+use Rattle.local_cache.specs.Many.{AreAlike, IsPlain}
 use Rattle.local_cache.specs.ManyNodes.{next_if, next_node}
-use Rattle.local_cache.specs.NodeCells.{cell_at, run_cell, tree_of}
+use Rattle.local_cache.specs.NodeCells.{cell_at, own_of_plain, run_cell, tree_of}
 use Rattle.local_cache.specs.NodeTable.{AreSaidAlike, HasNumber}
 use Rattle.local_cache.specs.PageNodes.{PageNodes, name_behind}
 use Rattle.local_cache.specs.Runs.{further_if, run_after}
@@ -34,6 +36,11 @@ tree_next None None k = refl
 tree_next None (Some n) k = refl
 tree_next (Some n) None k = refl
 tree_next (Some n) (Some m) k = refl
+
+plain_own : (p : PlainState) → IsPlain (own_of_plain p)
+plain_own PlainAbsent = tt
+plain_own PlainZero = tt
+plain_own PlainOnSegment = tt
 
 module _ (m : PageNodes) (c : CacheRows) (n : NodeId) (count : ℕ) (alike : AreSaidAlike m.cells n.0 count) where
   first_cell : 0 < count → cell_at m.cells n.0 ≡ run_cell alike.run
@@ -62,10 +69,11 @@ module _ (m : PageNodes) (c : CacheRows) (n : NodeId) (count : ℕ) (alike : Are
       record {
         held = ap is_some (alike.said k less);
         own = ap (λ (d : Cell). d.own) on ∙ ap (λ (d : Cell). d.own) (sym first);
+        plain = subst (λ (d : Cell). IsPlain d.own) (sym first) (plain_own alike.run.own);
         links = ap (λ (d : Cell). d.links) on ∙ (λ i. record no_links { parent = parent i })
             ∙ ap (λ (d : Cell). record no_links { parent = next_if d.links.parent k }) (sym first);
         tree = ap (λ (d : Cell). d.tree) on ∙ (λ i. tree_of (older i) (newer i)) ∙ tree_next alike.run.older alike.run.newer k
             ∙ ap (λ (d : Cell). list_map (λ (child : NodeId). next_node child k) d.tree) (sym first);
         page = λ cache page is. name_on k less ∙ ap (λ (x : NodeName). name_behind x k) is;
-        working = λ number is. (number + k, name_on k less ∙ ap (λ (x : NodeName). name_behind x k) is);
+        working = λ number is. name_on k less ∙ ap (λ (x : NodeName). name_behind x k) is;
       }
