@@ -152,7 +152,7 @@ module _ (a : Arena) (sound : IsSound a) (d : NodeId) (held : HasNode a d) (pare
         record {
           step = cut_tree-Step a sound d p held (ap (λ l. l.parent) is.links) (ap (λ l. l.by_stub) is.links) b c refl refl;
           same = sym (without_put b d (record (cell b d) { links = record (cell b d).links { parent = None; by_stub = false } }) refl);
-        }
+        },
       )
 
   went : Freed a (without (cut_from a parent d None) d) d (free (cut (forest_of a) (name_of a d)) (name_of a d))

@@ -74,7 +74,7 @@ module _ (a : Arena) (d s : NodeId) (span : Span) (count : ℕ) (same : span.pag
     where
       go : (o : Option NodeId) → (cell a d).links.parent ≡ o → IfSome o (λ p. HaveNodes a p count)
       go None is = tt
-      go (Some p) is k less =
+      go (Some p) is = λ k less.
           can.sound.kept.parents (next_node d k) (next_node p k) (nodes_held k less)
           (ap (λ l. l.parent) (can.leaves.leaves k (omega (arith, same))).links ∙ ap (λ o. next_if o k) is)
 

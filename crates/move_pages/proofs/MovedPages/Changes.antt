@@ -99,20 +99,21 @@ module _ (b : Arena) (d s : NodeId) (x y : NodeName) (s_d : s ≢ d) (is : (cell
       ∙ ap (λ ts. tables_with ts y (Some d)) (sym (tables_pass b.caches y x None (Some s) apart))
       ∙ ap (λ z. tables_with (tables_with (tables_with b.caches z None) x (Some s)) y (Some d)) (sym is)
 
+  -- both names are known
+  named_now : exchanged_names (with_new b d x Zero) d s
+      ≡ record (on_cell (on_cell (with_new b d x Zero) d (named y)) s (named x)) { caches = tables_with (tables_with (with_new b d x Zero).caches x (Some s)) y (Some d) }
+  named_now = λ i.
+      record (on_cell (on_cell (with_new b d x Zero) d (named (name_s i))) s (named (name_d i))) {
+        caches = tables_with (tables_with (with_new b d x Zero).caches (name_d i) (Some s)) (name_s i) (Some d);
+      }
+
+  whole : ◌≡◌ {A = Arena} (record (on_cell (on_cell (with_new b d x Zero) d (named y)) s (named x)) { caches = tables_with (tables_with (with_new b d x Zero).caches x (Some s)) y (Some d) })
+      (with_new (with_name b s x) d y Zero)
+  unfolding put with_new
+  whole = λ i. record (with_new b d x Zero) { cells = cells_is i; caches = caches_is i }
+
   pub exchanged_is : exchanged_names (with_new b d x Zero) d s ≡ with_new (with_name b s x) d y Zero
   exchanged_is = named_now ∙ whole
-    where
-      named_now : exchanged_names (with_new b d x Zero) d s
-          ≡ record (on_cell (on_cell (with_new b d x Zero) d (named y)) s (named x)) { caches = tables_with (tables_with (with_new b d x Zero).caches x (Some s)) y (Some d) }
-      named_now = λ i.
-          record (on_cell (on_cell (with_new b d x Zero) d (named (name_s i))) s (named (name_d i))) {
-            caches = tables_with (tables_with (with_new b d x Zero).caches (name_d i) (Some s)) (name_s i) (Some d);
-          }
-
-      whole : ◌≡◌ {A = Arena} (record (on_cell (on_cell (with_new b d x Zero) d (named y)) s (named x)) { caches = tables_with (tables_with (with_new b d x Zero).caches x (Some s)) y (Some d) })
-          (with_new (with_name b s x) d y Zero)
-      unfolding put with_new
-      whole = λ i. record (with_new b d x Zero) { cells = cells_is i; caches = caches_is i }
 
 -- what keeps names
 module _ (m : NodeId) (f : Cell → Cell) (keeps : (c : Cell) → (f c).name ≡ c.name) where
@@ -146,9 +147,9 @@ module _ (m : NodeId) (f : Cell → Cell) (keeps : (c : Cell) → (f c).name ≡
       in_tables (on_cell (on_cell b n (named y)) o (named x)) ts
       ∙ ap (λ (z : Arena). record z { caches = ts }) (past (on_cell b n (named y)) o x ∙ ap (λ (z : Arena). on_cell z o (named x)) (past b n y))
       ∙ (λ i.
-          record (on_cell (on_cell (on_cell b m f) n (named (sym (name_on m f keeps b o) i))) o (named (sym (name_on m f keeps b n) i))) {
-            caches = tables_with (tables_with (sym (caches_on b) i) (sym (name_on m f keeps b n) i) (Some o)) (sym (name_on m f keeps b o) i) (Some n);
-          })
+      record (on_cell (on_cell (on_cell b m f) n (named (sym (name_on m f keeps b o) i))) o (named (sym (name_on m f keeps b n) i))) {
+        caches = tables_with (tables_with (sym (caches_on b) i) (sym (name_on m f keeps b n) i) (Some o)) (sym (name_on m f keeps b o) i) (Some n);
+      })
 
 -- The kinds of a move
 

@@ -93,7 +93,7 @@ one_named b n cache page held named k less =
     (subst (HasNode b) (sym (one_node n)) held, ap (name_of b) (one_node n) ∙ named ∙ (let same : page.0 ≡ page.0 + 0 = omega arith in λ i. Live cache (record { 0 = same i })))
 
 -- the fresh node of a page that was detached
-fresh_is : (a b : Arena) (cache : CacheId) (page : PageNo) (r : Released) (is : IsDetachedAlone a b cache page Zero r) (n : NodeId) → node_at b cache.0 page.0 ≡ Some n → n ≡ is.fresh
+pub fresh_is : (a b : Arena) (cache : CacheId) (page : PageNo) (r : Released) (is : IsDetachedAlone a b cache page Zero r) (n : NodeId) → node_at b cache.0 page.0 ≡ Some n → n ≡ is.fresh
 fresh_is a b cache page r is n at =
     let held : HasNode b is.fresh = ap (λ (x : Arena). is_some (find x is.fresh)) is.is ∙ ap is_some (find-new is.between is.fresh (Live cache page) Zero) in
     let name : name_of b is.fresh ≡ Live cache page = ap (λ (x : Arena). name_of x is.fresh) is.is ∙ fresh_name is.between is.fresh is.free (Live cache page) Zero in

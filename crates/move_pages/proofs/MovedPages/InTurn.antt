@@ -110,8 +110,11 @@ module _ (a : Arena) (d s : NodeId) (span : Span) (can : CanMoveMany a d s span)
   later_above k below j less e = go (cell a d).links.parent refl e
     where
       go : (o : Option NodeId) → (cell a d).links.parent ≡ o → next_if o j ≡ Some (next_node d k) → ⊥
-      go None is e = absurd (cc e)
-      go (Some p) is e = let same : next_node p j ≡ next_node d k = cc e in p_d p is j k (omega arith) below (λ other. omega arith) same
+      go None is e = let never : None ≡ Some (next_node d k) = e in absurd (cc never)
+      go (Some p) is e =
+          let both : Some (next_node p j) ≡ Some (next_node d k) = e in
+          let same : next_node p j ≡ next_node d k = cc both in
+          p_d p is j k (omega arith) below (λ other. omega arith) same
 
   -- the next page may be moved
   next_can : (b : Arena) (k : ℕ) → k < span.pages → SoFar b k

@@ -18,14 +18,14 @@ use Rattle.local_cache.specs.Own.{own_of}
 use Rattle.local_cache.specs.Reading.{forest_of, name_of}
 use Rattle.local_cache.specs.Sound.{IsSound, ◌∈◌}
 use Rattle.local_cache.proofs.Forest.Reading.{IsNode-forest_of}
-use Rattle.local_cache.proofs.Nodes.Cells.{find-put_other}
+use Rattle.local_cache.proofs.Nodes.Cells.{cell-put, find-put, find-put_other}
 use Rattle.tree_merge.specs.declared.released.Released.TheVariants.{Dropped}
 use Rattle.tree_merge.specs.Copying.{IsEmpty, IsLeafOf}
 use Rattle.tree_merge.specs.Stepping.{IsDetachedAlone}
 use Rattle.tree_merge.proofs.CopiedPages.Changes.{cell_by}
 use Rattle.tree_merge.proofs.LeafRenewed.{leaf_detached, left_like}
-use Rattle.move_pages.specs.Moved.{IsMovedBare}
-use Rattle.move_pages.proofs.MovedPages.Exchanged.{moved_alone}
+use Rattle.move_pages.specs.Moved.{IsMovedAlone, IsMovedBare}
+use Rattle.move_pages.proofs.MovedPages.Exchanged.{fresh_is, moved_alone}
 
 -- What it needs: d is the node of the destination, and s that of the source.
 pub record CanMoveLeaf (a : Arena) (parent : Option NodeId) (d s : NodeId) (to : CacheId) (to_page : PageNo) (from : CacheId) (from_page : PageNo) : Type 0 where
@@ -55,6 +55,16 @@ module _ (a : Arena) (parent : Option NodeId) (d s : NodeId) (to : CacheId) (to_
 
   detached : IsDetachedAlone a (on_cell (cut_from a parent d None) d (renewed Zero)) to to_page Zero (Dropped d (own_of a d))
   detached = leaf_detached a can.sound d can.held_d parent can.leaf to to_page can.named_d Zero
+
+  name_b : name_of b d ≡ Live to to_page
+  name_b =
+      ap (λ (c : Cell). c.name) (cell-put left d (renewed Zero (cell left d)))
+      ∙ (left_like a can.sound d can.held_d parent can.leaf).like.name d ∙ can.named_d
+
+  -- its number is that of the fresh node
+  fresh : d ≡ detached.fresh
+  fresh = fresh_is a b to to_page (Dropped d (own_of a d)) detached d
+      (detached.sound.kept.listed.pages to.0 to_page.0 d (ap is_some (find-put left d (renewed Zero (cell left d)))) name_b)
 
   is_page : (q : NodeId) (x : NodeName) → HasNode a q → name_of a q ≡ x → IsNode (forest_of a) x
   is_page q x held named = subst (IsNode (forest_of a)) named (IsNode-forest_of a can.sound.kept.named q held)
@@ -91,7 +101,8 @@ module _ (a : Arena) (parent : Option NodeId) (d s : NodeId) (to : CacheId) (to_
           node = d;
           at = can.sound.kept.listed.pages to.0 to_page.0 d can.held_d can.named_d;
           empty = can.empty;
-          alone = moved_alone a b can.sound can.consistent to to_page from from_page (Dropped d (own_of a d)) detached s can.held_s can.named_s pages;
+          alone = subst (λ n. IsMovedAlone a (exchanged_names b n s) from from_page to to_page (Dropped d (own_of a d))) (sym fresh)
+              (moved_alone a b can.sound can.consistent to to_page from from_page (Dropped d (own_of a d)) detached s can.held_s can.named_s pages);
         };
         same = λ n n_d n_s other. past n n_d n_s ∙ left_find n other;
         held = λ n n_d n_s. ap is_some (past n n_d n_s) ∙ like.held n;

@@ -91,7 +91,7 @@ module _ (a : Arena) (sound : IsSound a) (d s : NodeId) (count : ℕ) (copyable 
     where
       go : (o : Option NodeId) → (cell a d).links.parent ≡ o → IfSome o (λ p. HaveNodes a p count)
       go None is = tt
-      go (Some p) is k less =
+      go (Some p) is = λ k less.
           sound.kept.parents (next_node d k) (next_node p k) (held_d k less) (ap (λ l. l.parent) (copyable.leaves.leaves k less).links ∙ ap (λ o. next_if o k) is)
 
   trees : (k : ℕ) → k < count → exchanged (next_node d k) None (cell a (next_node s k)).tree ≡ tree_of (next_if (history_of a d s) k) None
@@ -109,7 +109,7 @@ module _ (a : Arena) (sound : IsSound a) (d s : NodeId) (count : ℕ) (copyable 
       where
         go : (o : Option NodeId) → history_of a d s ≡ o → IfSome o (λ h. HaveNodes a h count)
         go None is = tt
-        go (Some h) is k less =
+        go (Some h) is = λ k less.
             let only : exchanged (next_node d k) None (cell a (next_node s k)).tree ≡ next_node h k ∷ [] = trees k less ∙ ap (λ o. tree_of (next_if o k) None) is in
             elim (exchanged-in (next_node d k) None (cell a (next_node s k)).tree (next_node h k) (subst (λ ms. next_node h k ∈ ms) (sym only) (inl refl))) [
               | inl none ↦ absurd (cc none)
@@ -174,7 +174,7 @@ none_before a b n count stays none k less = go (find a (next_node n k)) (find b 
 -- the nodes that there may be are there still
 pub if_stay : (a b : Arena) (count : ℕ) → NodesStay a b → (o : Option NodeId) → IfSome o (λ n. HaveNodes a n count) → IfSome o (λ n. HaveNodes b n count)
 if_stay a b count stays None held = tt
-if_stay a b count stays (Some n) held k less = stays (next_node n k) (held k less)
+if_stay a b count stays (Some n) held = λ k less. stays (next_node n k) (held k less)
 
 -- and there is room for the working nodes that come
 pub if_new : (a b : Arena) (w : NodeId) (count : ℕ) → NodesStay a b → count ≤ a.room.nodes → (o : Option NodeId) → IfSome o (λ _. HaveNone b w count)

@@ -56,9 +56,10 @@ module _ (d s w : NodeId) (count : ℕ) where
   -- of nodes that become their sources' only tree children
   module _ (ds : Pass d s count) where
     first_pass : kinds.AllPass (on d (as_new Absent) ∷ linking None d s w) count
-    first_pass =
-        ((on_on d s count ds (as_new Absent) (over_one d), (on_on d d count (pass_itself d count) (as_new Absent) (hung_on s), tt)),
-        ((on_on s d count (pass_back d s count ds) (over_one d) (hung_on s), tt), (tt, tt)))
+    first_pass = (
+      (on_on d s count ds (as_new Absent) (over_one d), (on_on d d count (pass_itself d count) (as_new Absent) (hung_on s), tt)),
+      ((on_on s d count (pass_back d s count ds) (over_one d) (hung_on s), tt), (tt, tt)),
+    )
 
   -- and of those that get working nodes
   module _ (h : NodeId) (ds : Pass d s count) (dw : Pass d w count) (dh : Pass d h count) (sw : Pass s w count) (sh : Pass s h count) (wh : Pass w h count) where
@@ -78,19 +79,37 @@ module _ (d s w : NodeId) (count : ℕ) where
     ws = pass_back s w count sw
 
     new_past : kinds.PassesEach (on d (as_new Absent)) (linking (Some h) d s w) count
-    new_past =
-        (on_work d w count dw (as_new Absent), (on_on d w count dw (as_new Absent) (over_two h d), (on_on d w count dw (as_new Absent) (hung_on s),
-        (on_on d s count ds (as_new Absent) (over_one w), (on_on d d count dd (as_new Absent) (hung_on w), (on_on d h count dh (as_new Absent) (hung_on w), tt))))))
+    new_past = (
+      on_work d w count dw (as_new Absent),
+      (
+        on_on d w count dw (as_new Absent) (over_two h d),
+        (
+          on_on d w count dw (as_new Absent) (hung_on s),
+          (on_on d s count ds (as_new Absent) (over_one w), (on_on d d count dd (as_new Absent) (hung_on w), (on_on d h count dh (as_new Absent) (hung_on w), tt))),
+        ),
+      ),
+    )
 
     work_past : kinds.PassesEach (work w) (on w (over_two h d) ∷ on w (hung_on s) ∷ on s (over_one w) ∷ on d (hung_on w) ∷ on h (hung_on w) ∷ []) count
-    work_past =
-        (work_on w w count ww (over_two h d), (work_on w w count ww (hung_on s), (work_on w s count ws (over_one w),
-        (work_on w d count wd (hung_on w), (work_on w h count wh (hung_on w), tt)))))
+    work_past = (
+      work_on w w count ww (over_two h d),
+      (
+        work_on w w count ww (hung_on s),
+        (
+          work_on w s count ws (over_one w),
+          (work_on w d count wd (hung_on w), (work_on w h count wh (hung_on w), tt)),
+        ),
+      ),
+    )
 
     two_past : kinds.PassesEach (on w (over_two h d)) (on w (hung_on s) ∷ on s (over_one w) ∷ on d (hung_on w) ∷ on h (hung_on w) ∷ []) count
-    two_past =
-        (on_on w w count ww (over_two h d) (hung_on s), (on_on w s count ws (over_two h d) (over_one w),
-        (on_on w d count wd (over_two h d) (hung_on w), (on_on w h count wh (over_two h d) (hung_on w), tt))))
+    two_past = (
+      on_on w w count ww (over_two h d) (hung_on s),
+      (
+        on_on w s count ws (over_two h d) (over_one w),
+        (on_on w d count wd (over_two h d) (hung_on w), (on_on w h count wh (over_two h d) (hung_on w), tt)),
+      ),
+    )
 
     up_past : kinds.PassesEach (on w (hung_on s)) (on s (over_one w) ∷ on d (hung_on w) ∷ on h (hung_on w) ∷ []) count
     up_past = (on_on w s count ws (hung_on s) (over_one w), (on_on w d count wd (hung_on s) (hung_on w), (on_on w h count wh (hung_on s) (hung_on w), tt)))
@@ -112,9 +131,19 @@ module _ (d s w : NodeId) (count : ℕ) where
       let pd : Pass p d count = all.0 in
       let ps : Pass p s count = all.1.0 in
       let pw : Pass p w count = all.1.1.0 in
-      let ph : Pass p h count = all.1.1.1.0 in
-      (on_on p d count pd (left_by d) (as_new Absent), (on_work p w count pw (left_by d), (on_on p w count pw (left_by d) (over_two h d), (on_on p w count pw (left_by d) (hung_on s),
-      (on_on p s count ps (left_by d) (over_one w), (on_on p d count pd (left_by d) (hung_on w), (on_on p h count ph (left_by d) (hung_on w), tt)))))))
+      let ph : Pass p h count = all.1.1.1.0 in (
+        on_on p d count pd (left_by d) (as_new Absent),
+        (
+          on_work p w count pw (left_by d),
+          (
+            on_on p w count pw (left_by d) (over_two h d),
+            (
+              on_on p w count pw (left_by d) (hung_on s),
+              (on_on p s count ps (left_by d) (over_one w), (on_on p d count pd (left_by d) (hung_on w), (on_on p h count ph (left_by d) (hung_on w), tt))),
+            ),
+          ),
+        ),
+      )
 
   copying_pass : (parent history : Option NodeId) → rows.AllPass (all_rows parent history d s w) count → kinds.AllPass (copying parent history d s w) count
   copying_pass None history all = linked_pass history all

@@ -12,6 +12,6 @@ returns-in-None c =
       changed = (
         d,
         subst (λ o. IfSome o (λ _. HaveNone a d c.args.count)) (sym c.in-None.is) tt,
-        c.link_one.ensures.changed ∙ ap (λ o. linked_many a o d c.args.source d c.args.count) (sym c.in-None.is)
+        c.link_one.ensures.changed ∙ ap (λ o. linked_many a o d c.args.source d c.args.count) (sym c.in-None.is),
       );
     }
