@@ -1,5 +1,5 @@
 -- One page was retired alone, a fresh node made for it, and the store followed.
-use Rattle.std.proofs.Common.{◌≡◌, ◌+◌, ◌≤◌, false, true, length, subst, arith}
+use Rattle.std.proofs.Common.{◌≡◌, ◌+◌, ◌≤◌, false, true, length, arith}
 use Rattle.vm_ids.specs.declared.node_name.NodeName.TheVariants.{Live}
 use Rattle.vm_ids.specs.declared.numbers.CacheId.{CacheId}
 use Rattle.vm_ids.specs.declared.numbers.PageNo.{PageNo}
