@@ -114,15 +114,17 @@ module _ (a : Arena) (sound : IsSound a) (shaped : IsWellShaped (forest_of a)) w
   owner_there n h =
       let r = owner_within (left n) n h (omega arith) in
       let most = path_short (forest_of a) (name_of a n) in
-      let ids_len : length (ids.keys a.cells) ≡ ids.len a.cells = length-map (ids.entries a.cells) (λ e. e.0) ∙ sym (len-entries a.cells) in
-      (r.0, record {
-        steps = r.1;
-        few = omega (arith, r.2, most, forest_len a, keys_states a, ids_len);
-        reached = r.3.reached;
-        owns = r.3.owns;
-        first = r.3.first;
-        held = r.3.held;
-      })
+      let ids_len : length (ids.keys a.cells) ≡ ids.len a.cells = length-map (ids.entries a.cells) (λ e. e.0) ∙ sym (len-entries a.cells) in (
+        r.0,
+        record {
+          steps = r.1;
+          few = omega (arith, r.2, most, forest_len a, keys_states a, ids_len);
+          reached = r.3.reached;
+          owns = r.3.owns;
+          first = r.3.first;
+          held = r.3.held;
+        },
+      )
 
   -- and it owns the node
   module _ (n owner : NodeId) (h : HasNode a n) (is : IsOwnerOf a n owner) where

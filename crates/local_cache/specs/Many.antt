@@ -93,9 +93,9 @@ abbrev pub over_two_many : Arena → NodeId → NodeId → NodeId → ℕ → Ar
 over_two_many a n older newer count =
     each (λ k b. with_tree b (next_node n k) (next_node older k ∷ next_node newer k ∷ [])) count a
 
--- The node so many numbers behind another one is like it: it has the same plain own state, no stubs,
--- its parent by a tree link and its tree children are as many numbers further on, and it is named
--- by a page or a working number as many further on.
+-- The node so many numbers behind another one is like it: it has the same own state, which is a
+-- plain one, and no stubs, its parent by a tree link and its tree children are as many numbers
+-- further on, and it is named by a page or a working number as many further on.
 pub record IsAlike (a : Arena) (n : NodeId) (k : ℕ) : Type 0 where
   pub held : HasNode a (next_node n k)
   pub own : (cell a (next_node n k)).own ≡ (cell a n).own

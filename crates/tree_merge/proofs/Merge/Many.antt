@@ -56,8 +56,8 @@ pub given_is : (a : Arena) (w y : NodeId) (count : ℕ) (o : Option NodeId) (s :
     → z ≡ on_cells x y (λ k. inheriting s (next_if o k)) count → b ≡ without_many z w count → b ≡ given_many a (cell a w).links.parent w y count
 given_is a w y count o s x z b o_is s_is x_is z_is b_is =
     b_is ∙ ap (λ (q : Arena). without_many q w count) (
-        z_is ∙ ap (λ (q : Arena). on_cells q y (λ k. inheriting s (next_if o k)) count) x_is
-        ∙ (λ i. on_cells (exchanged_many a (o_is i) w y count) y (λ k. inheriting (s_is i) (next_if (o_is i) k)) count))
+    z_is ∙ ap (λ (q : Arena). on_cells q y (λ k. inheriting s (next_if o k)) count) x_is
+    ∙ (λ i. on_cells (exchanged_many a (o_is i) w y count) y (λ k. inheriting (s_is i) (next_if (o_is i) k)) count))
 
 -- Rows
 
@@ -85,8 +85,7 @@ module _ (a : Arena) (w y : NodeId) (count : ℕ) (children_pass : AreApart y w 
   in_kinds (Some p) over beside =
       let put : ℕ → Cell → Cell = λ k. with_child (next_node w k) (Some (next_node y k)) in
       let up : ℕ → Cell → Cell = λ k. inheriting (own_of a w) (Some (next_node p k)) in
-      each_kind (on p put ∷ on y up ∷ gone w ∷ []) count
-      (
+      each_kind (on p put ∷ on y up ∷ gone w ∷ []) count (
         (on_on p y count (pass_apart p y count beside) put up, (on_gone p w count (pass_apart p w count over) put, tt)),
         ((on_gone y w count (pass_apart y w count children_pass) up, tt), (tt, tt)),
       ) a

@@ -23,5 +23,5 @@ returns c =
     let w = c.fresh_working_over-w.result in
     put c.args.caches.now c.hang-2.new.self c.args.d c.args.s c.args.h w c.requires.s c.fresh_working_over-w.ensures.new
     (c.hang-2.ensures.changed ∙ ap (λ (x : Arena). hung x c.args.h (Some w)) (
-        c.hang.ensures.changed ∙ ap (λ (x : Arena). hung x c.args.d (Some w)) (
-            c.set_tree_children.ensures.changed ∙ ap (λ (x : Arena). with_tree x c.args.s (w ∷ [])) c.fresh_working_over-w.ensures.changed)))
+    c.hang.ensures.changed ∙ ap (λ (x : Arena). hung x c.args.d (Some w)) (
+    c.set_tree_children.ensures.changed ∙ ap (λ (x : Arena). with_tree x c.args.s (w ∷ [])) c.fresh_working_over-w.ensures.changed)))

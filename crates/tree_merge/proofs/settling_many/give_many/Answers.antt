@@ -46,7 +46,10 @@ returns-clause-merged c =
     let a = c.args.caches.now in
     record {
       some = c.requires.some;
-      how = inl (refl, many_merged a c.args.node c.args.child c.args.count c.requires.can _
-          (given_is a c.args.node c.args.child c.args.count c.parent-parent.result c.own_state-state.result c.exchange_each.new.caches c.inherit_many.new.self c.free_many.new.self
-          c.parent-parent.ensures c.own_state-state.ensures c.exchange_each.ensures.changed c.inherit_many.ensures.changed c.free_many.ensures));
+      how = inl (
+        refl,
+        many_merged a c.args.node c.args.child c.args.count c.requires.can _
+            (given_is a c.args.node c.args.child c.args.count c.parent-parent.result c.own_state-state.result c.exchange_each.new.caches c.inherit_many.new.self c.free_many.new.self
+            c.parent-parent.ensures c.own_state-state.ensures c.exchange_each.ensures.changed c.inherit_many.ensures.changed c.free_many.ensures),
+      );
     }
