@@ -1,6 +1,8 @@
 #!/usr/bin/env python3
 """alone.py FOLDER ARGS..: reads Caches alone, with rattle's flags ARGS, as --only caches::Caches --allow-holes.
 
+LAYER=nodes reads NodeRuns alone instead, and LAYER=tests the tests (with --test among ARGS).
+
 FOLDER gets a copy of local_cache in which each call of NodeRuns, NodeTable and CacheList that Caches makes calls
 itself alone, with a hole for its end. So the answers of Caches are read with all lemma files that they cite, without
 the proofs below, and the libraries are read as sources and not proved. A function that is right "depends on a hole"
@@ -9,7 +11,7 @@ import os, re, shutil, subprocess, sys
 
 HERE = os.path.dirname(os.path.dirname(os.path.abspath(__file__)))
 KIT = os.environ.get("KIT", "/work/lab/kit")
-CALLS = {
+CACHES = {
     "runs/node_runs.rt": ("NodeRuns", "new reserve made live working table node_of change change_there change_each renew_leaf"),
     "runs/naming.rt": ("NodeRuns", "make_pages make_working replace to_working_many exchange_names free_many free_one"),
     "runs/giving_way.rt": ("NodeRuns", "give_way"),
@@ -18,7 +20,13 @@ CALLS = {
     "runs/looking.rt": ("NodeTable", "stretch row_from owner_from"),
     "cache_list.rt": ("CacheList", "new reserve made copies entry push remove grant granted locks locked set_locks count_copy"),
 }
-HOME = {"NodeRuns": "runs/node_runs/NodeRuns", "NodeTable": "runs/node_table/NodeTable", "CacheList": "cache_list/CacheList"}
+NODES = {"runs/pieces.rt": ("NodeTable", "change_there change_each")}
+ALL = {"caches.rt": ("Caches", "new reserve make_temp make_named remove counts caches_made working_made pages segment node_of grant granted "
+    "add_lock drop_lock locks locked name home own_state set_state links ends neighbours set_before set_behind hang set_ends set_place first_stub "
+    "hangs_by_stub parent rehang hang_many tree_child set_tree_children exchange_many inherit_many give_way is_leaf row owner adopt_many renew_many "
+    "renew_leaf replace exchange_names fresh_working_over to_working_many gather free free_many count_copy thin stretch runs")}
+CALLS = {"caches": CACHES, "nodes": NODES, "tests": ALL}[os.environ.get("LAYER", "caches")]
+HOME = {"Caches": "caches/Caches", "NodeRuns": "runs/node_runs/NodeRuns", "NodeTable": "runs/node_table/NodeTable", "CacheList": "cache_list/CacheList"}
 
 def calling_itself(text, kind, names):
     out, within, lines, i, generic = [], None, text.split("\n"), 0, {}

@@ -1,10 +1,20 @@
-use Rattle.std.proofs.Common.{◌≡◌, [], ◌∷◌, ◌++◌, subst, sym}
+use Rattle.std.proofs.Common.{◌≡◌, [], ◌∷◌, ◌++◌, rules, subst, sym}
 use Rattle.local_cache.specs.Known.{IsKnown}
-use Rattle.local_cache.proofs.Known.Nodes.{known-working}
+use Rattle.local_cache.proofs.Known.Many.{known-working_over}
+use Rattle.local_cache.proofs.Known.Same.{known_node}
 use Rattle.local_cache.proofs.tests.histories.Both.fresh_working.Goals as goal
 
-pub compare-requires : goal.compare-requires
-compare-requires g c =
-    let items : c.push.new.self.items ≡ c.reserve.new.self.nodes.items ++ c.fresh_working-node.result ∷ [] = rw c.expect.ensures at c.push.ensures.items in
-    subst (λ ns. IsKnown c.fresh_working-node.new.self ns c.reserve.new.self.vacant.items) (sym items)
-    (known-working _ _ _ _ c.reserve.ensures.known _ c.fresh_working-node.ensures.new c.fresh_working-node.ensures.changed)
+pub loop-place-init : goal.loop-place-init
+loop-place-init g c = record {
+  known = known-working_over _ _ _ c.reserve.ensures.known _ _ _ _ _ _ c.fresh_working_over-first.ensures.new c.fresh_working_over-first.ensures.changed;
+  held = c.fresh_working_over-first.ensures.held;
+}
+
+pub loop-place-preserved : goal.loop-place-preserved
+loop-place-preserved g c =
+    let items : c.push.new.self.items ≡ c.loop-place.self.nodes.items ++ c.next.result ∷ [] = rw c.expect.ensures at c.push.ensures.items in
+    record {
+      known = subst (λ ns. IsKnown c.loop-place.self.caches ns c.loop-place.self.vacant.items) (sym items)
+          (known_node _ _ _ _ c.loop-place.invariant.known (c.loop-place.invariant.held c.loop-place.place (search rules)));
+      held = c.loop-place.invariant.held;
+    }

@@ -1,11 +1,8 @@
-use Rattle.std.proofs.Common.{rules, subst, sym}
-use Rattle.local_cache.specs.Known.{IsLeft}
-use Rattle.local_cache.proofs.Known.Nodes.{known-as_working, left-as_working}
+use Rattle.local_cache.proofs.Known.Many.{known-as_working_many, left-as_working_many}
 use Rattle.local_cache.proofs.tests.histories.Both.to_working.Goals as goal
 
-pub leave-requires-clause-known : goal.leave-requires-clause-known
-leave-requires-clause-known g c = known-as_working _ _ _ _ c.requires _ (c.has_node.ensures (search rules)) c.to_working.ensures.changed
+pub leave_all-requires-clause-known : goal.leave_all-requires-clause-known
+leave_all-requires-clause-known g c = known-as_working_many _ _ _ c.requires _ _ _ c.count_nodes-count.ensures.held c.to_working_many.ensures.changed
 
-pub leave-requires-clause-left : goal.leave-requires-clause-left
-leave-requires-clause-left g c =
-    subst (IsLeft c.to_working.new.self) (sym c.name-left.ensures) (left-as_working _ _ _ _ c.requires _ (c.has_node.ensures (search rules)) c.to_working.ensures.changed)
+pub leave_all-requires-clause-left : goal.leave_all-requires-clause-left
+leave_all-requires-clause-left g c = left-as_working_many _ _ _ c.requires _ _ _ _ c.count_nodes-count.ensures.held c.names-names.ensures c.to_working_many.ensures.changed
