@@ -63,9 +63,9 @@ module _ (a : Arena) (ns : List NodeId) (vs : List (CacheId × PageNo)) (known :
 
   -- whose name a node has now
   data Whose (m k : NodeId) : Type 0 where
-    Theirs : m ≡ n → k ≡ o → Whose m k
-    Mine : m ≡ o → k ≡ n → Whose m k
-    Its : m ≢ n → m ≢ o → m ≡ k → Whose m k
+    theirs : m ≡ n → k ≡ o → Whose m k
+    mine : m ≡ o → k ≡ n → Whose m k
+    its : m ≢ n → m ≢ o → m ≡ k → Whose m k
 
   record Named (m : NodeId) : Type 0 where
     whose : NodeId
@@ -75,24 +75,24 @@ module _ (a : Arena) (ns : List NodeId) (vs : List (CacheId × PageNo)) (known :
 
   named_by : (m : NodeId) → HasNode after m → Named m
   named_by m h = elim (id_cases m n) [
-    | inl e ↦ record { whose = o; there = ho; name = ap (name_of after) e ∙ name_n; by = Theirs e refl }
+    | inl e ↦ record { whose = o; there = ho; name = ap (name_of after) e ∙ name_n; by = theirs e refl }
     | inr mn ↦ elim (id_cases m o) [
-      | inl e ↦ record { whose = n; there = hn; name = ap (name_of after) e ∙ name_o; by = Mine e refl }
-      | inr mo ↦ record { whose = m; there = was_there m mn mo h; name = name_other m mn mo; by = Its mn mo refl }
+      | inl e ↦ record { whose = n; there = hn; name = ap (name_of after) e ∙ name_o; by = mine e refl }
+      | inr mo ↦ record { whose = m; there = was_there m mn mo h; name = name_other m mn mo; by = its mn mo refl }
     ]
   ]
 
   -- no two nodes have the name of one
   same_by : (m k w v : NodeId) → Whose m w → Whose k v → w ≡ v → m ≡ k
-  same_by m k w v (Theirs a1 a2) (Theirs b1 b2) e = a1 ∙ sym b1
-  same_by m k w v (Theirs a1 a2) (Mine b1 b2) e = absurd (ne (sym b2 ∙ sym e ∙ a2))
-  same_by m k w v (Theirs a1 a2) (Its b1 b2 b3) e = absurd (b2 (b3 ∙ sym e ∙ a2))
-  same_by m k w v (Mine a1 a2) (Theirs b1 b2) e = absurd (ne (sym a2 ∙ e ∙ b2))
-  same_by m k w v (Mine a1 a2) (Mine b1 b2) e = a1 ∙ sym b1
-  same_by m k w v (Mine a1 a2) (Its b1 b2 b3) e = absurd (b1 (b3 ∙ sym e ∙ a2))
-  same_by m k w v (Its a1 a2 a3) (Theirs b1 b2) e = absurd (a2 (a3 ∙ e ∙ b2))
-  same_by m k w v (Its a1 a2 a3) (Mine b1 b2) e = absurd (a1 (a3 ∙ e ∙ b2))
-  same_by m k w v (Its a1 a2 a3) (Its b1 b2 b3) e = a3 ∙ e ∙ sym b3
+  same_by m k w v (theirs a1 a2) (theirs b1 b2) e = a1 ∙ sym b1
+  same_by m k w v (theirs a1 a2) (mine b1 b2) e = absurd (ne (sym b2 ∙ sym e ∙ a2))
+  same_by m k w v (theirs a1 a2) (its b1 b2 b3) e = absurd (b2 (b3 ∙ sym e ∙ a2))
+  same_by m k w v (mine a1 a2) (theirs b1 b2) e = absurd (ne (sym a2 ∙ e ∙ b2))
+  same_by m k w v (mine a1 a2) (mine b1 b2) e = a1 ∙ sym b1
+  same_by m k w v (mine a1 a2) (its b1 b2 b3) e = absurd (b1 (b3 ∙ sym e ∙ a2))
+  same_by m k w v (its a1 a2 a3) (theirs b1 b2) e = absurd (a2 (a3 ∙ e ∙ b2))
+  same_by m k w v (its a1 a2 a3) (mine b1 b2) e = absurd (a1 (a3 ∙ e ∙ b2))
+  same_by m k w v (its a1 a2 a3) (its b1 b2 b3) e = a3 ∙ e ∙ sym b3
 
   apart : name_of a n ≢ name_of a o
   apart e = ne (known.told.named.apart n o hn ho e)
@@ -107,19 +107,19 @@ module _ (a : Arena) (ns : List NodeId) (vs : List (CacheId × PageNo)) (known :
   entry cache page m h e = node_place a (record { 0 = cache }) (record { 0 = page }) m (known.told.pages cache page m h e)
 
   page_by : (cache page : ℕ) (m w : NodeId) → HasNode a w → name_of a w ≡ page_name cache page → Whose m w → node_in after.caches cache page ≡ Some m
-  page_by cache page m w h e (Theirs mn wo) =
+  page_by cache page m w h e (theirs mn wo) =
       let is : name_of a o ≡ page_name cache page = ap (name_of a) (sym wo) ∙ e in
       ap (λ (x : NodeName). node_in (tables_with middle x (Some n)) cache page) is
       ∙ set-node middle cache page n
           (subst IsSome (sym (other-entry a.caches cache page (name_of a n) (Some o) (λ q. apart (q ∙ sym is)))) (entry cache page w h e))
       ∙ ap Some (sym mn)
-  page_by cache page m w h e (Mine mo wn) =
+  page_by cache page m w h e (mine mo wn) =
       let is : name_of a n ≡ page_name cache page = ap (name_of a) (sym wn) ∙ e in
       other-node middle cache page (name_of a o) (Some n) (λ q. apart (is ∙ sym q))
       ∙ ap (λ (x : NodeName). node_in (tables_with a.caches x (Some o)) cache page) is
       ∙ set-node a.caches cache page o (entry cache page w h e)
       ∙ ap Some (sym mo)
-  page_by cache page m w h e (Its mn mo mw) =
+  page_by cache page m w h e (its mn mo mw) =
       let is : name_of a m ≡ page_name cache page = ap (name_of a) mw ∙ e in
       let held : HasNode a m = subst (HasNode a) (sym mw) h in
       other-node middle cache page (name_of a o) (Some n) (λ q. mo (known.told.named.apart m o held ho (is ∙ sym q)))

@@ -143,7 +143,7 @@ module _ (a b : Arena) (ns : List NodeId) (vs : List (CacheId × PageNo)) (known
     hung_name : name_of hung n ≡ name_of a n
     hung_name = name_still cut child heir (λ c. refl) has_still n ∙ cut_name a (cell a n).links.parent n (Some child) there n
 
-    pub known-given : IsKnown b (filter (λ m. not (m.0 == n.0)) ns) vs
+    pub known-given : IsKnown b (filter (λ (m : NodeId). not (m.0 == n.0)) ns) vs
     known-given = known-without hung b ns vs hung_known n hung_held e
 
     pub left-given : IsLeft b (name_of a n)
