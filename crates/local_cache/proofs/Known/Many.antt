@@ -41,6 +41,10 @@ left_still : (a b : Arena) (x y : NodeName) → b.caches ≡ tables_with a.cache
 left_still a b (Live cache page) y tables left = ap (λ ts. entry_at ts cache.0 page.0) tables ∙ stays_vacant a.caches y cache.0 page.0 left
 left_still a b (Working k) y tables left = tt
 
+-- one node is so many
+pub held_one : (a : Arena) (n : NodeId) → HasNode a n → HaveNodes a n 1
+held_one a n held k less = (let same : n.0 + k ≡ n.0 = omega (arith, less) in ap (λ (j : ℕ). is_some (find a (record { 0 = j }))) same ∙ held)
+
 -- one node of a page is a row of them
 pub named_one : (a : Arena) (n : NodeId) (cache : CacheId) (page : PageNo) → HasNode a n → name_of a n ≡ Live cache page → AreNamed a n cache page 1
 named_one a n cache page held is k less =
@@ -151,6 +155,11 @@ module _ (a b : Arena) (ns : List NodeId) (vs : List (CacheId × PageNo)) (known
 
 -- Other names
 
+-- the names of other nodes stay
+other_name : (c : Arena) (m q : NodeId) → q ≢ m → name_of (as_working c m) q ≡ name_of c q
+unfolding cell
+other_name c m q ne = ap (λ (d : Cell). d.name) (cell-put_other c m q (record (cell c m) { name = Working (c.made + 1) }) ne)
+
 module _ (a : Arena) (ns : List NodeId) (vs : List (CacheId × PageNo)) (known : IsKnown a ns vs) (n : NodeId) where
   as_known : (count : ℕ) → HaveNodes a n count → IsKnown (as_working_many a n count) ns vs
   as_known zero held = known
@@ -161,11 +170,7 @@ module _ (a : Arena) (ns : List NodeId) (vs : List (CacheId × PageNo)) (known :
   -- the names of those that come later stay
   as_name : (count j : ℕ) → count ≤ j → name_of (as_working_many a n count) (next_node n j) ≡ name_of a (next_node n j)
   as_name zero j low = refl
-  as_name (suc k) j low = one (as_working_many a n k) (next_node n k) (next_node n j) (next_apart n j k (λ e. omega (arith, e, low))) ∙ as_name k j (omega (arith, low))
-    where
-      one : (c : Arena) (m q : NodeId) → q ≢ m → name_of (as_working c m) q ≡ name_of c q
-      unfolding cell
-      one c m q ne = ap (λ (d : Cell). d.name) (cell-put_other c m q (record (cell c m) { name = Working (c.made + 1) }) ne)
+  as_name (suc k) j low = other_name (as_working_many a n k) (next_node n k) (next_node n j) (next_apart n j k (λ e. omega (arith, e, low))) ∙ as_name k j (omega (arith, low))
 
   as_left : (count j : ℕ) → HaveNodes a n count → j < count → IsLeft (as_working_many a n count) (name_of a (next_node n j))
   as_left zero j held less = absurd (omega (arith, less))

@@ -18,3 +18,11 @@ compare_node-requires g c =
     (λ k less. (c.count_named-count-2.ensures.named k less).0)
     (λ k less. rows_apart c.args.node c.args.other c.gap-most.result c.count_named-count-2.result c.gap-most.ensures (omega (arith, c.count_named-count.ensures.within, c.count_named-count-2.ensures.within)) k k less less)
     c.exchange_names.ensures.changed
+
+pub compare-requires : goal.compare-requires
+compare-requires g c =
+    known-exchanged _ _ _ c.requires _ _ _ _
+    (λ k less. (c.count_named-count.ensures.named k (omega (arith, less, c.count_named-count-2.ensures.within))).0)
+    (λ k less. (c.count_named-count-2.ensures.named k less).0)
+    (λ k less. rows_apart c.args.node c.args.other c.gap-most.result c.count_named-count-2.result c.gap-most.ensures (omega (arith, c.count_named-count.ensures.within, c.count_named-count-2.ensures.within)) k k less less)
+    c.exchange_names.ensures.changed

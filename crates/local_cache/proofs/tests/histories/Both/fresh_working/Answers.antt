@@ -1,4 +1,5 @@
 use Rattle.std.proofs.Common.{◌≡◌, [], ◌∷◌, ◌++◌, rules, subst, sym}
+use Rattle.local_cache.specs.Arena.{HasNode}
 use Rattle.local_cache.specs.Known.{IsKnown}
 use Rattle.local_cache.proofs.Known.Many.{known-working_over}
 use Rattle.local_cache.proofs.Known.Same.{known_node}
@@ -15,6 +16,6 @@ loop-place-preserved g c =
     let items : c.push.new.self.items ≡ c.loop-place.self.nodes.items ++ c.next.result ∷ [] = rw c.expect.ensures at c.push.ensures.items in
     record {
       known = subst (λ ns. IsKnown c.loop-place.self.caches ns c.loop-place.self.vacant.items) (sym items)
-          (known_node _ _ _ _ c.loop-place.invariant.known (c.loop-place.invariant.held c.loop-place.place (search rules)));
+          (known_node _ _ _ _ c.loop-place.invariant.known (subst (HasNode c.loop-place.self.caches) (sym c.next.ensures) (c.loop-place.invariant.held c.loop-place.place (search rules))));
       held = c.loop-place.invariant.held;
     }
