@@ -111,7 +111,7 @@ module _ (a : Arena) (ns : List NodeId) (vs : List (CacheId × PageNo)) (known :
       let is : name_of a o ≡ page_name cache page = ap (name_of a) (sym wo) ∙ e in
       ap (λ (x : NodeName). node_in (tables_with middle x (Some n)) cache page) is
       ∙ set-node middle cache page n
-          (subst IsSome (sym (other-entry a.caches cache page (name_of a n) (Some o) (λ q. apart (q ∙ sym is)))) (entry cache page w h e))
+      (subst IsSome (sym (other-entry a.caches cache page (name_of a n) (Some o) (λ q. apart (q ∙ sym is)))) (entry cache page w h e))
       ∙ ap Some (sym mn)
   page_by cache page m w h e (mine mo wn) =
       let is : name_of a n ≡ page_name cache page = ap (name_of a) (sym wn) ∙ e in
