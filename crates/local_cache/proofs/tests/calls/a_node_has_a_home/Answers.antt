@@ -10,4 +10,4 @@ node_of-node-requires g c = ap is_some (c.make_named-cache.ensures.pages 1 (lit<
 
 pub to_working_many-requires-clause-held : goal.to_working_many-requires-clause-held
 to_working_many-requires-clause-held g c =
-    held_one _ _ (page_held c.make_named-cache.new.self c.make_named-cache.result 1 OnSegment c.node_of-node.result (c.make_named-cache.ensures.pages 1 (lit< tt)) c.node_of-node.ensures)
+    held_one c.make_named-cache.new.self c.node_of-node.result (page_held c.make_named-cache.new.self c.make_named-cache.result 1 OnSegment c.node_of-node.result (c.make_named-cache.ensures.pages 1 (lit< tt)) c.node_of-node.ensures)

@@ -13,7 +13,7 @@ node_of-node-requires g c = ap is_some (c.make_temp-cache.ensures.pages 2 (lit< 
 
 pub to_working_many-requires-clause-held : goal.to_working_many-requires-clause-held
 to_working_many-requires-clause-held g c =
-    held_one _ _ (page_held c.make_temp-cache.new.self c.make_temp-cache.result 2 Zero c.node_of-node.result (c.make_temp-cache.ensures.pages 2 (lit< tt)) c.node_of-node.ensures)
+    held_one c.make_temp-cache.new.self c.node_of-node.result (page_held c.make_temp-cache.new.self c.make_temp-cache.result 2 Zero c.node_of-node.result (c.make_temp-cache.ensures.pages 2 (lit< tt)) c.node_of-node.ensures)
 
 pub counts-requires : goal.counts-requires
 counts-requires g c =

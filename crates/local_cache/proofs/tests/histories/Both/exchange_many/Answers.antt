@@ -5,4 +5,4 @@ use Rattle.local_cache.proofs.Known.Many.{known-cells}
 use Rattle.local_cache.proofs.tests.histories.Both.exchange_many.Goals as goal
 
 pub compare-requires : goal.compare-requires
-compare-requires g c = known-cells _ _ _ c.requires _ _ (λ k. with_child (next_node c.args.gone k) (next_if c.args.instead k)) (λ k d. refl) _ (λ k less. c.count_nodes-count.ensures.held k (omega (arith, less, c.count_nodes-count-2.ensures.within))) c.exchange_many.ensures.changed
+compare-requires g c = known-cells _ _ _ c.requires c.args.node _ (λ k. with_child (next_node c.args.gone k) (next_if c.args.instead k)) (λ k d. refl) c.count_nodes-count-2.result (λ k less. c.count_nodes-count.ensures.held k (omega (arith, less, c.count_nodes-count-2.ensures.within))) c.exchange_many.ensures.changed

@@ -13,7 +13,7 @@ exchange_names-requires-clause-apart g c = rows_apart c.args.node c.args.other c
 
 pub compare_node-requires : goal.compare_node-requires
 compare_node-requires g c =
-    known-exchanged _ _ _ c.requires _ _ _ _
+    known-exchanged _ _ _ c.requires c.args.node c.args.other _ c.count_named-count-2.result
     (λ k less. (c.count_named-count.ensures.named k (omega (arith, less, c.count_named-count-2.ensures.within))).0)
     (λ k less. (c.count_named-count-2.ensures.named k less).0)
     (λ k less. rows_apart c.args.node c.args.other c.gap-most.result c.count_named-count-2.result c.gap-most.ensures (omega (arith, c.count_named-count.ensures.within, c.count_named-count-2.ensures.within)) k k less less)
@@ -21,7 +21,7 @@ compare_node-requires g c =
 
 pub compare-requires : goal.compare-requires
 compare-requires g c =
-    known-exchanged _ _ _ c.requires _ _ _ _
+    known-exchanged _ _ _ c.requires c.args.node c.args.other _ c.count_named-count-2.result
     (λ k less. (c.count_named-count.ensures.named k (omega (arith, less, c.count_named-count-2.ensures.within))).0)
     (λ k less. (c.count_named-count-2.ensures.named k less).0)
     (λ k less. rows_apart c.args.node c.args.other c.gap-most.result c.count_named-count-2.result c.gap-most.ensures (omega (arith, c.count_named-count.ensures.within, c.count_named-count-2.ensures.within)) k k less less)

@@ -7,7 +7,7 @@ use Rattle.local_cache.proofs.tests.histories.Both.fresh_working.Goals as goal
 
 pub loop-place-init : goal.loop-place-init
 loop-place-init g c = record {
-  known = known-working_over _ _ _ c.reserve.ensures.known _ _ _ _ _ _ c.fresh_working_over-first.ensures.new c.fresh_working_over-first.ensures.changed;
+  known = known-working_over _ _ _ c.reserve.ensures.known c.fresh_working_over-first.result _ c.args.parent c.args.older c.args.newer c.args.count c.fresh_working_over-first.ensures.new c.fresh_working_over-first.ensures.changed;
   held = c.fresh_working_over-first.ensures.held;
 }
 

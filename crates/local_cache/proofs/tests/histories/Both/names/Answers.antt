@@ -9,4 +9,4 @@ loop-place-init g c = record { all = refl; each = λ k less. absurd (omega (arit
 pub loop-place-preserved : goal.loop-place-preserved
 loop-place-preserved g c =
     let items : c.push.new.self.items ≡ c.loop-place.names.items ++ c.name-name.result ∷ [] = rw c.expect.ensures at c.push.ensures.items in
-    rw items (names_more _ _ _ _ _ c.loop-place.invariant (c.name-name.ensures ∙ ap (name_of c.args.self.now.caches) c.next.ensures))
+    rw items (names_more c.args.self.now.caches c.args.node c.loop-place.place _ _ c.loop-place.invariant (c.name-name.ensures ∙ ap (name_of c.args.self.now.caches) c.next.ensures))
