@@ -47,7 +47,7 @@ module _ (m : PageNodes) (c : CacheRows) (n : NodeId) (k : ℕ) where
 
 pub least_thin_by : (m : PageNodes) (c : CacheRows) (r : Option NodeId) → table.IsLeastThin m.cells r
     → IsLeastThin (arena_by m c) r
-least_thin_by m c None none = λ n k t. none n k (thin_of m c n k t)
+least_thin_by m c None none = λ n k t. none n.0 k (thin_of m c n k t)
 least_thin_by m c (Some n) least = (
   least.0,
   thin_by m c n least.0 least.1,

@@ -39,7 +39,7 @@ emptied ts cache page has = entry-cache_with ts cache page None ∙ go (entry_at
     go (Some e) h = refl
 
 -- a vacant page stays so where the node of some page goes
-stays_vacant : (ts : List (Option Table)) (x : NodeName) (cache page : ℕ) → entry_at ts cache page ≡ vacated → entry_at (tables_with ts x None) cache page ≡ vacated
+pub stays_vacant : (ts : List (Option Table)) (x : NodeName) (cache page : ℕ) → entry_at ts cache page ≡ vacated → entry_at (tables_with ts x None) cache page ≡ vacated
 stays_vacant ts x cache page v = elim (name_cases x (page_name cache page)) [
   | inl e ↦ ap (λ y. entry_at (tables_with ts y None) cache page) e ∙ emptied ts cache page (ap is_some v)
   | inr ne ↦ other-entry ts cache page x None ne ∙ v

@@ -10,6 +10,8 @@ use Rattle.local_cache.specs.declared.links.Links.{Links}
 use Rattle.local_cache.specs.declared.own_state.OwnState.{OwnState}
 use Rattle.local_cache.specs.Arena.{Arena, Cell, HasNode, IsVacant, Table, cell, entry_at, find, hung, node_at, put, table_granting, table_locking, with_grant, with_links, with_locks, with_own, with_tree}
 use Rattle.local_cache.specs.Known.{IsKnown, IsTold}
+use Rattle.local_cache.specs.OnCells.{on_cell}
+use Rattle.local_cache.specs.PageNodes.{KeepsNames}
 use Rattle.local_cache.specs.Reading.{name_of}
 use Rattle.local_cache.specs.Sound.{IsSound}
 use Rattle.local_cache.proofs.Changes.Retabled.{changed_entry}
@@ -59,10 +61,13 @@ known-same a b held name made entry ns vs known = record {
 }
 
 module _ (a b : Arena) (ns : List NodeId) (vs : List (CacheId × PageNo)) (known : IsKnown a ns vs) where
-  known-put : (n : NodeId) (c : Cell) → HasNode a n → c.name ≡ name_of a n → b ≡ put a n c → IsKnown b ns vs
+  pub known-put : (n : NodeId) (c : Cell) → HasNode a n → c.name ≡ name_of a n → b ≡ put a n c → IsKnown b ns vs
   known-put n c h same e =
       let like = like-put a n c h same in
       subst (λ (x : Arena). IsKnown x ns vs) (sym e) (known-same a (put a n c) like.held like.name (made-put a n c) (λ cache page. ap (λ ts. entry_at ts cache page) like.caches) ns vs known)
+
+  pub known-cell : (n : NodeId) (f : Cell → Cell) → KeepsNames f → HasNode a n → b ≡ on_cell a n f → IsKnown b ns vs
+  known-cell n f keeps h e = known-put n (f (cell a n)) h (keeps (cell a n)) e
 
   pub known-own : (n : NodeId) (s : OwnState) → HasNode a n → b ≡ with_own a n s → IsKnown b ns vs
   known-own n s h e = known-put n (record (cell a n) { own = s }) h refl e
