@@ -29,6 +29,3 @@ mod head;
 mod index;
 
 pub use index::Index;
-
-#[cfg(test)]
-mod tests;

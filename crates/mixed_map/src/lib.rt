@@ -28,6 +28,3 @@ pub use alone::Alone;
 pub use found::Found;
 pub(crate) use lone_map::LoneMap;
 pub use mixed_map::MixedMap;
-
-#[cfg(test)]
-mod tests;
