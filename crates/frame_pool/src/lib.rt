@@ -16,8 +16,3 @@ mod part;
 mod pool;
 
 pub use pool::FramePool;
-
-#[cfg(test)]
-mod slow;
-#[cfg(test)]
-mod tests;

@@ -13,8 +13,3 @@
 mod map;
 
 pub use map::GlobalMap;
-
-#[cfg(test)]
-mod slow;
-#[cfg(test)]
-mod tests;

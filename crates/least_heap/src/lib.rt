@@ -22,6 +22,3 @@ mod least_heap;
 
 pub use heap::Numbered;
 pub use least_heap::LeastHeap;
-
-#[cfg(test)]
-mod tests;

@@ -7,5 +7,4 @@ pub mod Gathering
 pub mod Ending
 pub mod Underway
 pub mod Tallying
-pub mod Postponed
 pub mod Alone

@@ -36,9 +36,6 @@ mod replaying;
 mod replies;
 mod service;
 mod tallying;
-#[cfg(test)]
-mod tests;
-
 pub use ended::Ended;
 pub use gathered::Gathered;
 pub use made::answer_made;

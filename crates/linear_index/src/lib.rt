@@ -30,6 +30,3 @@ mod index;
 mod recent;
 
 pub use index::Index;
-
-#[cfg(test)]
-mod tests;

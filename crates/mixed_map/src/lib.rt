@@ -31,6 +31,3 @@ pub use found::Found;
 pub(crate) use lone_map::LoneMap;
 pub use mixed_map::MixedMap;
 pub use place::Place;
-
-#[cfg(test)]
-mod tests;

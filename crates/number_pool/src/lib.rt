@@ -12,6 +12,3 @@
 mod pool;
 
 pub use pool::NumberPool;
-
-#[cfg(test)]
-mod tests;

@@ -22,8 +22,3 @@ mod tables;
 
 pub use entry::Translation;
 pub use tables::PageTables;
-
-#[cfg(test)]
-mod slow;
-#[cfg(test)]
-mod tests;

@@ -16,6 +16,3 @@ mod table;
 
 pub use hashes::{hash, hash_pair};
 pub use table::ProbeTable;
-
-#[cfg(test)]
-mod tests;

@@ -9,6 +9,3 @@
 mod waiting;
 
 pub use waiting::PullWait;
-
-#[cfg(test)]
-mod tests;

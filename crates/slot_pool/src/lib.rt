@@ -13,8 +13,3 @@
 mod pool;
 
 pub use pool::SlotPool;
-
-#[cfg(test)]
-mod slow;
-#[cfg(test)]
-mod tests;

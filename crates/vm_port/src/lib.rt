@@ -13,8 +13,6 @@
 
 mod memory;
 mod policies;
-#[cfg(test)]
-mod tests;
 mod traits;
 
 pub use memory::{CallKind, CallNo, MemoryMapper, MemorySink, MemorySource, WrongMapper};

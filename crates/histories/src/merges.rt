@@ -1,0 +1,55 @@
+// A page without children, and pages that are copied or retired at once.
+use tree_merge::{Released, Step, copy_step, retire, retire_step, settle_step};
+use local_cache::{Caches, OwnState};
+use vm_ids::{Extent, PageNo, Span};
+
+#[test]
+fn a_page_without_children_goes(rt: HostRuntime) {
+    let mut caches = Caches::new(rt.alloc());
+    caches.reserve(1, 1).expect(&rt, "memory");
+    let cache = caches.make_temp(1);
+    let node = caches.node_of(cache, PageNo(0));
+    let released = retire(&mut caches, cache, PageNo(0));
+    assert_eq!(&rt; released, Released::Dropped(node, OwnState::Zero));
+    assert_eq!(&rt; settle_step(&mut caches), None);
+}
+
+#[test]
+fn alike_pages_are_copied_at_once(rt: HostRuntime) {
+    let mut caches = Caches::new(rt.alloc());
+    caches.reserve(1, 36).expect(&rt, "memory");
+    let cache = caches.make_temp(18);
+    let span = Span {
+        from: cache,
+        from_page: PageNo(0),
+        to: cache,
+        to_page: PageNo(9),
+        pages: 9,
+    };
+    let step = copy_step(&mut caches, span, 0);
+    let all = Step {
+        pages: 9,
+        released: Released::Nothing,
+    };
+    assert_eq!(&rt; step, all);
+    assert_eq!(&rt; caches.runs(), 2);
+}
+
+#[test]
+fn alike_pages_are_retired_at_once(rt: HostRuntime) {
+    let mut caches = Caches::new(rt.alloc());
+    caches.reserve(1, 4).expect(&rt, "memory");
+    let cache = caches.make_temp(4);
+    let extent = Extent {
+        cache,
+        first: PageNo(0),
+        pages: 3,
+    };
+    let step = retire_step(&mut caches, extent, 1);
+    let rest = Step {
+        pages: 2,
+        released: Released::Nothing,
+    };
+    assert_eq!(&rt; step, rest);
+    assert_eq!(&rt; caches.runs(), 2);
+}
