@@ -1,4 +1,5 @@
--- Pages of a cache that a segment names: how a sync, a flush and an invalidation are refused, and what they come to.
+-- Pages of a cache that a segment names: how a sync, a flush and an invalidation are refused, and
+-- what they come to.
 use Rattle.std.proofs.Common.{◌≡◌, ℕ, ◌+◌, ◌<◌, ◌≤◌, true, false, List, length, Option, Some, None, refl, sym, ap, subst, ◌∙◌, arith}
 use Rattle.std.specs.Prelude.{Result, Ok, Err, nat_lt, option_and_then, option_map}
 use Rattle.std.proofs.lemmas.Bool.Decides.{nat_tests}

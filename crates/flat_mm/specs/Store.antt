@@ -76,7 +76,8 @@ touched p = record p { changed = true }
 
 -- the pages of the source of a copy or a move
 abbrev pub source_of : Store → Span → ℕ → List Page
-source_of s span pages = take pages (drop span.from_page.0 (pages_of (numbered s.caches span.from.0)))
+source_of s span pages =
+    take pages (drop span.from_page.0 (pages_of (numbered s.caches span.from.0)))
 
 -- the first so many pages of the destination are what those of the source are
 abbrev pub copied : Store → Span → ℕ → Store

@@ -4,9 +4,9 @@
 //! data and a stack of its own. A fork copies these, and the manager defers the copies. The model
 //! is a machine of processes that have plain pages of bytes (`ProcessMachine`), with the answer to
 //! each command (`Answering`) and what a call may answer besides (`Outcome`); it knows no cache and
-//! no manager. [`PlainProcesses`] is that machine, run plainly. [`laws`] has its worked scripts, and
-//! that a fork is of one moment. The crate stands on the interface and the plain types alone, and
-//! names no manager.
+//! no manager. [`PlainProcesses`] is that machine, run plainly. [`laws`] has its worked scripts,
+//! and that a fork is of one moment. The crate stands on the interface and the plain types alone,
+//! and names no manager.
 //!
 //! What the processes over a manager stand for is read off the machine that the manager stands for
 //! (`Seen`): the pages of an area are those of its parts' caches, one behind the other. They are

@@ -150,8 +150,8 @@ mix_ends status frames old now l k begun m processes usage begins machine ends =
       (begins ∙ ap (λ (x : Machine). beginning x old.segments) machine) ends;
 }
 
--- the promise for a script of message ports, from a replay that began with none, over a manager that
--- began
+-- the promise for a script of message ports, from a replay that began with none, over a manager
+-- that began
 pub port_ends : (status : Status) (frames : ℕ) (old now : Outside) (l k : Option (List ℕ)) (begun : PortState) (m : Machine) (machine : PortMachine)
     → begun ≡ ports_beginning m old.segments → m ≡ start frames PAGE
     → EndsAs status port_semantics port_command_of (record { state = begun; counts = old.counts; turns = old.turns; written = old.written }) (scene_of_ports now machine) l k
@@ -166,8 +166,8 @@ nothing_open : (frames : ℕ) (told : Option Segments) → segments_beginning (s
 nothing_open frames None = refl
 nothing_open frames (Some h) = refl
 
--- the promise for a script of segments, from a replay that began with none open, over a manager that
--- began
+-- the promise for a script of segments, from a replay that began with none open, over a manager
+-- that began
 pub keep_ends : (status : Status) (frames : ℕ) (old now : Outside) (l k : Option (List ℕ)) (begun : SegmentState) (m : Machine) (machine : ReferenceMachine)
     → begun ≡ segments_beginning m old.segments → m ≡ start frames PAGE
     → EndsAs status keep_semantics keep_command_of (record { state = begun; counts = old.counts; turns = old.turns; written = old.written }) (scene_of_segments now machine) l k

@@ -4,9 +4,9 @@
 //! Its model is in specs/. What a reader must believe: the words of a command line (`Commanding`),
 //! and how a run ends (`Ending`), which says of the commands of a script what `line_service` says
 //! of lines, and what lines mean that are answered at once (`AtOnce`, `Processing`, `Posting`,
-//! `Reopening`, `Framed`). The rest serves the contracts of the parts alone: what clap reads (`Reading`), what
-//! it takes to call a manager (`Managing`, `Few`), and what a replay promises beside how it ends
-//! (`Replaying`).
+//! `Reopening`, `Framed`). The rest serves the contracts of the parts alone: what clap reads
+//! (`Reading`), what it takes to call a manager (`Managing`, `Few`), and what a replay promises
+//! beside how it ends (`Replaying`).
 //!
 //! It stands on the loop over lines (`line_service`), for which a manager of the interface answers
 //! the commands of a script (`commands`), or whoever answers each at once (`at_once`): processes,

@@ -202,8 +202,8 @@ pub fn replay_segments<S: Source, K: Sink, M: Mapper, C: Chooser, D: Dispatcher>
     )
 }
 
-/// Replays the script that the source has left, over a manager in which each live page has one of so
-/// many page frames.
+/// Replays the script that the source has left, over a manager in which each live page has one of
+/// so many page frames.
 pub fn replay_flat<S: Source, K: Sink, M: Mapper, C: Chooser, D: Dispatcher>(
     alloc: Global,
     frames: u32,

@@ -27,11 +27,11 @@ use vm_port::{Chooser, Dispatcher, Mapper, Sink, Source};
 ///   them begin with `ok`, the sum of all bytes loaded modulo 2^64, and the counts of pages.
 /// - `mix --frames F [--segments DIR]` replays the script of processes that the source has left,
 ///   over a manager of F page frames of 4,096 bytes, and writes a reply for each line.
-/// - `ipc --frames F [--segments DIR]` replays the script of message ports that the source has left,
-///   over a manager of F page frames of 4,096 bytes, and writes a reply for each line.
-/// - `keep --limit K --frames F [--segments DIR]` replays the script of segments that the source has
-///   left, which are opened again and again, over a manager of F page frames of 4,096 bytes, and
-///   writes a reply for each line. K caches to which nothing refers are kept.
+/// - `ipc --frames F [--segments DIR]` replays the script of message ports that the source has
+///   left, over a manager of F page frames of 4,096 bytes, and writes a reply for each line.
+/// - `keep --limit K --frames F [--segments DIR]` replays the script of segments that the source
+///   has left, which are opened again and again, over a manager of F page frames of 4,096 bytes,
+///   and writes a reply for each line. K caches to which nothing refers are kept.
 /// - `flat --frames F [--segments DIR]` replays the script that the source has left, over a manager
 ///   without paging, in which each live page has one of F page frames of 4,096 bytes, and writes a
 ///   reply for each line.
@@ -55,9 +55,9 @@ use vm_port::{Chooser, Dispatcher, Mapper, Sink, Source};
 /// - `Usage` exactly where the words aren't those, but for want of memory. The options stand in any
 ///   order, each once at most, as two words or as one with `=`, in a trial also before and between
 ///   N and L. F is from 3 to 65,536; B is 512, 1,024, 2,048, 4,096 (where it isn't given), 8,192,
-///   16,384, 32,768 or 65,536; K is up to 1,024; N is up to 4,294,967,295; L is from 1 to 1,000,000;
-///   all are decimal with no leading zero, and F times B is 268,435,456 at most; DIR isn't empty,
-///   and no hyphen begins it. Nothing was read or written.
+///   16,384, 32,768 or 65,536; K is up to 1,024; N is up to 4,294,967,295; L is from 1 to
+///   1,000,000; all are decimal with no leading zero, and F times B is 268,435,456 at most; DIR
+///   isn't empty, and no hyphen begins it. Nothing was read or written.
 /// - `SourceFault`, where a script is read, only where the source's count of faults rose; each line
 ///   that ended before is answered, or is a load or a store that waits for its page.
 /// - `SinkFault` only where the sink's count of faults rose; a front of the text was written.

@@ -1,4 +1,5 @@
--- A segment that has a cache is opened once more: what that call of the manager of segments comes to.
+-- A segment that has a cache is opened once more: what that call of the manager of segments comes
+-- to.
 use Rattle.std.proofs.Common.{◌≡◌, ◌==◌, ℕ, ◌+◌, ◌-◌, ◌≤◌, Bool, true, false, cond, List, [], ◌∷◌, ◌++◌, length, set, map, filter, Option, Some, None, refl, sym, ap, subst, ◌∙◌, arith, inl, inr}
 use Rattle.std.specs.Prelude.{◌||◌, IfNone, Ok, Err, Result, is_some, nat_le, not, option_map, replicate, slice_get, slice_set}
 use Rattle.std.specs.FinMap.{get}

@@ -106,8 +106,8 @@ module _ {Manager Mapper Chooser : Type 0} (M : GhostsOfMapper Mapper)
     pub rises : MapperCounts
     pub rose : Rise (M.counts before) (M.counts after) rises
 
-  -- What there is before each try: nothing was done yet; or the manager below had no room, as it was
-  -- at first, and some of the least recently used were destroyed.
+  -- What there is before each try: nothing was done yet; or the manager below had no room, as it
+  -- was at first, and some of the least recently used were destroyed.
   pub record Trying (c : Command) (before : Mapper) (old : SegManager Manager) (now : Mapper)
       (new : SegManager Manager) : Type 0 where
     pub thins : Thins before old now new

@@ -1,5 +1,5 @@
--- A fact of each answer of a row, from the fact of its refusals and of its end; and which of them it
--- is.
+-- A fact of each answer of a row, from the fact of its refusals and of its end; and which of them
+-- it is.
 use Rattle.std.proofs.Common.{◌≡◌, Bool, true, false, Option, Some, None, refl}
 use Rattle.vm_ids.specs.declared.refusal.Refusal.{Refusal}
 use Rattle.vm_model.specs.Answering as plain

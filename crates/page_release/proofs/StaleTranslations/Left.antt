@@ -83,8 +83,8 @@ not_at at (y ∷ ys) f none x i e =
 
 -- Before the pages are changed
 
--- What is left of the translations of some pages, sought before they are replaced, and of others that
--- are to get heirs.
+-- What is left of the translations of some pages, sought before they are replaced, and of others
+-- that are to get heirs.
 pub record AreReady (sought shared : NodeName → Type 0) (a : Arena) (s t : Store) : Type 0 where
   pub only : OnlyTables s t
   pub was : (place : ℕ) (e : Entry) → entry_at t.tables place ≡ Some e → WasEntered s place e
