@@ -4,7 +4,10 @@
 FOLDER gets a copy of the crate and of those below it, in which each call that it makes of these, and each of its own
 that STUBS names, calls itself alone, with a hole for its end. So its answers are read with all lemma files that they
 cite, without the proofs below, and the libraries are read as sources and not proved. A function that is right
-"depends on a hole" of these calls alone. What was read is kept in FOLDER/kept-CRATE."""
+"depends on a hole" of these calls alone. What was read is kept in FOLDER/kept-CRATE.
+
+--edit NAME makes the crate's must-fail edit of this name first; no call in a file that it changes is a hole then.
+--own leaves the crate's own calls as they are: those below alone are holes."""
 import os, re, shutil, subprocess, sys
 
 HERE = os.path.dirname(os.path.dirname(os.path.abspath(__file__)))
@@ -81,8 +84,25 @@ def stub(crate, name, stubs):
             with open(f"{crate}/proofs/{folder}/Answers.antt", "w") as f:
                 f.write(f"use {module}.Goals as goal\n\npub {it}-requires : goal.{it}-requires\n{it}-requires = ?\n")
 
+def edit(crate, name):
+    """makes a must-fail edit of a crate, and answers the files that it changes"""
+    file, old, texts = None, None, {}
+    for line in open(f"{HERE}/crates/{crate.split('/')[-1]}/must-fail/{name}.edit"):
+        line = line.rstrip("\n")
+        if line.startswith("file: "):
+            file = line[6:]
+        elif line.startswith("old: "):
+            old = line[5:]
+        elif line.startswith("new:"):
+            text = texts.get(file) or open(f"{crate}/{file}").read()
+            assert text.count(old) == 1, (file, old)
+            texts[file] = text.replace(old, line[5:])
+    for file, text in texts.items():
+        open(f"{crate}/{file}", "w").write(text)
+    return [file.removeprefix("src/") for file in texts]
+
 def main():
-    to, name = os.path.abspath(sys.argv[1]), sys.argv[2]
+    to, name, given, changed = os.path.abspath(sys.argv[1]), sys.argv[2], sys.argv[3:], []
     below = []
     for it in BELOW:
         if it == name:
@@ -92,7 +112,13 @@ def main():
         for part in ("src", "specs", "proofs"):
             shutil.rmtree(f"{to}/{it}/{part}", ignore_errors=True)
             shutil.copytree(f"{HERE}/crates/{it}/{part}", f"{to}/{it}/{part}")
-        stub(f"{to}/{it}", it, STUBS.get(it, []) + ABOVE.get(name, {}).get(it, []))
+        if it == name and "--edit" in given:
+            at = given.index("--edit")
+            changed = edit(f"{to}/{it}", given[at + 1])
+            del given[at : at + 2]
+        stubs = STUBS.get(it, []) + ABOVE.get(name, {}).get(it, [])
+        stub(f"{to}/{it}", it, [one for one in stubs if it != name or one[0] not in changed and "--own" not in given])
+    given = [it for it in given if it != "--own"]
     args = [f"{KIT}/bin/rattle", "check", "--crate-name", name, "src/lib.rt", "--extern", f"std={KIT}/rlibs/std.rlib",
             "--extern", f"vm_ids={HERE}/crates/vm_ids/out/rlib/vm_ids.rlib", "-L", f"dependency={KIT}/rlibs"]
     if "residency" in below:
@@ -105,6 +131,6 @@ def main():
         args += ["--lib", f"{it}:{BELOW[it]}=../{it}/src/lib.rt"]
     args += ["--antt-project", f"{KIT}/rattle/logic/antt-project.json", "--logic-built", f"{KIT}/logic_built",
              "--links", f"{name}=", "--incremental", f"{to}/kept-{name}"]
-    sys.exit(subprocess.run(args + sys.argv[3:], cwd=f"{to}/{name}").returncode)
+    sys.exit(subprocess.run(args + given, cwd=f"{to}/{name}").returncode)
 
 main()
