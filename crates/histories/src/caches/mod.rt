@@ -1,0 +1,4 @@
+// Each call once, and many calls beside a plain form.
+mod calls;
+mod drawn;
+mod slow;
