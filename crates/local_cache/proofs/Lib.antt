@@ -60,5 +60,3 @@ pub mod MadePages
 pub mod NodesCome
 -- Nodes under each other's names.
 pub mod Exchanged
--- The calls that change cells.
-pub mod OnCells

@@ -133,16 +133,6 @@ module _ (x : Arena) (p q : NodeId) (ne : p ≢ q) where
       ∙ puts (f (cell x p)) (g (cell x q))
       ∙ ap (λ (c : Cell). put (put x q (g (cell x q))) p (f c)) (sym (cell-put_other x q p (g (cell x q)) ne))
 
-  -- a changed cell, and a new node
-  put_new : (c : Cell) (name : NodeName) (s : OwnState) → with_new (put x p c) q name s ≡ put (with_new x q name s) p c
-  unfolding put with_new
-  put_new c name s = λ i. record (with_new x q name s) { cells = inserts x.cells p.0 q.0 c (new_cell name s) (differ p q ne) i }
-
-  pub change_new : (f : Cell → Cell) (name : NodeName) (s : OwnState) → with_new (put x p (f (cell x p))) q name s ≡ put (with_new x q name s) p (f (cell (with_new x q name s) p))
-  change_new f name s =
-      put_new (f (cell x p)) name s
-      ∙ ap (λ (c : Cell). put (with_new x q name s) p (f c)) (sym (cell_by x (with_new x q name s) p (find-new_other x q p name s ne)))
-
   -- a changed cell, and a new working node
   put_working : (c : Cell) → with_working (put x p c) q ≡ put (with_working x q) p c
   unfolding put with_new
@@ -165,38 +155,3 @@ module _ (x : Arena) (p q : NodeId) (ne : p ≢ q) where
   change_without f =
       put_without (f (cell x p))
       ∙ ap (λ (c : Cell). put (without x q) p (f c)) (sym (cell_by x (without x q) p (find-without_other x q p ne)))
-
-  -- a new node of a page, and a node of another page of the cache that goes
-  pub new_without : (cache : CacheId) (page other : PageNo) (s : OwnState) → (cell x q).name ≡ Live cache other → page.0 ≢ other.0 → 1 ≤ x.room.nodes
-      → without (with_new x p (Live cache page) s) q ≡ with_new (without x q) p (Live cache page) s
-  unfolding with_new without
-  new_without cache page other s named pages room =
-      let name : (cell (with_new x p (Live cache page) s) q).name ≡ Live cache other = ap (λ (c : Cell). c.name) (cell_by x (with_new x p (Live cache page) s) q (find-new_other x p q (Live cache page) s back)) ∙ named in
-      let tables : tables_with (tables_with x.caches (Live cache page) (Some p)) (cell (with_new x p (Live cache page) s) q).name None ≡ tables_with (tables_with x.caches (cell x q).name None) (Live cache page) (Some p) =
-      ap (λ (y : NodeName). tables_with (tables_with x.caches (Live cache page) (Some p)) y None) name
-      ∙ pages_pass x.caches cache.0 page.0 other.0 (Some p) None pages
-      ∙ ap (λ (y : NodeName). tables_with (tables_with x.caches y None) (Live cache page) (Some p)) (sym named) in
-      let nodes : x.room.nodes - 1 + 1 ≡ x.room.nodes + 1 - 1 = omega arith in
-      λ i. record x {
-        cells = removes x.cells p.0 q.0 (new_cell (Live cache page) s) (differ p q ne) i;
-        caches = tables i;
-        room = record x.room { nodes = nodes i };
-      }
-
--- a new working node, and a node that goes for a new one
-pub working_renewed : (x : Arena) (w d n : NodeId) (name : NodeName) (s : OwnState) → w ≢ d → w ≢ n
-    → with_new (without (with_working x w) d) n name s ≡ with_working (with_new (without x d) n name s) w
-unfolding with_new without
-working_renewed x w d n name s w_d w_n =
-    let old : (cell (with_working x w) d).name ≡ (cell x d).name = ap (λ (c : Cell). c.name) (cell_by x (with_working x w) d (find-working_other x w d (λ e. w_d (sym e)))) in
-    let work : Cell = new_cell (Working (x.made + 1)) Absent in
-    let cells : map.insert (map.remove (map.insert x.cells w.0 work) d.0) n.0 (new_cell name s) ≡ map.insert (map.insert (map.remove x.cells d.0) n.0 (new_cell name s)) w.0 work =
-    ap (λ (m : FinMap nat_cmp Cell). map.insert m n.0 (new_cell name s)) (removes x.cells w.0 d.0 work (differ w d w_d))
-    ∙ inserts (map.remove x.cells d.0) w.0 n.0 work (new_cell name s) (differ w n w_n) in
-    let nodes : x.room.nodes - 1 + 1 - 1 ≡ x.room.nodes + 1 - 1 - 1 = omega arith in
-    λ i. record x {
-      cells = cells i;
-      caches = tables_with (tables_with x.caches (old i) None) name (Some n);
-      made = x.made + 1;
-      room = record x.room { nodes = nodes i };
-    }

@@ -18,13 +18,6 @@ use Rattle.tree_merge.proofs.Leaving.Sizes.{sizes_retired}
 use Rattle.tree_merge.proofs.Releases.{retire_released}
 
 module _ (a b : Arena) (cache : CacheId) (page : PageNo) (r : Released) where
-  -- as what retiring says of it
-  pub retired_alone : IsSome (node_at a cache.0 page.0) → forest_of b ≡ retire (forest_of a) (Live cache page) → IsSound b → ((n : NodeId) → node_at a cache.0 page.0 ≡ Some n → IsRetired a b n r) → IsReleased a b r → IsVacant b cache page
-      → IsRetiredAlone a b cache page r
-  retired_alone some forest sound retired told vacant =
-      let n = some_of (node_at a cache.0 page.0) some in
-      record { forest = forest; sound = sound; vacant = vacant; node = n.0; at = n.1; retired = retired n.0 n.1; told = told }
-
   -- as what retiring its node says
   pub node_alone : IsSound a → (n : NodeId) → node_at a cache.0 page.0 ≡ Some n → forest_of b ≡ retire (forest_of a) (name_of a n) → IsSound b → IsRetired a b n r → IsRetiredAlone a b cache page r
   node_alone was n at forest sound retired = record {
