@@ -1,6 +1,6 @@
 -- A node without children leaves its parent, and is as new: as if it went, and a fresh one came for
 -- its page under the same number.
-use Rattle.std.proofs.Common.{◌≡◌, ◌≢◌, ℕ, zero, suc, ◌+◌, ◌-◌, Bool, true, false, eqb, cond, set, get_or, List, [], ◌∷◌, length, map, Option, Some, None, is_some, option_map, refl, sym, ap, ◌∙◌, subst, arith}
+use Rattle.std.proofs.Common.{◌≡◌, ℕ, zero, suc, ◌+◌, ◌-◌, Bool, true, false, eqb, cond, set, get_or, List, [], ◌∷◌, length, map, Option, Some, None, option_map, refl, sym, ap, ◌∙◌, subst, arith}
 use Rattle.std.specs.Prelude.{option_and_then, slice_get, slice_set}
 use Rattle.std.proofs.lemmas.List.{set-get_or, set-set}
 use Rattle.std.specs.Ordering.{nat_cmp}
@@ -15,10 +15,10 @@ use Rattle.vm_ids.specs.Forest.Changes.{cut, free}
 use Rattle.vm_ids.specs.Forest.NameLists as names
 use Rattle.vm_ids.specs.Forest.Nodes.{child_count, node}
 use Rattle.vm_ids.specs.Forest.Nodes.Hang.{TreeOf}
-use Rattle.vm_ids.specs.Forest.Rules.{detach, retire}
+use Rattle.vm_ids.specs.Forest.Rules.{retire}
 use Rattle.local_cache.specs.declared.own_state.OwnState.{OwnState}
 use Rattle.local_cache.specs.declared.page_entry.PageEntry.{PageEntry}
-use Rattle.local_cache.specs.Arena.{Arena, Cell, HasNode, IsVacant, Table, cache_with, cell, entry_at, find, hung, new_cell, no_links, node_at, put, table_at, table_with, tables_with, with_new, without}
+use Rattle.local_cache.specs.Arena.{Arena, Cell, HasNode, IsVacant, Table, cache_with, cell, entry_at, find, hung, new_cell, node_at, put, table_at, table_with, tables_with, with_new, without}
 use Rattle.local_cache.specs.Changes.{Rehung}
 use Rattle.local_cache.specs.NodeCells.{exchanged, renewed}
 use Rattle.local_cache.specs.OnCells.{cut_from, on_cell}
@@ -131,10 +131,6 @@ new_again e d cache page s name at =
 -- One leaf
 
 module _ (a : Arena) (sound : IsSound a) (d : NodeId) (held : HasNode a d) (parent : Option NodeId) (leaf : IsLeafOf parent (cell a d)) where
-  -- without the node among its parent's children
-  abbrev left : Arena
-  left = cut_from a parent d None
-
   childless : child_count (forest_of a) (name_of a d) ≡ 0
   childless = counted a sound d held ∙ omega (arith, ap (λ (ms : List NodeId). length ms) leaf.tree, ap (λ l. l.stubs) leaf.links)
 

@@ -31,9 +31,6 @@ module _ (a b : Arena) (sound : IsSound a) (consistent : IsConsistent (forest_of
   abbrev x : NodeName
   x = Live to to_page
 
-  abbrev y : NodeName
-  y = Live from from_page
-
   other : name_of a s ≢ Live to to_page
   other e = pages.apart (sym e ∙ named)
 

@@ -1,16 +1,14 @@
 -- One page is moved after the other.
-use Rattle.std.proofs.Common.{◌≡◌, ◌≢◌, ℕ, zero, suc, ◌+◌, ◌<◌, ◌≤◌, [], Option, Some, None, is_some, refl, sym, ap, ◌∙◌, subst, arith}
+use Rattle.std.proofs.Common.{◌≡◌, ℕ, zero, suc, ◌+◌, ◌<◌, ◌≤◌, [], Option, Some, None, is_some, refl, sym, ap, ◌∙◌, subst, arith}
 use Rattle.vm_ids.specs.declared.command.Span.{Span}
-use Rattle.vm_ids.specs.declared.node_name.NodeName.{NodeName}
 use Rattle.vm_ids.specs.declared.numbers.CacheId.{CacheId}
 use Rattle.vm_ids.specs.declared.numbers.NodeId.{NodeId}
 use Rattle.vm_ids.specs.Forest.Commands.{move_pages, page_name, page_pairs}
 use Rattle.vm_ids.specs.Forest.Nodes.{Forest}
 use Rattle.vm_ids.specs.Forest.Rules.{move_page}
-use Rattle.vm_ids.specs.Forest.Shape.{IsConsistent}
 use Rattle.local_cache.specs.declared.own_state.OwnState.{OwnState}
 use Rattle.local_cache.specs.declared.own_state.OwnState.TheVariants.{Zero}
-use Rattle.local_cache.specs.Arena.{Arena, Cell, HasNode, cell, find}
+use Rattle.local_cache.specs.Arena.{Arena, Cell, cell, find}
 use Rattle.local_cache.specs.ManyNodes.{each, next_if, next_node}
 use Rattle.local_cache.specs.NodeCells.{renewed}
 use Rattle.local_cache.specs.OnCells.{cut_from, exchanged_names, on_cell}
@@ -21,7 +19,7 @@ use Rattle.tree_merge.proofs.CopiedPages.Changes.{cell_by}
 use Rattle.tree_merge.proofs.CopiedPages.Kinds.{page_by}
 use Rattle.tree_merge.proofs.CopiedPages.Rows.{Pass, pass_itself}
 use Rattle.tree_merge.proofs.LeafRenewed.{parent_listed}
-use Rattle.move_pages.specs.Moving.{AreMoved, CanMoveMany, moved_many, part_of}
+use Rattle.move_pages.specs.Moving.{AreMoved, CanMoveMany, moved_many}
 use Rattle.move_pages.proofs.MovedPages.Changes.{each_moved, moving}
 use Rattle.move_pages.proofs.MovedPages.OnePage.{CanMoveLeaf, LeafMoved, leaf_moved}
 
@@ -42,10 +40,6 @@ pairs_more zeros c p d q (suc k) f =
 module _ (a : Arena) (d s : NodeId) (span : Span) (can : CanMoveMany a d s span) where
   abbrev parent : Option NodeId
   parent = (cell a d).links.parent
-
-  -- the first pages of the span
-  abbrev firsts : ℕ → Span
-  firsts k = record span { pages = k }
 
   -- a node is none of those that the nodes of the first pages hang on
   abbrev IsAbove : Option NodeId → NodeId → ℕ → Type 0

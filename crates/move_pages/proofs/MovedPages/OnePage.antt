@@ -1,7 +1,6 @@
 -- One page is moved whose old node has no children, and is none or zeros: that is the source's node
 -- as new.
-use Rattle.std.proofs.Common.{◌≡◌, ◌≢◌, List, [], ◌∷◌, Option, Some, None, is_some, refl, sym, ap, ◌∙◌, subst, inl, inr}
-use Rattle.std.specs.List.{cons_option}
+use Rattle.std.proofs.Common.{◌≡◌, ◌≢◌, Option, Some, None, is_some, refl, sym, ap, ◌∙◌, subst}
 use Rattle.vm_ids.specs.declared.node_name.NodeName.{NodeName}
 use Rattle.vm_ids.specs.declared.node_name.NodeName.TheVariants.{Live}
 use Rattle.vm_ids.specs.declared.numbers.CacheId.{CacheId}
@@ -16,7 +15,7 @@ use Rattle.local_cache.specs.NodeCells.{exchanged, named, over, renewed}
 use Rattle.local_cache.specs.OnCells.{cut_from, exchanged_names, on_cell}
 use Rattle.local_cache.specs.Own.{own_of}
 use Rattle.local_cache.specs.Reading.{forest_of, name_of}
-use Rattle.local_cache.specs.Sound.{IsSound, ◌∈◌}
+use Rattle.local_cache.specs.Sound.{IsSound}
 use Rattle.local_cache.proofs.Forest.Reading.{IsNode-forest_of}
 use Rattle.local_cache.proofs.Nodes.Cells.{cell-put, find-put, find-put_other}
 use Rattle.tree_merge.specs.declared.released.Released.TheVariants.{Dropped}

@@ -1,8 +1,6 @@
 -- One page is copied after the other.
 use Rattle.std.specs.Prelude.{IfSome}
 use Rattle.std.proofs.Common.{◌≡◌, ◌≢◌, ℕ, zero, suc, ◌+◌, ◌<◌, ◌≤◌, false, List, [], ◌∷◌, map, Option, Some, None, is_some, refl, sym, ap, ◌∙◌, subst, arith, inl, inr}
-use Rattle.vm_ids.specs.declared.node_name.NodeName.{NodeName}
-use Rattle.vm_ids.specs.declared.node_name.NodeName.TheVariants.{Live}
 use Rattle.vm_ids.specs.declared.numbers.CacheId.{CacheId}
 use Rattle.vm_ids.specs.declared.numbers.NodeId.{NodeId}
 use Rattle.vm_ids.specs.declared.numbers.PageNo.{PageNo}
@@ -16,8 +14,7 @@ use Rattle.local_cache.specs.Many.{HaveNone}
 use Rattle.local_cache.specs.ManyNodes.{each, next_if, next_node}
 use Rattle.local_cache.specs.NodeCells.{exchanged, renewed, tree_of, with_child}
 use Rattle.local_cache.specs.OnCells.{on_cell}
-use Rattle.local_cache.specs.Own.{own_of}
-use Rattle.local_cache.specs.Reading.{forest_of, name_of}
+use Rattle.local_cache.specs.Reading.{forest_of}
 use Rattle.local_cache.specs.Sound.{IsSound, ◌∈◌}
 use Rattle.local_cache.proofs.Tables.Sizes.{sizes_same, sizes_then}
 use Rattle.tree_merge.specs.Copying.{AreApart, AreSameOrApart, CanCopyMany, IsEmpty, IsLeafOf, copied_many, page_after}

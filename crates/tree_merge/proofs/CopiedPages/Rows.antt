@@ -1,5 +1,5 @@
 -- Rows of nodes of which no two have a node in common, but for those of one page.
-use Rattle.std.proofs.Common.{◌≡◌, ◌≢◌, ℕ, ◌+◌, ◌<◌, List, [], ◌∷◌, Option, Some, None, sym, ap, subst, arith, inl, inr}
+use Rattle.std.proofs.Common.{◌≡◌, ◌≢◌, ℕ, ◌+◌, ◌<◌, List, [], ◌∷◌, sym, ap, subst, arith, inl, inr}
 use Rattle.vm_ids.specs.declared.numbers.NodeId.{NodeId}
 use Rattle.local_cache.specs.ManyNodes.{next_node}
 use Rattle.local_cache.specs.Sound.{◌∈◌}

@@ -141,9 +141,6 @@ module _ (a : Arena) (w y : NodeId) (count : ℕ) (can : CanGiveMany a w y count
   abbrev parents : Option NodeId
   parents = (cell a w).links.parent
 
-  abbrev step : Kind
-  step = gives (cell a w).links.parent w y (own_of a w)
-
   abbrev done : ℕ → Arena
   done k = each (gives (cell a w).links.parent w y (own_of a w)) k a
 

@@ -1,6 +1,5 @@
 -- A node was renewed for a copy, and is to be hung on its source's.
-use Rattle.std.proofs.Common.{◌≡◌, ◌≢◌, ◌+◌, ◌≤◌, Bool, true, false, Some, None, sym, ap, ◌∙◌, subst}
-use Rattle.vm_ids.specs.declared.node_name.NodeName.{NodeName}
+use Rattle.std.proofs.Common.{◌≡◌, ◌≢◌, ◌+◌, ◌≤◌, Bool, true, Some, None, sym, ap, ◌∙◌, subst}
 use Rattle.vm_ids.specs.declared.node_name.NodeName.TheVariants.{Live}
 use Rattle.vm_ids.specs.declared.numbers.CacheId.{CacheId}
 use Rattle.vm_ids.specs.declared.numbers.NodeId.{NodeId}

@@ -1,17 +1,15 @@
 -- A page was retired alone.
-use Rattle.std.proofs.Common.{◌≡◌, ◌≤◌, Some, IsSome, ap, ◌∙◌}
-use Rattle.vm_ids.specs.declared.node_name.NodeName.TheVariants.{Live}
+use Rattle.std.proofs.Common.{◌≡◌, ◌≤◌, Some, ap, ◌∙◌}
 use Rattle.vm_ids.specs.declared.numbers.CacheId.{CacheId}
 use Rattle.vm_ids.specs.declared.numbers.NodeId.{NodeId}
 use Rattle.vm_ids.specs.declared.numbers.PageNo.{PageNo}
 use Rattle.vm_ids.specs.Forest.Rules.{retire}
-use Rattle.local_cache.specs.Arena.{Arena, IsVacant, node_at}
+use Rattle.local_cache.specs.Arena.{Arena, node_at}
 use Rattle.local_cache.specs.Reading.{forest_of, name_of}
 use Rattle.local_cache.specs.Sound.{IsSound}
 use Rattle.local_cache.specs.Whole.{SameCaches}
-use Rattle.local_cache.proofs.NewCache.FoundPages.{some_of}
 use Rattle.tree_merge.specs.declared.released.Released.{Released}
-use Rattle.tree_merge.specs.Releasing.{IsReleased, IsRetired}
+use Rattle.tree_merge.specs.Releasing.{IsRetired}
 use Rattle.tree_merge.specs.Stepping.{IsRetiredAlone}
 use Rattle.tree_merge.proofs.Leaving.Detached.{page_held, page_name, retired_room, retired_vacant}
 use Rattle.tree_merge.proofs.Leaving.Sizes.{sizes_retired}

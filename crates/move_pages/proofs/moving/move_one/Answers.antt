@@ -1,7 +1,6 @@
-use Rattle.std.proofs.Common.{◌≡◌, sym, subst}
+use Rattle.std.proofs.Common.{sym, subst}
 use Rattle.vm_ids.specs.declared.node_name.NodeName.TheVariants.{Live}
 use Rattle.vm_ids.specs.Forest.Laws.Linking.{ArePages}
-use Rattle.local_cache.specs.Arena.{Arena, HasNode}
 use Rattle.local_cache.specs.Reading.{forest_of, name_of}
 use Rattle.local_cache.proofs.Whole.LivePages.{page_there}
 use Rattle.move_pages.proofs.moving.move_one.Goals as goal

@@ -1,4 +1,4 @@
-use Rattle.std.proofs.Common.{◌≡◌, ◌≤◌, ◌<◌, ◌∙◌, subst, arith}
+use Rattle.std.proofs.Common.{◌≤◌, ◌∙◌, subst, arith}
 use Rattle.local_cache.specs.Arena.{Arena}
 use Rattle.local_cache.specs.Many.{AreAlike}
 use Rattle.tree_merge.specs.Copyable.{AreLeaves}

@@ -1,4 +1,4 @@
-use Rattle.std.proofs.Common.{◌+◌, ◌≤◌, ◌^◌, arith}
+use Rattle.std.proofs.Common.{◌≤◌, arith}
 use Rattle.tree_merge.proofs.AlikeNodes.{alike_leaves, fewer}
 use Rattle.tree_merge.proofs.lone.leaf_nodes.Goals as goal
 

@@ -1,4 +1,4 @@
-use Rattle.std.proofs.Common.{◌≡◌, ◌<◌, subst, arith}
+use Rattle.std.proofs.Common.{◌≡◌, subst, arith}
 use Rattle.local_cache.specs.Arena.{Arena}
 use Rattle.tree_merge.specs.Copyable.{AreCopyable}
 use Rattle.tree_merge.proofs.stepping.copied_at_once.Goals as goal

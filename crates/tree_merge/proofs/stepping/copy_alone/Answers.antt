@@ -1,4 +1,4 @@
-use Rattle.std.proofs.Common.{◌≡◌, ◌+◌, ◌≤◌, sym, subst, arith}
+use Rattle.std.proofs.Common.{sym, subst, arith}
 use Rattle.local_cache.specs.Reading.{name_of}
 use Rattle.tree_merge.specs.Stepping.{IsHung}
 use Rattle.tree_merge.proofs.PagesAlone.Hung.{hung_alone, renewed_apart, renewed_bare, renewed_held, renewed_made, renewed_room, renewed_sound, source_held, source_live}

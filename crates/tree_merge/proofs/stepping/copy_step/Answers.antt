@@ -1,5 +1,4 @@
-use Rattle.std.proofs.Common.{◌≡◌, ◌+◌, ◌-◌, ◌*◌, ◌≤◌, ◌<◌, ◌^◌, sym, ap, subst, arith, ◌∙◌}
-use Rattle.vm_ids.specs.declared.node_name.NodeName.TheVariants.{Live}
+use Rattle.std.proofs.Common.{◌+◌, ◌-◌, sym, ap, subst, arith, ◌∙◌}
 use Rattle.vm_ids.specs.Forest.Commands.{page_name}
 use Rattle.vm_ids.specs.Forest.Laws.Linking.{ArePages}
 use Rattle.vm_ids.specs.Forest.Shape.{IsConsistent}
@@ -9,7 +8,7 @@ use Rattle.local_cache.specs.Reading.{forest_of, name_of}
 use Rattle.local_cache.specs.Sound.{IsSound}
 use Rattle.tree_merge.specs.Copyable.{AreCopyable}
 use Rattle.tree_merge.specs.Copying.{page_after}
-use Rattle.tree_merge.specs.Stepping.{AreCopied, IsCopiedAlone, IsCopyStep}
+use Rattle.tree_merge.specs.Stepping.{AreCopied, IsCopiedAlone}
 use Rattle.tree_merge.proofs.CopiedPages.AtOnce.{destination_there, source_there}
 use Rattle.tree_merge.proofs.PagesAlone.Steps.{copied_all, copied_one}
 use Rattle.tree_merge.proofs.stepping.copy_step.Goals as goal
