@@ -25,7 +25,8 @@ ABOVE = {
         "residency": [("store.rt", "Store", ["give_back_frame", "unbind", "rekey", "give_back_slot"])],
     },
 }
-STORE = ["vm_port", "number_pool", "frame_pool", "slot_pool", "probe_table", "global_map", "page_tables"]
+STORE = {"vm_port": "std,vm_ids", "number_pool": "std,vm_ids", "frame_pool": "std,vm_ids,number_pool", "slot_pool": "std,vm_ids,number_pool",
+         "probe_table": "std,vm_ids", "global_map": "std,vm_ids,probe_table", "page_tables": "std,vm_ids,probe_table"}
 BELOW = {"stretches": "std", "linear_index": "std", "least_heap": "std", "mixed_map": "std,stretches,linear_index",
          "local_cache": "std,vm_ids,least_heap,mixed_map,stretches", "page_stubs": "std,vm_ids,local_cache",
          "history_tree": "std,vm_ids,local_cache", "tree_merge": "std,vm_ids,local_cache,page_stubs,history_tree",
@@ -95,8 +96,11 @@ def main():
     args = [f"{KIT}/bin/rattle", "check", "--crate-name", name, "src/lib.rt", "--extern", f"std={KIT}/rlibs/std.rlib",
             "--extern", f"vm_ids={HERE}/crates/vm_ids/out/rlib/vm_ids.rlib", "-L", f"dependency={KIT}/rlibs"]
     if "residency" in below:
-        for it in STORE:
-            args += ["--extern", f"{it}={HERE}/crates/{it}/out/rlib/{it}.rlib"]
+        for it, used in STORE.items():
+            if os.path.exists(f"{HERE}/crates/{it}/out/rlib/{it}.rlib"):
+                args += ["--extern", f"{it}={HERE}/crates/{it}/out/rlib/{it}.rlib"]
+            else:
+                args += ["--lib", f"{it}:{used}={HERE}/crates/{it}/src/lib.rt"]
     for it in below:
         args += ["--lib", f"{it}:{BELOW[it]}=../{it}/src/lib.rt"]
     args += ["--antt-project", f"{KIT}/rattle/logic/antt-project.json", "--logic-built", f"{KIT}/logic_built",

@@ -1,7 +1,7 @@
 use Rattle.std.proofs.Common.{◌≡◌, ◌+◌, ℕ, subst, arith}
 use Rattle.std.specs.Prelude.{IsSome}
 use Rattle.std.specs.FinMap as map
-use Rattle.mixed_map.proofs.tests.remove.Goals as goal
+use Rattle.histories.proofs.mixed_maps.remove.Goals as goal
 
 pub remove_range-requires-clause-held : goal.remove_range-requires-clause-held
 remove_range-requires-clause-held c k less =
