@@ -92,8 +92,6 @@ module _ (m : Cells) where
       let beyond = b owner there.0 in
       (beyond.0, omega (arith, there.1, beyond.1))
 
-  ]
-
   -- How many nodes without an own page there are on the way up, as far as so many
 
   abbrev pub way : ℕ → ℕ → ℕ

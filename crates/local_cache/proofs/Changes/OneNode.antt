@@ -146,8 +146,6 @@ module _ (a : Arena) (kept : IsKept a) (n : NodeId) (h : HasNode a n) where
   pub own-kept : (s : OwnState) → IsKept (with_own a n s)
   own-kept s = edit-kept a kept n (record (cell a n) { own = s }) (own_fits s)
 
-  }
-
   tree_fits : (ts : List NodeId) → ((m : NodeId) → m ∈ ts → HasNode a m) → Fits a n (record (cell a n) { tree = ts })
   tree_fits ts all = record { held = h; name = refl; first = refl; last = refl; stubs = refl; place = inr refl; parents = λ p e. kept.parents n p h e; children = all }
 
