@@ -104,8 +104,6 @@ some_mapped : {A B : Type 0} (v : A → B) (o : Option A) → is_some (option_ma
 some_mapped v None = refl
 some_mapped v (Some x) = refl
 
-)
-
 -- one more node that stands alone
 pub said_first : (t : Table) (n : ℕ) (r : Run) → IsStandingAs t n r → AreSaidBy t n r 1
 said_first t n r one k less =
@@ -115,5 +113,3 @@ said_first t n r one k less =
     let Q : ℕ → Type 0 = λ j. IsStandingAs t n (run_after r j) in
     let R : ℕ → Type 0 = λ q. IsStandingAs t q (run_after r k) in
     subst R here (subst Q (sym zero_on) (subst P (sym (run_goes_on.starts r)) one))
-
-]
