@@ -58,7 +58,7 @@ fn entries_stand_alone_or_in_stretches(rt: HostRuntime) -> Result<(), Fail> {
     }
     assert_eq!(rt; frame_of(&pages, 20), Some(700));
     assert_eq!(rt; frame_of(&pages, 21), Some(900));
-    assert!(rt; pages.stretch_from(20).is_none());
+    assert!(rt; pages.stretch_from(21).is_none());
     let rest = pages
         .stretch_from(22)
         .expect(&rt, "22 and 23 are in a stretch");
