@@ -1,6 +1,6 @@
 // A page without children, and pages that are copied or retired at once.
-use tree_merge::{Released, Step, copy_step, retire, retire_step, settle_step};
 use local_cache::{Caches, OwnState};
+use tree_merge::{Released, Step, copy_step, retire, retire_step, settle_step};
 use vm_ids::{Extent, PageNo, Span};
 
 #[test]

@@ -58,7 +58,7 @@ fn entries_stand_alone_or_in_stretches(rt: HostRuntime) -> Result<(), Fail> {
     }
     assert_eq!(rt; frame_of(&pages, 20), Some(700));
     assert_eq!(rt; frame_of(&pages, 21), Some(900));
-    assert!(rt; pages.stretch_from(20).is_none());
+    assert!(rt; pages.stretch_from(21).is_none());
     let rest = pages
         .stretch_from(22)
         .expect(&rt, "22 and 23 are in a stretch");
@@ -76,7 +76,7 @@ fn entries_stand_alone_or_in_stretches(rt: HostRuntime) -> Result<(), Fail> {
 }
 
 // The pages of the many calls are below this one.
-const PAGES: u64 = 300;
+const PAGES: u32 = 300;
 
 // The frame of each page below 300, in the plainest form.
 #[derive(Drop)]
@@ -220,8 +220,8 @@ fn call_both(
     requires { pages.old.count + free.old ≤ pages.old.room }
     ensures { pages.new.count + free.new ≤ pages.new.room }
 {
-    let page = draws.below(PAGES);
-    let number = page + 1_000 * draws.below(2);
+    let page = draws.below(PAGES) as u64;
+    let number = page + 1_000 * draws.below(2) as u64;
     match draws.below(6) {
         0 => remove_both(pages, plain, page, free),
         1 => set_both(pages, plain, page, number, free),
@@ -249,7 +249,7 @@ fn the_plain_form_says_the_same(rt: HostRuntime) -> Result<(), Fail> {
     pages.reserve(304)?;
     for _ in 0..10_000 {
         call_both(&mut pages, &mut plain, &mut draws, &mut free);
-        let page = draws.below(PAGES);
+        let page = draws.below(PAGES) as u64;
         assert_eq!(rt; frame_of(&pages, page), plain.get(page));
     }
     Ok(())

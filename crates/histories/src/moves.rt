@@ -1,6 +1,6 @@
 // Pages are moved over others, one by one and many at once.
-use move_pages::{move_one, move_step};
 use local_cache::{Caches, OwnState};
+use move_pages::{move_one, move_step};
 use tree_merge::Released;
 use vm_ids::{PageNo, Span};
 

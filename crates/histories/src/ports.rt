@@ -1,10 +1,10 @@
 // Each object in memory once on its happy path, and its faults where it was told to have them.
+use std::test::Fail;
+use vm_ids::{PageNo, SegId, SlotId};
 use vm_port::{
     CallKind, CallNo, Chooser, Clock, Dispatcher, Failed, Fifo, Listed, ListedTurns, Mapper,
     MemoryMapper, MemorySink, MemorySource, Rotor, Sink, Source, WrongMapper,
 };
-use std::test::Fail;
-use vm_ids::{PageNo, SegId, SlotId};
 
 #[test]
 fn a_source_gives_its_bytes_in_chunks(rt: HostRuntime) {

@@ -2,9 +2,9 @@
 ghost use Rattle.std.specs.Prelude.{◌<◌, false, Some};
 ghost use Rattle.histories.specs.Postponed.{actor_in, few_actors, fronts_read, postponed};
 
-use line_service::{Ended, Service, answer_made, replay};
 use actor_script::{Gen, Tally};
 use gmi_calls::Delivered;
+use line_service::{Ended, Service, answer_made, replay};
 use pull_wait::PullWait;
 use std::alloc::Global;
 use std::test::Fail;

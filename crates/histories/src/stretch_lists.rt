@@ -6,11 +6,11 @@ ghost use Rattle.stretches.specs.Stretch.{IsFit};
 ghost use Rattle.stretches.specs.Stretches.{HasPlaces, number_count};
 
 use crate::draws::Draws;
-use stretches::{Rising, Stretch, StretchList};
 use std::test::Fail;
+use stretches::{Rising, Stretch, StretchList};
 
 // The numbers of the many calls are below this one.
-const NUMBERS: u64 = 2_000;
+const NUMBERS: u32 = 2_000;
 
 #[test]
 fn a_stretch_tells_each_number(rt: HostRuntime) -> Result<(), Fail> {
@@ -71,7 +71,7 @@ impl PlainList {
 
     // The first number from this one on of which something is said.
     fn next_from(&self, number: u64) -> Option<u64> {
-        (number..NUMBERS).find(|number| self.get(*number).is_some())
+        (number..NUMBERS as u64).find(|number| self.get(*number).is_some())
     }
 
     // Says of some numbers a value that rises with them.
@@ -165,8 +165,8 @@ fn call_both(
     requires { number_count list.old.list + free.old ≤ list.old.places }
     ensures { number_count list.new.list + free.new ≤ list.new.places }
 {
-    let number = draws.below(NUMBERS);
-    let value = number + 10_000 * draws.below(2);
+    let number = draws.below(NUMBERS) as u64;
+    let value = number + 10_000 * draws.below(2) as u64;
     match draws.below(9) {
         0 => list.split_at(number),
         1 => list.join_at(number),
@@ -176,7 +176,7 @@ fn call_both(
         _ => {
             let stretch = Stretch {
                 first: number,
-                count: 1 + draws.below(3) as u32,
+                count: 1 + draws.below(3),
                 value: Rising(value),
             };
             insert_both(list, plain, stretch, free)
@@ -195,7 +195,7 @@ fn the_plain_form_says_the_same(rt: HostRuntime) -> Result<(), Fail> {
     list.reserve(2_000)?;
     for _ in 0..10_000 {
         call_both(&mut list, &mut plain, &mut draws, &mut free);
-        let number = draws.below(NUMBERS);
+        let number = draws.below(NUMBERS) as u64;
         let value = list.get(number).map(|value| value.0);
         assert_eq!(rt; value, plain.get(number));
         let next = list.next_from(number).map(|next| next.first);

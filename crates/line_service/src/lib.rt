@@ -36,6 +36,7 @@ mod replaying;
 mod replies;
 mod service;
 mod tallying;
+
 pub use ended::Ended;
 pub use gathered::Gathered;
 pub use made::answer_made;

@@ -100,55 +100,9 @@ pub node_here : (o : Option NodeId) → next_if o 0 ≡ o
 node_here None = refl
 node_here (Some n) = (let e : n.0 + 0 ≡ n.0 = omega arith in λ i. Some (record { 0 = e i }))
 
--- one that stands alone
-pub member_one : (m : Cells) (n : ℕ) (c : Cell) (first : Member) → map.get m n ≡ Some c → first.count ≡ 1 → first.name ≡ c.name → first.child ≡ slice_get c.tree 0 → first.has_two ≡ is_some (slice_get c.tree 1) → AreAllMembers m n first
-member_one m n c first is one name child two = (
-  omega (arith, one),
-  λ k less.
-      let here : n + k ≡ n = omega (arith, less, one) in
-      let zero_on : k ≡ 0 = omega (arith, less, one) in
-      let at : map.get m (n + k) ≡ Some c = ap (map.get m) here ∙ is in
-      let cell : cell_at m (n + k) ≡ c = ap (λ (o : Option Cell). unwrap_or o blank) at in
-      record {
-        held = ap is_some at;
-        name = ap (λ (d : Cell). d.name) cell ∙ sym name ∙ sym (name_here first.name) ∙ ap (name_behind first.name) (sym zero_on);
-        child = ap (λ (d : Cell). slice_get d.tree 0) cell ∙ sym child ∙ sym (node_here first.child) ∙ ap (next_if first.child) (sym zero_on);
-        two = ap (λ (d : Cell). is_some (slice_get d.tree 1)) cell ∙ sym two;
-      },
-)
-
-further_each : (o : Option NodeId) (k : ℕ) → option_map (λ n. further n k) o ≡ further_if o k
-further_each None k = refl
-further_each (Some n) k = refl
-
 some_mapped : {A B : Type 0} (v : A → B) (o : Option A) → is_some (option_map v o) ≡ is_some o
 some_mapped v None = refl
 some_mapped v (Some x) = refl
-
--- those of a run
-pub member_run : (m : Cells) (n : ℕ) (r : Stretch Run) (first : Member) → r.first ≡ n → Tells run run_cell m r → 0 < first.count → first.count ≤ r.count → IfSome first.child (λ p. p.0 + first.count ≤ 2 ^ 64)
-    → first.name ≡ (run_cell r.value).name → first.child ≡ slice_get (run_cell r.value).tree 0 → first.has_two ≡ is_some (slice_get (run_cell r.value).tree 1) → AreAllMembers m n first
-member_run m n r first begins tells some few short name child two = (
-  some,
-  λ k less.
-      let at = told_at m n k r begins tells (omega (arith, less, few)) ∙ ap Some (run_cell_after r.value k) in
-      let cell = ap (λ (o : Option Cell). unwrap_or o blank) at in
-      let tree = (run_cell r.value).tree in
-      record {
-        held = ap is_some at;
-        name = ap (λ (d : Cell). d.name) cell ∙ ap (λ (x : NodeName). name_behind x k) (sym name);
-        child = ap (λ (d : Cell). slice_get d.tree 0) cell ∙ slice_get-map (λ (p : NodeId). further p k) tree 0
-            ∙ further_each (slice_get tree 0) k ∙ ap (λ (o : Option NodeId). further_if o k) (sym child)
-            ∙ further_next_if first.child k (number_below first.child k first.count less short);
-        two = ap (λ (d : Cell). is_some (slice_get d.tree 1)) cell ∙ ap is_some (slice_get-map (λ (p : NodeId). further p k) tree 1)
-            ∙ some_mapped (λ (p : NodeId). further p k) (slice_get tree 1) ∙ sym two;
-      },
-)
-
--- there are fewer names
-pub names_less : (x : RunName) (a b : ℕ) → a ≤ b → HasNames x b → HasNames x a
-names_less (Pages cache page) a b le h = omega (arith, le, h)
-names_less (Working k) a b le h = omega (arith, le, h)
 
 -- one more node that stands alone
 pub said_first : (t : Table) (n : ℕ) (r : Run) → IsStandingAs t n r → AreSaidBy t n r 1
@@ -159,9 +113,3 @@ said_first t n r one k less =
     let Q : ℕ → Type 0 = λ j. IsStandingAs t n (run_after r j) in
     let R : ℕ → Type 0 = λ q. IsStandingAs t q (run_after r k) in
     subst R here (subst Q (sym zero_on) (subst P (sym (run_goes_on.starts r)) one))
-
-pub said_more : (t : Table) (n : ℕ) (r : Run) (k : ℕ) → AreSaidBy t n r k → IsStandingAs t (n + k) (run_after r k) → AreSaidBy t n r (k + 1)
-said_more t n r k before one j less = elim (cases_eq j k) [
-  | inl same ↦ (let P : ℕ → Type 0 = λ i. IsStandingAs t (n + i) (run_after r i) in subst P (sym same) one)
-  | inr other ↦ before j (omega (arith, less, other))
-]

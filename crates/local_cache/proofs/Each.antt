@@ -3,10 +3,6 @@ use Rattle.std.proofs.Common.{◌≡◌, ℕ, zero, suc, ◌+◌, ◌<◌, refl,
 use Rattle.local_cache.specs.ManyNodes.{each}
 
 module _ {A B : Type 0} (f : A → B) (s : ℕ → A → A) (t : ℕ → B → B) where
-  -- what is seen of a value is done to by steps that are seen of its steps
-  pub each_seen : ((k : ℕ) (a : A) → f (s k a) ≡ t k (f a)) → (count : ℕ) (a : A) → f (each s count a) ≡ each t count (f a)
-  each_seen h zero a = refl
-  each_seen h (suc k) a = h k (each s k a) ∙ ap (t k) (each_seen h k a)
 
 module _ {A : Type 0} where
   -- steps that do the same come to the same

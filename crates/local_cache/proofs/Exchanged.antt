@@ -142,11 +142,6 @@ module _ (m : PageNodes) (n o : NodeId) (count : ℕ) (c1 c2 : CacheId) (p1 p2 :
   abbrev pub pages_after : ℕ → Pages
   pages_after k = with_pages (with_pages m.pages first_name o k) other_name n k
 
-  cell_still : (k q : ℕ) → n.0 + k ≤ q → o.0 + k ≤ q → map.get (cells_after k) q ≡ map.get m.cells q
-  cell_still k q far past =
-      each_behind (renamed_each m.cells n.0 other_name k) o.0 (λ j. named (name_behind first_name j)) k q past
-      ∙ each_behind m.cells n.0 (λ j. named (name_behind other_name j)) k q far
-
   -- a number that neither has yet is as it was
   cell_kept : (k q : ℕ) → ((j : ℕ) → j < k → q ≢ n.0 + j) → ((j : ℕ) → j < k → q ≢ o.0 + j) → map.get (cells_after k) q ≡ map.get m.cells q
   cell_kept k q far past = none_at (renamed_each m.cells n.0 other_name k) o.0 (λ j. named (name_behind first_name j)) k past ∙ none_at m.cells n.0 (λ j. named (name_behind other_name j)) k far where

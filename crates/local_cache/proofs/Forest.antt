@@ -11,5 +11,3 @@ pub mod Rule
 pub mod StubRows
 -- The least thin node is that of the forest.
 pub mod ThinForest
--- Nodes of a forest edited one after the other, and the rules of which they are.
-pub mod Edits

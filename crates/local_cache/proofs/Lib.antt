@@ -24,8 +24,6 @@ pub mod Rehung
 pub mod ManyNodes
 -- The arena that page nodes as runs and the rows of caches stand for.
 pub mod ArenaBy
--- What is known of some nodes and of some pages.
-pub mod Known
 -- What is done so many times.
 pub mod Each
 -- The thin nodes.
@@ -62,5 +60,3 @@ pub mod MadePages
 pub mod NodesCome
 -- Nodes under each other's names.
 pub mod Exchanged
--- The calls that change cells.
-pub mod OnCells

@@ -41,10 +41,6 @@ module _ (cache : CacheId) (s : OwnState) (r : Run) (is : run_cell r ≡ new_cel
   abbrev nodes : ℕ → Stretch Run
   nodes count = record { first = base; count = count; value = r }
 
-  -- they have no working numbers
-  pub pages_free : (m : Cells) (count : ℕ) → HaveFreeNumbers m (nodes count)
-  pages_free m count k less = (let P : Cell → Type 0 = λ d. HasFreeNumber m d in subst P (sym (page_cell k)) tt)
-
   module _ (m : PageNodes) (whole : ℕ) where
     pub made_first_is : (count : ℕ) → made_first m cache s count ≡ record m {
       cells = with_first run run_cell m.cells (nodes whole) count;

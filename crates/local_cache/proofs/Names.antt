@@ -9,7 +9,3 @@ pub mod PageName
 pub mod WorkingName
 -- The homes of nodes, and what leaves them.
 pub mod Homes
--- Nodes of pages under each other's names.
-pub mod Exchanged
--- Nodes of so many pages under each other's names.
-pub mod ExchangedMany

@@ -8,5 +8,3 @@ pub mod Sizes
 pub mod Parts
 -- How many pages of all caches are locked, when one page gets other locks.
 pub mod Locked
--- The tables after the nodes of pages were set one after the other.
-pub mod Again

@@ -92,22 +92,6 @@ module _ (m : Cells) where
       let beyond = b owner there.0 in
       (beyond.0, omega (arith, there.1, beyond.1))
 
-  -- a node has one owner
-  steps_most : (n a b : ℕ) (o : IsOwner m n a) (p : IsOwner m n b) → o.steps ≤ p.steps
-  steps_most n a b o p = elim (cases_lt p.steps o.steps) [
-    | inl less ↦ absurd (false≢true (sym p.owns ∙ o.first p.steps b less p.reached))
-    | inr le ↦ le
-  ]
-
-  pub one_owner : (n a b : ℕ) → IsOwner m n a → IsOwner m n b → a ≡ b
-  one_owner n a b o p =
-      let same : o.steps ≡ p.steps = omega (arith, steps_most n a b o p, steps_most n b a p o) in
-      same_Some a b (sym o.reached ∙ ap (λ (k : ℕ). up m k n) same ∙ p.reached)
-
-  -- the owner of a node further up
-  pub owner_below : (n q a b : ℕ) → IsOwner m n a → IsOwner m q a → IsOwner m q b → IsOwner m n b
-  owner_below n q a b o p r = subst (λ (k : ℕ). IsOwner m n k) (one_owner q a b p r) o
-
   -- How many nodes without an own page there are on the way up, as far as so many
 
   abbrev pub way : ℕ → ℕ → ℕ

@@ -6,7 +6,6 @@ pub mod Changing
 pub mod Codes
 pub mod GoingOn
 pub mod Home
-pub mod Known
 pub mod Looking
 pub mod Many
 pub mod ManyNodes

@@ -26,11 +26,6 @@ AreNamed a n cache page count =
     → HasNode a (next_node n k)
     × ((cell a (next_node n k)).name ≡ Live cache (record { 0 = page.0 + k }))
 
--- a live cache has so many pages from one on, none of which has a node
-abbrev pub AreVacant : Arena → CacheId → PageNo → ℕ → Type 0
-AreVacant a cache page count =
-    (k : ℕ) → k < count → IsVacant a cache (record { 0 = page.0 + k })
-
 -- many nodes can be made in this own state at once: it is neither a frame nor a slot
 abbrev pub IsPlain : OwnState → Type 0
 IsPlain Absent = Unit {0}

@@ -47,7 +47,7 @@ fn a_pool_of_held_frames_gives_none(rt: HostRuntime) -> Result<(), Fail> {
 }
 
 // Takes a frame, or gives this one back, or pins or unpins it, in the pool and in its slow form.
-fn call(rt: &impl Abort, pool: &mut FramePool, slow: &mut SlowPool, which: u64, frame: FrameId) {
+fn call(rt: &impl Abort, pool: &mut FramePool, slow: &mut SlowPool, which: u32, frame: FrameId) {
     let at = frame.0 as usize;
     assert!(rt; frame.0 < pool.count() && at < slow.count());
     let mut flags = slow.get(at);
@@ -108,7 +108,7 @@ fn the_slow_form_answers_the_same(rt: HostRuntime) -> Result<(), Fail> {
     let mut slow = SlowPool::new(rt.alloc(), 7)?;
     for _ in 0..10_000u32 {
         let which = draws.below(4);
-        let frame = FrameId(draws.below(7) as u32);
+        let frame = FrameId(draws.below(7));
         call(&rt, &mut pool, &mut slow, which, frame);
         compare(&rt, &pool, &slow);
     }

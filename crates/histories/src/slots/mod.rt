@@ -52,7 +52,7 @@ impl Pair {
         if self.held.is_empty() {
             return;
         }
-        let at = draws.below(self.held.len() as u64) as usize;
+        let at = draws.below(100) as usize % self.held.len();
         let (slot, other) = self.held.swap_remove(at);
         assert!(rt; slot.0 < self.pool.capacity());
         assert!(rt; self.pool.is_held(slot));
@@ -78,7 +78,7 @@ fn the_slow_form_answers_the_same(rt: HostRuntime) -> Result<(), Fail> {
     };
     for _ in 0..10_000u32 {
         match draws.below(9) {
-            0 => pair.reserve(draws.below(100) as u32)?,
+            0 => pair.reserve(draws.below(100))?,
             1..=4 => pair.take(&rt)?,
             _ => pair.give_back(&rt, &mut draws),
         }

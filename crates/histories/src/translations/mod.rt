@@ -4,9 +4,8 @@ ghost use Rattle.std.specs.Prelude.{◌≡◌, ◌<◌, length};
 mod slow;
 
 use crate::draws::Draws;
-use page_tables::entry::Entry;
-use slow::SlowTables;
 use page_tables::{PageTables, Translation};
+use slow::{SlowEntry, SlowTables};
 use std::alloc::AllocError;
 use std::test::Fail;
 use vm_ids::{ActorId, FrameId};
@@ -35,6 +34,15 @@ fn translations_are_entered_and_dropped(rt: HostRuntime) -> Result<(), Fail> {
     Ok(())
 }
 
+// The first and the last of these actors share a row.
+fn draw_actor(draws: &mut Draws) -> ActorId {
+    match draws.below(3) {
+        0 => ActorId(1),
+        1 => ActorId(2),
+        _ => ActorId(1025),
+    }
+}
+
 // One call of both forms.
 fn call_both(
     tables: &mut PageTables,
@@ -45,7 +53,7 @@ fn call_both(
     ensures { length tables.new ≡ 12 }
 {
     let call = draws.below(12);
-    let actor = draws.actor();
+    let actor = draw_actor(draws);
     let page = draws.below(8) as u64;
     let frame = FrameId(draws.below(3));
     let pages = draws.below(10);
@@ -72,7 +80,7 @@ fn call_both(
                 writable: pages < 5,
             };
             tables.enter(actor, page, frame, to.writable);
-            slow.enter(Entry { actor, page, to })?;
+            slow.enter(SlowEntry { actor, page, to })?;
         }
     }
     Ok(())

@@ -1,12 +1,19 @@
 // The page tables as a plain array that is scanned.
 use page_tables::Translation;
-use page_tables::entry::Entry;
 use std::alloc::{AllocError, Global};
 use vm_ids::{ActorId, FrameId};
 
+// A translation with the page of an actor that it is for.
+#[derive(Clone, Copy)]
+pub(crate) struct SlowEntry {
+    pub(crate) actor: ActorId,
+    pub(crate) page: u64,
+    pub(crate) to: Translation,
+}
+
 #[derive(Drop)]
 pub(crate) struct SlowTables {
-    entries: Vec<Entry>,
+    entries: Vec<SlowEntry>,
 }
 
 impl SlowTables {
@@ -22,7 +29,7 @@ impl SlowTables {
 
     pub(crate) fn lookup(&self, actor: ActorId, page: u64) -> Option<Translation> {
         for entry in &self.entries {
-            if entry.is_for(actor, page) {
+            if entry.actor == actor && entry.page == page {
                 return Some(entry.to);
             }
         }
@@ -30,7 +37,7 @@ impl SlowTables {
     }
 
     // It holds one entry too many where it was full: the caller says which one goes.
-    pub(crate) fn enter(&mut self, entry: Entry) -> Result<(), AllocError> {
+    pub(crate) fn enter(&mut self, entry: SlowEntry) -> Result<(), AllocError> {
         self.drop_range(entry.actor, entry.page, 1);
         self.entries.push(entry)?;
         Ok(())

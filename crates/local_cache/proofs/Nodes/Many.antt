@@ -15,11 +15,6 @@ module _ (a : Arena) (n : NodeId) where
   stay_hung parent (suc k) q h =
       stays-put (hung_many a n parent k) _ (next_node n k) _ refl q (stay_hung parent k q h)
 
-  pub stay_over : (child : NodeId) (k : ℕ) → NodesStay a (over_many a n child k)
-  stay_over child zero q h = h
-  stay_over child (suc k) q h =
-      stays-put (over_many a n child k) _ (next_node n k) _ refl q (stay_over child k q h)
-
   pub stay_over_two : (older newer : NodeId) (k : ℕ) → NodesStay a (over_two_many a n older newer k)
   stay_over_two older newer zero q h = h
   stay_over_two older newer (suc k) q h =

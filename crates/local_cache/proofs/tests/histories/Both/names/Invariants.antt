@@ -1,5 +1,0 @@
-use Rattle.local_cache.specs.Known.{AreNamesOf}
-use Rattle.local_cache.proofs.tests.histories.Both.names.Given as goal
-
-abbrev pub invariant-loop-place : goal.invariant-loop-place
-invariant-loop-place g l = AreNamesOf l.self.caches l.node l.place l.names.items
