@@ -1,19 +1,15 @@
 -- Cells changed one after the other.
 use Rattle.std.proofs.Common.{◌≡◌, ◌≢◌, ℕ, ◌+◌, [], ◌∷◌, Some, sym, ap, subst, ◌∙◌, inl, inr, arith}
-use Rattle.std.specs.Ordering.{nat_cmp}
-use Rattle.std.specs.FinMap.{FinMap}
-use Rattle.std.specs.FinMap as map
-use Rattle.mixed_map.proofs.Maps.{insert_other, insert_same, same}
-use Rattle.std.proofs.lemmas.Bool.{cases_eq}
 use Rattle.vm_ids.specs.declared.numbers.NodeId.{NodeId}
 use Rattle.local_cache.specs.Arena.{Arena, Cell, HasNode, cell, hung, put, with_tree, with_working}
 use Rattle.local_cache.specs.Many.{HaveNodes}
 use Rattle.local_cache.specs.ManyNodes.{next_node}
 use Rattle.local_cache.specs.NodeCells.{hanging, over}
 use Rattle.local_cache.specs.OnCells.{on_cell, working_over}
-use Rattle.local_cache.proofs.Exchanged.{insert_swap}
+use Rattle.local_cache.proofs.Exchanged.{changed_swap}
 use Rattle.local_cache.proofs.Nodes.Cells.{cell-put, cell-put_other}
 use Rattle.local_cache.proofs.Nodes.OwnStates.{id_cases}
+use Rattle.local_cache.proofs.Rehung.{changed_twice}
 use Rattle.history_tree.specs.Hanging.{set_one, set_two}
 
 -- a node is the one that is no numbers behind it
@@ -26,32 +22,17 @@ one_held a n h k less =
     let e : n.0 ≡ n.0 + k = omega (arith, less) in
     subst (λ (q : ℕ). HasNode a (record { 0 = q })) e h
 
-insert_twice : {X : Type 0} (m : FinMap nat_cmp X) (k : ℕ) (x y : X) → map.insert (map.insert m k x) k y ≡ map.insert m k y
-insert_twice m k x y = same _ _ (λ q. elim (cases_eq q k) [
-  | inl e ↦ insert_same (map.insert m k x) k y q e ∙ sym (insert_same m k y q e)
-  | inr ne ↦ insert_other (map.insert m k x) k y q ne ∙ insert_other m k x q ne ∙ sym (insert_other m k y q ne)
-])
-
-put_twice : (a : Arena) (n : NodeId) (c d : Cell) → put (put a n c) n d ≡ put a n d
-unfolding put
-put_twice a n c d = (let e = insert_twice a.cells n.0 c d in λ i. record a { cells = e i })
-
-put_swap : (a : Arena) (n m : NodeId) (c d : Cell) → n ≢ m → put (put a n c) m d ≡ put (put a m d) n c
-unfolding put
-put_swap a n m c d apart =
-    let e = insert_swap a.cells n.0 m.0 c d (λ e. apart (λ i. record { 0 = e i })) in
-    λ i. record a { cells = e i }
-
 -- two changes of one node are one
 pub on_twice : (a : Arena) (n : NodeId) (f g : Cell → Cell) → on_cell (on_cell a n f) n g ≡ on_cell a n (λ c. g (f c))
-on_twice a n f g = ap (λ c. put (on_cell a n f) n (g c)) (cell-put a n (f (cell a n))) ∙ put_twice a n _ _
+unfolding put cell
+on_twice a n f g = let twice = changed_twice a.cells n.0 f g in λ i. record a { cells = twice i }
 
 -- changes of two nodes can be done in either order
 pub on_swap : (a : Arena) (n m : NodeId) (f g : Cell → Cell) → n ≢ m → on_cell (on_cell a n f) m g ≡ on_cell (on_cell a m g) n f
+unfolding put cell
 on_swap a n m f g apart =
-    ap (λ c. put (on_cell a n f) m (g c)) (cell-put_other a n m _ (λ e. apart (sym e)))
-    ∙ put_swap a n m (f (cell a n)) (g (cell a m)) apart
-    ∙ ap (λ c. put (on_cell a m g) n (f c)) (sym (cell-put_other a m n _ apart))
+    let swap = changed_swap a.cells n.0 m.0 f g (λ e. apart (λ i. record { 0 = e i })) in
+    λ i. record a { cells = swap i }
 
 -- what a change of one node leaves in each column
 pub on_keeps : {A : Type 0} (col : Cell → A) (a : Arena) (n : NodeId) (f : Cell → Cell) (m : NodeId) → ((c : Cell) → col (f c) ≡ col c) → col (cell (on_cell a n f) m) ≡ col (cell a m)

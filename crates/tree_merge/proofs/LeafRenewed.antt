@@ -1,10 +1,8 @@
 -- A node without children leaves its parent, and is as new: as if it went, and a fresh one came for
 -- its page under the same number.
-use Rattle.std.proofs.Common.{◌≡◌, ℕ, zero, suc, ◌+◌, ◌-◌, Bool, true, false, eqb, cond, set, get_or, List, [], ◌∷◌, length, map, Option, Some, None, option_map, refl, sym, ap, ◌∙◌, subst, arith}
+use Rattle.std.proofs.Common.{◌≡◌, ℕ, zero, suc, ◌+◌, ◌-◌, false, set, get_or, List, [], ◌∷◌, length, map, Option, Some, None, option_map, refl, sym, ap, ◌∙◌, subst, arith}
 use Rattle.std.specs.Prelude.{option_and_then, slice_get, slice_set}
 use Rattle.std.proofs.lemmas.List.{set-get_or, set-set}
-use Rattle.std.specs.Ordering.{nat_cmp}
-use Rattle.std.specs.FinMap.{FinMap}
 use Rattle.std.specs.FinMap as map
 use Rattle.vm_ids.specs.declared.node_name.NodeName.{NodeName}
 use Rattle.vm_ids.specs.declared.node_name.NodeName.TheVariants.{Live}
@@ -18,7 +16,7 @@ use Rattle.vm_ids.specs.Forest.Nodes.Hang.{TreeOf}
 use Rattle.vm_ids.specs.Forest.Rules.{retire}
 use Rattle.local_cache.specs.declared.own_state.OwnState.{OwnState}
 use Rattle.local_cache.specs.declared.page_entry.PageEntry.{PageEntry}
-use Rattle.local_cache.specs.Arena.{Arena, Cell, HasNode, IsVacant, Table, cache_with, cell, entry_at, find, hung, new_cell, node_at, put, table_at, table_with, tables_with, with_new, without}
+use Rattle.local_cache.specs.Arena.{Arena, HasNode, IsVacant, Table, cache_with, cell, entry_at, find, hung, new_cell, node_at, put, table_at, table_with, tables_with, with_new, without}
 use Rattle.local_cache.specs.Changes.{Rehung}
 use Rattle.local_cache.specs.NodeCells.{exchanged, renewed}
 use Rattle.local_cache.specs.OnCells.{cut_from, on_cell}
@@ -27,15 +25,13 @@ use Rattle.local_cache.specs.Reading.{forest_of, hang_by, name_of}
 use Rattle.local_cache.specs.Sound.{IsSound}
 use Rattle.local_cache.proofs.Changes.SameNodes.{rehung-tree, rehung_itself}
 use Rattle.local_cache.proofs.Forest.Reading.{node-forest_of}
-use Rattle.local_cache.proofs.Nodes.Cells.{cell-put}
-use Rattle.local_cache.proofs.Singles.{get_inserted, get_removed, same_maps}
 use Rattle.local_cache.proofs.Tables.Listing.{node_by_entry, node_of_entry}
 use Rattle.tree_merge.specs.declared.released.Released.TheVariants.{Dropped}
 use Rattle.tree_merge.specs.Copying.{IsLeafOf}
 use Rattle.tree_merge.specs.Releasing.{IsRetired}
 use Rattle.tree_merge.specs.Stepping.{IsDetachedAlone, IsRetiredAlone}
 use Rattle.tree_merge.proofs.ChildLists.Names.{counted}
-use Rattle.tree_merge.proofs.CopiedPages.Changes.{changed_twice, find-without}
+use Rattle.tree_merge.proofs.CopiedPages.Changes.{changed_twice, find-without, inserted_for, without_put}
 use Rattle.tree_merge.proofs.Leaving.Detached.{detached-forest, detached-sound, retired_vacant}
 use Rattle.tree_merge.proofs.Leaving.Freed.{Freed, drop-Freed}
 use Rattle.tree_merge.proofs.Leaving.Retired.{retire_none, retired_leaf}
@@ -43,29 +39,6 @@ use Rattle.tree_merge.proofs.Place.Cut.{no_parent-Step}
 use Rattle.tree_merge.proofs.Place.Step.{Step}
 use Rattle.tree_merge.proofs.Place.TreeCut.{cut_tree-Step}
 use Rattle.tree_merge.proofs.Releases.{retire_released}
-
--- In a map
-
-module _ {X : Type 0} (m : FinMap nat_cmp X) (k : ℕ) where
-  -- a number that goes, and comes again
-  inserted_for : (x : X) → map.insert (map.remove m k) k x ≡ map.insert m k x
-  inserted_for x = same_maps _ _ (λ r.
-      get_inserted (map.remove m k) k x r ∙ ap (cond (eqb r k) (Some x)) (get_removed m k r)
-      ∙ one (eqb r k) (Some x) (map.get m r) ∙ sym (get_inserted m k x r))
-    where
-      one : (t : Bool) (o r : Option X) → cond t o (cond t None r) ≡ cond t o r
-      one true o r = refl
-      one false o r = refl
-
-  -- one that is changed, and goes
-  removed_again : (x : X) → map.remove (map.insert m k x) k ≡ map.remove m k
-  removed_again x = same_maps _ _ (λ r.
-      get_removed (map.insert m k x) k r ∙ ap (cond (eqb r k) None) (get_inserted m k x r)
-      ∙ one (eqb r k) (Some x) (map.get m r) ∙ sym (get_removed m k r))
-    where
-      one : (t : Bool) (o r : Option X) → cond t None (cond t o r) ≡ cond t None r
-      one true o r = refl
-      one false o r = refl
 
 -- In the tables
 
@@ -104,17 +77,6 @@ entry_of a cache page d at = go (entry_at a.caches cache page) (sym (node_by_ent
         ap Some same
 
 -- In the caches
-
--- a node that goes whatever was changed of it but its name
-pub without_put : (e : Arena) (d : NodeId) (c : Cell) → c.name ≡ (cell e d).name → without (put e d c) d ≡ without e d
-unfolding put without
-without_put e d c same =
-    let name : (cell (put e d c) d).name ≡ (cell e d).name = ap (λ (k : Cell). k.name) (cell-put e d c) ∙ same in
-    λ i. record e {
-      cells = removed_again e.cells d.0 c i;
-      caches = tables_with e.caches (name i) None;
-      room = record e.room { nodes = e.room.nodes + 1 };
-    }
 
 -- a node that goes, and comes again for its page
 pub new_again : (e : Arena) (d : NodeId) (cache : CacheId) (page : PageNo) (s : OwnState) → (cell e d).name ≡ Live cache page → node_at e cache.0 page.0 ≡ Some d

@@ -14,10 +14,11 @@ use Rattle.local_cache.specs.ManyNodes.{each, next_node}
 use Rattle.local_cache.specs.NodeCells.{named, renewed, with_child}
 use Rattle.local_cache.specs.OnCells.{exchanged_many, exchanged_names, on_cell}
 use Rattle.local_cache.proofs.Changes.SameNodes.{id_cases}
+use Rattle.local_cache.proofs.Exchanged.{insert_swap}
 use Rattle.local_cache.proofs.Nodes.Cells.{cell-put, cell-put_other}
 use Rattle.local_cache.proofs.Tables.Listing.{read_other}
 use Rattle.tree_merge.specs.Copying.{renewed_many}
-use Rattle.tree_merge.proofs.CopiedPages.Changes.{cell_by, change_both, change_change, changed_twice, differ, find-new, find-new_other, inserted_again, inserts, pages_pass}
+use Rattle.tree_merge.proofs.CopiedPages.Changes.{cell_by, change_both, changed_twice, differ, find-new, find-new_other, inserted_again, on_swap, pages_pass}
 use Rattle.tree_merge.proofs.CopiedPages.Kinds.{AllPass, Kind, Passes, each_kind, kind_by, on, on_on, page_by}
 use Rattle.tree_merge.proofs.CopiedPages.Rows.{Pass}
 
@@ -90,7 +91,7 @@ module _ (b : Arena) (d s : NodeId) (x y : NodeName) (s_d : s ≢ d) (is : (cell
       (cell-put_other (with_new b d x Zero) d s (named y (cell (with_new b d x Zero) d)) s_d ∙ cell_s)
       ∙ ap (λ (c : Cell). map.insert (map.insert (map.insert b.cells d.0 (new_cell x Zero)) d.0 (named y c)) s.0 (named x (cell b s))) cell_d
       ∙ ap (λ (m : FinMap nat_cmp Cell). map.insert m s.0 (named x (cell b s))) (inserted_again b.cells d.0 (new_cell x Zero) (new_cell y Zero))
-      ∙ inserts b.cells d.0 s.0 (new_cell y Zero) (named x (cell b s)) (differ d s (λ e. s_d (sym e)))
+      ∙ insert_swap b.cells d.0 s.0 (new_cell y Zero) (named x (cell b s)) (differ d s (λ e. s_d (sym e)))
 
   caches_is : tables_with (tables_with (tables_with b.caches x (Some d)) x (Some s)) y (Some d) ≡ tables_with (tables_with (tables_with b.caches (cell b s).name None) x (Some s)) y (Some d)
   caches_is =
@@ -128,7 +129,7 @@ module _ (m : NodeId) (f : Cell → Cell) (keeps : (c : Cell) → (f c).name ≡
   past : (b : Arena) (o : NodeId) (x : NodeName) → on_cell (on_cell b o (named x)) m f ≡ on_cell (on_cell b m f) o (named x)
   past b o x = elim (id_cases m o) [
     | inl e ↦ subst (λ (k : NodeId). on_cell (on_cell b o (named x)) k f ≡ on_cell (on_cell b k f) o (named x)) (sym e) (change_both b o (named x) f (same x))
-    | inr ne ↦ change_change b o m (λ e. ne (sym e)) (named x) f
+    | inr ne ↦ on_swap b o m (named x) f (λ e. ne (sym e))
   ]
 
   caches_on : (b : Arena) → (on_cell b m f).caches ≡ b.caches

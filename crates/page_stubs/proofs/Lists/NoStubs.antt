@@ -1,8 +1,6 @@
 -- A node without stubs, whose list goes to another one.
-use Rattle.std.proofs.Common.{◌≡◌, ◌+◌, List, [], ◌∷◌, length, Option, Some, None, unwrap_or, IsSome, refl, sym, ap, subst, ◌∙◌, inl, inr, arith}
+use Rattle.std.proofs.Common.{◌≡◌, ◌+◌, List, [], ◌∷◌, length, Option, Some, None, unwrap_or, IsSome, refl, sym, ap, subst, ◌∙◌, arith}
 use Rattle.std.specs.Option.{option_or}
-use Rattle.std.proofs.lemmas.Bool.{cases_eq}
-use Rattle.mixed_map.proofs.Maps.{insert_other, insert_same, same}
 use Rattle.std.specs.FinMap as map
 use Rattle.vm_ids.specs.declared.numbers.NodeId.{NodeId}
 use Rattle.local_cache.specs.declared.links.Links.{Links}
@@ -11,6 +9,7 @@ use Rattle.local_cache.specs.Reading.{stubs_of}
 use Rattle.local_cache.specs.Sound.{◌∈◌}
 use Rattle.local_cache.specs.Threads.{IsThreaded, Row, head_or, last_or}
 use Rattle.local_cache.proofs.Changes.SameNodes.{relinked_itself}
+use Rattle.local_cache.proofs.NodeCells.{inserted_by}
 use Rattle.page_stubs.specs.Handing.{Handed}
 use Rattle.page_stubs.specs.Threading.{joined, with_before, with_behind, with_ends}
 
@@ -23,11 +22,8 @@ some_cell (Some c) h = refl
 put_itself : (a : Arena) (n : NodeId) → HasNode a n → put a n (cell a n) ≡ a
 unfolding put cell
 put_itself a n h =
-    let cells = same (map.insert a.cells n.0 (unwrap_or (map.get a.cells n.0) blank)) a.cells (λ q. elim (cases_eq q n.0) [
-      | inl e ↦ insert_same a.cells n.0 _ q e ∙ sym (some_cell _ h) ∙ ap (map.get a.cells) (sym e)
-      | inr ne ↦ insert_other a.cells n.0 _ q ne
-    ]) in
-    λ i. record a { cells = cells i }
+    let cells = inserted_by a.cells a.cells n.0 (unwrap_or (map.get a.cells n.0) blank) (some_cell _ h) (λ q other. refl) in
+    sym (λ i. record a { cells = cells i })
 
 pub same_links : (a : Arena) (n : NodeId) (l : Links) → HasNode a n → l ≡ (cell a n).links → with_links a n l ≡ a
 same_links a n l h e = ap (with_links a n) e ∙ put_itself a n h

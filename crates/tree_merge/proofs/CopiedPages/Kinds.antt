@@ -4,7 +4,8 @@ use Rattle.vm_ids.specs.declared.numbers.NodeId.{NodeId}
 use Rattle.local_cache.specs.Arena.{Arena, Cell, with_working}
 use Rattle.local_cache.specs.ManyNodes.{each, next_node}
 use Rattle.local_cache.specs.OnCells.{on_cell}
-use Rattle.tree_merge.proofs.CopiedPages.Changes.{change_change, change_working}
+use Rattle.history_tree.proofs.OnCells.{on_swap}
+use Rattle.tree_merge.proofs.CopiedPages.Changes.{change_working}
 use Rattle.tree_merge.proofs.CopiedPages.Rows.{Pass}
 
 -- what is done for each page
@@ -75,7 +76,7 @@ work w i x = with_working x (next_node w i)
 module _ (n m : NodeId) (count : ℕ) (pass : Pass n m count) where
   pub on_on : (change other : ℕ → Cell → Cell) → Passes (on n change) (on m other) count
   on_on change other x i j less below =
-      change_change x (next_node m i) (next_node n j) (λ e. pass j i below (omega arith) (λ same. omega arith) (sym e)) (other i) (change j)
+      on_swap x (next_node m i) (next_node n j) (other i) (change j) (λ e. pass j i below (omega arith) (λ same. omega arith) (sym e))
 
   pub on_work : (change : ℕ → Cell → Cell) → Passes (on n change) (work m) count
   on_work change x i j less below =

@@ -26,13 +26,14 @@ use Rattle.local_cache.proofs.Changes.SameNodes.{id_cases}
 use Rattle.local_cache.proofs.Forest.Reading.{IsNode-forest_of, node-forest_of}
 use Rattle.local_cache.proofs.Nodes.Cells.{cell-put, cell-put_other, find-put, find-put_other}
 use Rattle.history_tree.specs.Hanging.{set_one, set_two}
+use Rattle.history_tree.proofs.OnCells.{on_swap}
 use Rattle.history_tree.proofs.Hang.{CanLink, Linked, links-first, links-more}
 use Rattle.tree_merge.specs.declared.released.Released.TheVariants.{Dropped}
 use Rattle.tree_merge.specs.Copying.{IsEmpty, IsLeafOf}
 use Rattle.tree_merge.specs.Stepping.{IsCopiedBare, IsDetachedAlone}
 use Rattle.tree_merge.proofs.ChildLists.Names.{in_names}
 use Rattle.tree_merge.proofs.ChildLists.TreeLists.{place_other}
-use Rattle.tree_merge.proofs.CopiedPages.Changes.{cell_by, change_both, change_change, find-working_other}
+use Rattle.tree_merge.proofs.CopiedPages.Changes.{cell_by, change_both, find-working_other}
 use Rattle.tree_merge.proofs.LeafRenewed.{leaf_detached, left_like}
 
 -- What a copy of one page needs: d is its node, and s that of its source, whose tree children are
@@ -268,5 +269,5 @@ in_order x s w h d ne =
     let one : Cell → Cell = over (w ∷ []) in
     ap (λ (y : Arena). hung (hung y d (Some w)) h (Some w))
     (change_both (on_cell made s one) w up two (λ c. refl)
-    ∙ ap (λ (y : Arena). on_cell y w up) (change_change made s w ne one two)
-    ∙ change_change (on_cell made w two) s w ne one up)
+    ∙ ap (λ (y : Arena). on_cell y w up) (on_swap made s w one two ne)
+    ∙ on_swap (on_cell made w two) s w one up ne)

@@ -32,8 +32,8 @@ use Rattle.tree_merge.specs.Releasing.{IsRetired}
 use Rattle.tree_merge.specs.Staying.{HasLeft}
 use Rattle.tree_merge.specs.Stepping.{IsDetachedAlone, IsRetiredAlone}
 use Rattle.tree_merge.proofs.ChildLists.Names.{counted}
-use Rattle.tree_merge.proofs.CopiedPages.Changes.{find-new, find-without}
-use Rattle.tree_merge.proofs.LeafRenewed.{new_again, without_put}
+use Rattle.tree_merge.proofs.CopiedPages.Changes.{find-new, find-without, without_put}
+use Rattle.tree_merge.proofs.LeafRenewed.{new_again}
 use Rattle.tree_merge.proofs.Leaving.Detached.{detached-forest, detached-sound, retired_vacant}
 use Rattle.tree_merge.proofs.Leaving.Freed.{Freed, drop-Freed}
 use Rattle.tree_merge.proofs.Leaving.Retired.{retire_none, retired-forest, retired-sound, retired_leaf, retired_parent}
