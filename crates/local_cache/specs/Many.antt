@@ -45,6 +45,11 @@ abbrev pub without_many : Arena → NodeId → ℕ → Arena
 without_many a n count =
     each (λ k b. without b (next_node n k)) count a
 
+-- so many new working nodes, under the next names, from one node on
+abbrev pub with_working_many : Arena → NodeId → ℕ → Arena
+with_working_many a n count =
+    each (λ k b. with_working b (next_node n k)) count a
+
 -- so many nodes from one on under the next working names
 abbrev pub as_working_many : Arena → NodeId → ℕ → Arena
 as_working_many a n count =
@@ -59,6 +64,11 @@ hung_many a n parent count =
 abbrev pub over_many : Arena → NodeId → NodeId → ℕ → Arena
 over_many a n child count =
     each (λ k b. with_tree b (next_node n k) (next_node child k ∷ [])) count a
+
+-- so many nodes from one on, each over the next two nodes as its tree children
+abbrev pub over_two_many : Arena → NodeId → NodeId → NodeId → ℕ → Arena
+over_two_many a n older newer count =
+    each (λ k b. with_tree b (next_node n k) (next_node older k ∷ next_node newer k ∷ [])) count a
 
 -- The node so many numbers behind another one is like it: it has the same own state, which is a
 -- plain one, and no stubs, its parent by a tree link and its tree children are as many numbers
