@@ -2,8 +2,6 @@
 use Rattle.std.proofs.Common.{◌≡◌, ℕ, zero, suc, ◌+◌, ◌<◌, refl, ap, sym, ◌∙◌, arith}
 use Rattle.local_cache.specs.ManyNodes.{each}
 
-module _ {A B : Type 0} (f : A → B) (s : ℕ → A → A) (t : ℕ → B → B) where
-
 module _ {A : Type 0} where
   -- steps that do the same come to the same
   pub each_same : (s t : ℕ → A → A) (count : ℕ) → ((k : ℕ) (a : A) → s k a ≡ t k a) → (a : A) → each s count a ≡ each t count a

@@ -45,11 +45,6 @@ abbrev pub without_many : Arena → NodeId → ℕ → Arena
 without_many a n count =
     each (λ k b. without b (next_node n k)) count a
 
--- a new node for each of so many pages of a cache, from one page and one node on
-abbrev pub with_new_many : Arena → NodeId → CacheId → PageNo → OwnState → ℕ → Arena
-with_new_many a n cache page own count =
-    each (λ k b. with_new b (next_node n k) (Live cache (record { 0 = page.0 + k })) own) count a
-
 -- so many new working nodes, under the next names, from one node on
 abbrev pub with_working_many : Arena → NodeId → ℕ → Arena
 with_working_many a n count =
@@ -59,19 +54,6 @@ with_working_many a n count =
 abbrev pub as_working_many : Arena → NodeId → ℕ → Arena
 as_working_many a n count =
     each (λ k b. as_working b (next_node n k)) count a
-
--- so many nodes from one on as the nodes of pages of a cache, from one page on
-abbrev pub renamed_many : Arena → NodeId → CacheId → PageNo → ℕ → Arena
-renamed_many a n cache page count =
-    each (λ k b. with_name b (next_node n k) (Live cache (record { 0 = page.0 + k }))) count a
-
--- The nodes of the source's pages, from s on, as those of the destination's pages, whose own ones,
--- from d on, are gone, and new nodes of zeros, from n on, for the source's pages.
-abbrev pub moved_many : Arena → (d s n : NodeId) → Span → Arena
-moved_many a d s n span =
-    with_new_many
-    (renamed_many (without_many a d span.pages) s span.to span.to_page span.pages) n
-    span.from span.from_page Zero span.pages
 
 -- so many nodes from one on, each on the next parent by a tree link
 abbrev pub hung_many : Arena → NodeId → NodeId → ℕ → Arena
