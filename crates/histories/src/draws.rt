@@ -1,5 +1,5 @@
 // Numbers that look like chance, the same each time.
-ghost use Rattle.std.specs.Prelude.{◌<◌};
+ghost use Rattle.std.specs.Prelude.{◌<◌, ◌^◌};
 
 // A linear congruential generator of 64 bits, whose upper bits are given.
 #[derive(Drop)]
@@ -9,7 +9,9 @@ pub(crate) struct Draws {
 
 impl Draws {
     // A number of 31 bits.
-    fn next(&mut self) -> u64 {
+    fn next(&mut self) -> u64
+        ensures { result < 2 ^ 31 }
+    {
         self.state = self
             .state
             .wrapping_mul(6_364_136_223_846_793_005)

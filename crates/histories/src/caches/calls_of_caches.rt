@@ -29,7 +29,7 @@ impl Both {
         ensures { IsKnown self.new.caches self.new.nodes.items self.new.vacant.items }
     {
         self.reserve(rt, 1, pages);
-        if self.caches.caches_made() >= 1_000_000 {
+        if self.caches.caches_made() >= 65_000 {
             return;
         }
         match segment {

@@ -263,12 +263,14 @@ impl Both {
         if !self.has_node(node) || !self.has_parent(node) {
             return;
         }
-        if let Some(was) = self.caches.renew_leaf(node, own) {
-            let slow = self.slow.node(node).expect(rt, "the node is there");
-            assert_eq!(rt; was, slow.own);
-            assert!(rt; slow.is_leaf() && !slow.links.by_stub);
-            self.slow.renew_leaf(node, own);
-        }
+        let Some(was) = self.caches.renew_leaf(node, own) else {
+            self.compare(rt, node);
+            return;
+        };
+        let slow = self.slow.node(node).expect(rt, "the node is there");
+        assert_eq!(rt; was, slow.own);
+        assert!(rt; slow.is_leaf() && !slow.links.by_stub);
+        self.slow.renew_leaf(node, own);
         self.compare(rt, node);
     }
 

@@ -1,6 +1,7 @@
-use Rattle.std.proofs.Common.{◌≡◌, ap, lit<, sym, ◌∙◌, arith}
+use Rattle.std.proofs.Common.{◌≡◌, ℕ, ap, lit<, sym, ◌∙◌, arith}
 use Rattle.std.specs.Prelude.{is_some}
-use Rattle.vm_ids.specs.declared.node_name.NodeName.TheVariants.{Live}
+use Rattle.vm_ids.specs.declared.node_name.NodeName.{NodeName}
+use Rattle.vm_ids.specs.declared.node_name.NodeName.TheVariants.{Live, Working}
 use Rattle.vm_ids.specs.declared.numbers.NodeId.{NodeId}
 use Rattle.local_cache.specs.declared.own_state.OwnState.TheVariants.{Zero}
 use Rattle.local_cache.specs.Reading.{name_of}
@@ -8,6 +9,10 @@ use Rattle.histories.proofs.Known.Many.{named_one}
 use Rattle.local_cache.proofs.Names.WorkingName.{page_named}
 use Rattle.local_cache.proofs.NewCache.FoundPages.{page_held}
 use Rattle.histories.proofs.caches.calls.two_pages_exchange_their_nodes.Goals as goal
+
+page_in : NodeName → ℕ
+page_in (Live cache page) = page.0
+page_in (Working number) = 0
 
 pub node_of-first-requires : goal.node_of-first-requires
 node_of-first-requires g c = ap is_some (c.make_temp-cache.ensures.pages 0 (lit< tt)).at
@@ -41,7 +46,7 @@ exchange_names-requires-clause-apart g c i j first second e =
     let one = page_named a cache 0 Zero c.node_of-first.result has c.node_of-first.ensures in
     let two = page_named a cache 1 Zero c.node_of-second.result other c.node_of-second.ensures in
     let names : Live cache (record { 0 = 0 }) ≡ Live cache (record { 0 = 1 }) = sym one ∙ (λ k. name_of a (record { 0 = same k })) ∙ two in
-    absurd cc
+    absurd (omega (arith, ap page_in names))
 
 pub name-requires : goal.name-requires
 name-requires g c =

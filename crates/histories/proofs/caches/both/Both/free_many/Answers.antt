@@ -9,4 +9,4 @@ leave_all-requires-clause-known g c =
     (known-without_many _ _ _ c.requires c.args.node _ c.count_nodes-count.result c.count_nodes-count.ensures.held c.free_many.ensures)
 
 pub leave_all-requires-clause-left : goal.leave_all-requires-clause-left
-leave_all-requires-clause-left g c = left-without_many _ _ _ c.requires c.args.node _ c.count_nodes-count.result _ c.count_nodes-count.ensures.held c.names-names.ensures c.free_many.ensures
+leave_all-requires-clause-left g c = rw c.deref.ensures.value (left-without_many _ _ _ c.requires c.args.node _ c.count_nodes-count.result _ c.count_nodes-count.ensures.held c.names-names.ensures c.free_many.ensures)

@@ -1,10 +1,10 @@
-use Rattle.std.proofs.Common.{◌≡◌, [], ◌∷◌, ◌++◌, ap, ◌∙◌, refl, arith}
+use Rattle.std.proofs.Common.{◌≡◌, [], ◌∷◌, ◌++◌, length, ap, ◌∙◌, arith}
 use Rattle.local_cache.specs.Reading.{name_of}
 use Rattle.histories.proofs.Known.Many.{names_more}
 use Rattle.histories.proofs.caches.both.Both.names.Goals as goal
 
 pub loop-place-init : goal.loop-place-init
-loop-place-init g c = record { all = refl; each = λ k less. absurd (omega (arith, less)) }
+loop-place-init g c = record { all = ap length c.new-names.ensures.items; each = λ k less. absurd (omega (arith, less)) }
 
 pub loop-place-preserved : goal.loop-place-preserved
 loop-place-preserved g c =
