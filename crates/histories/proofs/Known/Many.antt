@@ -16,10 +16,10 @@ use Rattle.vm_ids.specs.declared.numbers.NodeId.{NodeId}
 use Rattle.vm_ids.specs.declared.numbers.PageNo.{PageNo}
 use Rattle.local_cache.specs.declared.own_state.OwnState.{OwnState}
 use Rattle.local_cache.specs.declared.own_state.OwnState.TheVariants.{Absent}
-use Rattle.local_cache.specs.Arena.{Arena, Cell, HasNode, IsVacant, Table, as_working, blank, cell, entry_at, find, new_cell, tables_with, with_new, with_working, without}
+use Rattle.local_cache.specs.Arena.{Arena, Cell, HasNode, IsVacant, as_working, blank, cell, entry_at, find, new_cell, tables_with, with_new, without}
 use Rattle.histories.specs.Known.{AreNamesOf, IsKnown, IsLeft, is_apart_from}
-use Rattle.local_cache.specs.Many.{AreNamed, HaveNodes, HaveNone, as_working_many, over_two_many, with_working_many, without_many}
-use Rattle.local_cache.specs.ManyNodes.{next_if, next_node}
+use Rattle.local_cache.specs.Many.{AreNamed, HaveNodes, HaveNone, as_working_many, with_working_many, without_many}
+use Rattle.local_cache.specs.ManyNodes.{next_node}
 use Rattle.local_cache.specs.NodeCells.{hanging, inheriting, over, renewed, with_child}
 use Rattle.local_cache.specs.OnCells.{cut_from, given_way, leaf_renewed, on_cell, on_cells, replaced, working_over}
 use Rattle.local_cache.specs.PageNodes.{KeepsNames}

@@ -1,7 +1,7 @@
 -- What is known stays known where nodes keep their names and pages their nodes.
 use Rattle.std.proofs.Common.{◌≡◌, ◌≢◌, ℕ, ◌+◌, ◌≤◌, Bool, true, false, List, [], ◌∷◌, ◌++◌, Option, Some, None, is_some, refl, sym, ap, ◌∙◌, subst}
 use Rattle.std.specs.List.{All, filter}
-use Rattle.std.proofs.lemmas.List.Elements.{All-filter, All-nil, All-push, All-weaker, filter_passes}
+use Rattle.std.proofs.lemmas.List.Elements.{All-filter, All-push, All-weaker, filter_passes}
 use Rattle.vm_ids.specs.declared.node_name.NodeName.TheVariants.{Live}
 use Rattle.vm_ids.specs.declared.numbers.CacheId.{CacheId}
 use Rattle.vm_ids.specs.declared.numbers.NodeId.{NodeId}
@@ -13,7 +13,6 @@ use Rattle.histories.specs.Known.{IsKnown, IsTold}
 use Rattle.local_cache.specs.OnCells.{on_cell}
 use Rattle.local_cache.specs.PageNodes.{KeepsNames}
 use Rattle.local_cache.specs.Reading.{name_of}
-use Rattle.local_cache.specs.Sound.{IsSound}
 use Rattle.local_cache.proofs.Changes.Retabled.{changed_entry}
 use Rattle.local_cache.proofs.Changes.SameNodes.{like-put, made-put}
 use Rattle.local_cache.proofs.Tables.Listing.{node_by_entry, node_of_entry}

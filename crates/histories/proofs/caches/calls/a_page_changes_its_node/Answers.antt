@@ -1,6 +1,6 @@
 use Rattle.std.proofs.Common.{ap, arith, lit<}
 use Rattle.std.specs.Prelude.{is_some}
-use Rattle.local_cache.specs.Arena.{Arena, Room, HasNode}
+use Rattle.local_cache.specs.Arena.{Arena, Room}
 use Rattle.local_cache.specs.NodeCells.{is_page}
 use Rattle.local_cache.specs.declared.own_state.OwnState.TheVariants.{Zero}
 use Rattle.local_cache.proofs.Names.WorkingName.{page_named}

@@ -10,7 +10,7 @@ use Rattle.local_cache.proofs.Names.WorkingName.{page_named}
 use Rattle.local_cache.proofs.NewCache.FoundPages.{page_held}
 use Rattle.histories.proofs.caches.calls.two_pages_exchange_their_nodes.Goals as goal
 
-page_in : NodeName → ℕ
+abbrev page_in : NodeName → ℕ
 page_in (Live cache page) = page.0
 page_in (Working number) = 0
 
