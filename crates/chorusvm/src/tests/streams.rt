@@ -7,7 +7,7 @@ use crate::source::StreamSource;
 use replay::Status;
 use std::io;
 use std::io::{ErrorKind, Read, Write};
-use vm_port::{Sink, Source};
+use vm_port::{Failed, Sink, Source};
 
 // A reader that fails.
 #[derive(Drop)]
