@@ -28,7 +28,9 @@ mod mixed_maps;
 #[cfg(test)]
 mod stretch_lists;
 
-// tree_merge and move_pages.
+// local_cache, tree_merge and move_pages.
+#[cfg(test)]
+mod caches;
 #[cfg(test)]
 mod merges;
 #[cfg(test)]

@@ -6,9 +6,8 @@ use Rattle.vm_ids.specs.declared.node_name.NodeName.TheVariants.{Live, Working}
 use Rattle.vm_ids.specs.declared.node_name.NodeName.{NodeName}
 use Rattle.vm_ids.specs.declared.numbers.NodeId.{NodeId}
 use Rattle.vm_ids.specs.Forest.NameLists.{first}
-use Rattle.vm_ids.specs.Forest.Nodes.{Forest, node, is_live, most_tree_children}
+use Rattle.vm_ids.specs.Forest.Nodes.{node, is_live, most_tree_children}
 use Rattle.vm_ids.specs.Forest.Rules.{heir}
-use Rattle.local_cache.specs.declared.own_state.OwnState.{OwnState}
 use Rattle.local_cache.specs.Arena.{Arena, cell, HasNode}
 use Rattle.local_cache.specs.Reading.{name_of, page_of, forest_of, stubs_of}
 use Rattle.local_cache.specs.Threads.{head_or}
@@ -34,17 +33,11 @@ only_child (u ∷ []) t few e = let same : t ≡ u = cc e in ap (λ k. k ∷ [])
 only_child (u ∷ v ∷ ts) t few e = absurd (omega arith)
 
 module _ (a : Arena) (sound : IsSound a) (n : NodeId) (h : HasNode a n) where
-  f : Forest OwnState
-  f = forest_of a
-
   stub_is : first (node (forest_of a) (name_of a n)).stubs ≡ option_map (name_of a) (cell a n).links.first
   stub_is = ap (λ m. first m.stubs) (node-forest_of a sound.kept.named n h) ∙ first_name a (stubs_of a n) ∙ ap (option_map (name_of a)) (sym (sound.kept.threaded n h).first)
 
   tree_is : (node (forest_of a) (name_of a n)).tree ≡ map (name_of a) (cell a n).tree
   tree_is = ap (λ m. m.tree) (node-forest_of a sound.kept.named n h)
-
-  bare : List NodeName → List NodeName
-  bare = filter (λ t. is_none (node (forest_of a) t).own)
 
   heir_is : (ts : List NodeName) → (node (forest_of a) (name_of a n)).tree ≡ ts → heir (forest_of a) (name_of a n) ≡ first (filter (λ t. is_none (node (forest_of a) t).own) ts ++ (node (forest_of a) (name_of a n)).stubs)
   unfolding heir

@@ -10,3 +10,7 @@ pub mod Upward
 pub mod OtherPages
 -- The rule link leaves each node the own page that it has.
 pub mod OwnPages
+-- Cells changed one after the other.
+pub mod OnCells
+-- The owner that is found on the way up.
+pub mod Owners

@@ -3,3 +3,4 @@ pub mod Parts
 pub mod Masks
 pub mod Placed
 pub mod Buckets
+pub mod Reading

@@ -1,6 +1,6 @@
 // Cells, one for each place: the key that is entered there, and the place behind it.
-ghost use Rattle.std.specs.Prelude.{◌≡◌};
-ghost use Rattle.linear_index.specs.Chains.{behind_of, link_to};
+ghost use Rattle.std.specs.Prelude.{◌≡◌, ◌↔◌, Some, IsTrue};
+ghost use Rattle.linear_index.specs.Chains.{behind_of, key_in, link_to};
 
 // How a place stands in the chain of its bucket.
 #[derive(Clone, Copy)]
@@ -44,6 +44,19 @@ impl Link {
         match self {
             Link::Before(place) => Some(*place),
             _ => None,
+        }
+    }
+}
+
+impl Cell {
+    // Whether this key is entered at the place.
+    #[inline(always)]
+    pub(crate) fn has(&self, key: u64) -> bool
+        ensures { IsTrue result ↔ (key_in self.now ≡ Some key) }
+    {
+        match self.link {
+            Link::Free => false,
+            _ => self.key == key,
         }
     }
 }

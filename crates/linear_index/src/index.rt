@@ -1,11 +1,12 @@
 // The index: a map from keys to places.
-ghost use Rattle.std.specs.Prelude.{◌≡◌, ◌≢◌, ℕ, ◌<◌, ◌≤◌, None, Some, max, IsOk, OnErr, OnOk};
+ghost use Rattle.std.specs.Prelude.{◌≡◌, ◌≢◌, ℕ, ◌<◌, ◌≤◌, ◌↔◌, None, Some, max, IfSome, IsOk, IsTrue, OnErr, OnOk};
 ghost use Rattle.std.specs.FinMap as map;
 
 use crate::cell::Cell;
 use crate::chains::{make_place, place_in, put_in, take_out};
 use crate::hashes::{bucket_of_hash, hash};
 use crate::head::Head;
+use crate::recent::Recent;
 use std::alloc::{AllocError, Global};
 use std::marker::Model;
 
@@ -21,6 +22,8 @@ pub struct Index {
     mask: usize,
     // For so many places there is memory.
     room: u32,
+    // Where keys were found lately.
+    recent: Recent,
 }
 
 impl Model for Index {
@@ -48,6 +51,7 @@ impl Index {
             cells: Vec::new(alloc),
             mask: 0,
             room: 0,
+            recent: Recent::new(),
         }
     }
 
@@ -68,7 +72,50 @@ impl Index {
     }
 
     /// The place at which a key is entered. `None` exactly where it isn't entered.
+    #[inline(never)]
     pub fn find(&self, key: u64) -> Option<u32>
+        ensures { result ≡ map.get self.now.places key }
+    {
+        let place = self.search(key)?;
+        self.recent.remember(key, place);
+        Some(place)
+    }
+
+    /// The place at which a key is entered, where it is the one that was found last for keys such as
+    /// this one; or else `None`.
+    #[inline(always)]
+    pub fn lately(&self, key: u64) -> Option<u32>
+        ensures { IfSome result (λ place. map.get self.now.places key ≡ Some place) }
+    {
+        let lately = self.recent.place(key);
+        if self.is_at(key, lately) {
+            Some(lately)
+        } else {
+            None
+        }
+    }
+
+    /// The key that is entered at a place, at which one is.
+    pub fn key(&self, place: u32) -> u64
+        requires { (key : ℕ) × (map.get self.now.places key ≡ Some place) }
+        ensures { map.get self.now.places result ≡ Some place }
+    {
+        self.cells[place as usize].key
+    }
+
+    // Whether a key is entered at this place.
+    #[inline(always)]
+    fn is_at(&self, key: u64, place: u32) -> bool
+        ensures { IsTrue result ↔ (map.get self.now.places key ≡ Some place) }
+    {
+        match self.cells.get(place as usize) {
+            Some(cell) => cell.has(key),
+            None => false,
+        }
+    }
+
+    // The same as `find`, by the chain of the key's bucket.
+    fn search(&self, key: u64) -> Option<u32>
         ensures { result ≡ map.get self.now.places key }
     {
         if self.heads.is_empty() {

@@ -27,5 +27,6 @@ mod chains;
 mod hashes;
 mod head;
 mod index;
+mod recent;
 
 pub use index::Index;

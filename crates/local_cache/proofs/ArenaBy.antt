@@ -4,7 +4,7 @@
 pub mod Tables
 -- What holds of each row, after one row was changed, taken away or added.
 pub mod EachRow
--- Each call that changes one page node, on the arena.
+-- Each call that changes page nodes, on the arena.
 pub mod Nodes
 -- A cache is made, on the arena.
 pub mod NewCache
@@ -24,9 +24,13 @@ pub mod Calls
 pub mod Locked
 -- The caches as they are seen, an arena, and each call.
 pub mod Seen
--- Each call that changes many page nodes, one after the other.
-pub mod Many
--- The caches as they are seen, after each call that changes many page nodes.
-pub mod SeenMany
+-- A change of one node as one of so many.
+pub mod OneOfMany
+-- New working nodes over others.
+pub mod WorkingOver
+-- Nodes that get other names, and nodes that give way.
+pub mod Exchanging
+-- The way up, and nodes in a row.
+pub mod Owners
 -- Page nodes that are alike, on the arena.
 pub mod Alike

@@ -16,35 +16,47 @@ pub mod NewCache
 pub mod Whole
 -- A list of stretches when one number is set or cleared.
 pub mod Singles
--- The cells of nodes, as their runs and records say them.
-pub mod NodeCells
--- The lists by which nodes are found.
-pub mod NodeKeys
--- The records of nodes in their slab.
-pub mod Records
--- Records that say what no run can.
-pub mod Needed
--- What is written of one node.
-pub mod Writing
 -- The caches without their page nodes.
 pub mod CacheList
 -- A node that gets another own state and another parent in one write.
 pub mod Rehung
--- A node placed in all lists, and taken out of them.
-pub mod Placing
--- What holds of all lists and counters, after a change of one node.
-pub mod NodeRuns
--- The page nodes of a new cache.
-pub mod Making
--- Nodes under numbers that no node had, said by one run.
-pub mod Added
--- Working nodes made, as one run.
-pub mod MakingWorking
--- A run said in other words.
-pub mod Adapting
 -- Many page nodes at once.
 pub mod ManyNodes
 -- The arena that page nodes as runs and the rows of caches stand for.
 pub mod ArenaBy
--- What is known of some nodes and of some pages.
-pub mod Known
+-- What is done so many times.
+pub mod Each
+-- The thin nodes.
+pub mod Thinness
+-- Maps from numbers.
+pub mod NodeCells
+-- What holds of the nodes by their numbers.
+pub mod TableRight
+-- Runs further on.
+pub mod RunAfter
+-- Maps changed at many numbers.
+pub mod Stretched
+-- Singles.
+pub mod Packing
+-- The first of the thin nodes.
+pub mod ThinFirst
+-- Pages that follow one another.
+pub mod PageRanges
+-- Many nodes, piece by piece.
+pub mod Pieces
+-- Nodes that are alike.
+pub mod Alike
+-- Nodes in a row.
+pub mod InRow
+-- Nodes that keep their names.
+pub mod NodesKept
+-- The way up to an owner.
+pub mod WayUp
+-- Which page has which node.
+pub mod PagesKept
+-- The first nodes of pages.
+pub mod MadePages
+-- Nodes that come.
+pub mod NodesCome
+-- Nodes under each other's names.
+pub mod Exchanged

@@ -1,7 +1,5 @@
 -- A cache is made.
 
--- The nodes of a cache that is made.
-pub mod Cells
 -- What is found after a cache was made.
 pub mod FoundPages
 -- A cache that is made: the caches stay sound, and the forest has its pages more.

@@ -1,23 +1,13 @@
--- The cells of nodes, as their runs and records say them.
-use Rattle.std.proofs.Common.{◌≡◌, ◌≢◌, ℕ, zero, suc, ◌<◌, ◌≤◌, eqb, List, [], ◌∷◌, length, map as list_map, Option, Some, None, IsSome, is_some, refl, ap, sym, ◌∙◌, inl, inr, arith}
-use Rattle.std.specs.Prelude.{option_map}
+-- Maps from numbers: one number set or cleared, and how many there are.
+use Rattle.std.proofs.Common.{◌≡◌, ◌≢◌, ℕ, zero, suc, ◌<◌, ◌≤◌, eqb, List, [], ◌∷◌, length, Option, Some, None, IsSome, is_some, refl, ap, sym, ◌∙◌, inl, inr, arith}
 use Rattle.std.proofs.lemmas.Bool.{cases_eq, eq-eqb, ne_eqb}
 use Rattle.std.proofs.lemmas.Option.{none-some}
-use Rattle.std.specs.Cmp.{nat_cmp_total}
 use Rattle.std.specs.Ordering.{nat_cmp, eq_by_cmp}
-use Rattle.std.specs.FinMap.{FinMap, find, get-entries, get-from_entries, len-entries}
+use Rattle.std.specs.FinMap.{FinMap, find, get-entries, len-entries}
 use Rattle.std.specs.FinMap as map
-use Rattle.stretches.specs.Cells.{cells}
-use Rattle.stretches.specs.Stretches.{said}
-use Rattle.stretches.proofs.Cells.{get_cells, tied, untied}
+use Rattle.stretches.proofs.Cells.{tied}
 use Rattle.stretches.proofs.Reading.Numbers.{chosen, passed}
-use Rattle.local_cache.specs.declared.runs.node_lists.NodeLists.{NodeLists}
-use Rattle.local_cache.specs.declared.runs.record.Record.{Record}
-use Rattle.local_cache.specs.declared.runs.run.Run.{Run}
-use Rattle.local_cache.specs.NodeCells.{cell_by, cells_by, node_cells, tree_of}
-use Rattle.local_cache.specs.Records.{each}
-use Rattle.local_cache.specs.Runs.{first_name, run}
-use Rattle.local_cache.proofs.Singles.{get_inserted, get_removed, len_remove_old, none_of, same_maps}
+use Rattle.local_cache.proofs.Singles.{get_inserted, get_removed, len_remove_old, same_maps}
 
 -- One number of a map set or cleared
 
@@ -119,100 +109,3 @@ pub len_within : {X Y : Type 0} (m : FinMap nat_cmp X) (c : FinMap nat_cmp Y)
     → ((k : ℕ) → IsSome (map.get m k) → IsSome (map.get c k)) → map.len m ≤ map.len c
 len_within m c within =
     len_into (λ k x. k) m c (λ k x h. within k (ap is_some h)) (λ j k x y h i same. same)
-
--- The cells
-
-module _ {A B : Type 0} (f : ℕ → A → B) where
-  find_mapped : (es : List (ℕ × A)) (q : ℕ)
-      → find nat_cmp q (list_map (λ e. (e.0, f e.0 e.1)) es) ≡ option_map (f q) (find nat_cmp q es)
-  find_mapped [] q = refl
-  find_mapped (e ∷ es) q =
-      let rest = find nat_cmp q (list_map (λ e. (e.0, f e.0 e.1)) es) in
-      elim (cases_eq q e.0) [
-        | inl same ↦
-            chosen (eq_by_cmp nat_cmp q e.0) (tied q e.0 same) (Some (f e.0 e.1)) rest
-            ∙ ap (λ (j : ℕ). Some (f j e.1)) (sym same)
-            ∙ sym (ap (option_map (f q)) (chosen (eq_by_cmp nat_cmp q e.0) (tied q e.0 same) (Some e.1) (find nat_cmp q es)))
-        | inr other ↦
-            passed (eq_by_cmp nat_cmp q e.0) (untied q e.0 other) (Some (f e.0 e.1)) rest
-            ∙ find_mapped es q
-            ∙ sym (ap (option_map (f q)) (passed (eq_by_cmp nat_cmp q e.0) (untied q e.0 other) (Some e.1) (find nat_cmp q es)))
-      ]
-
-module _ (R : FinMap nat_cmp Run) (D : FinMap nat_cmp Record) where
-  pub get_cells_by : (n : ℕ)
-      → map.get (cells_by R D) n ≡ option_map (λ r. cell_by r (map.get D n)) (map.get R n)
-  unfolding cells_by
-  get_cells_by n =
-      get-from_entries nat_cmp_total _ n
-      ∙ find_mapped (λ k r. cell_by r (map.get D k)) (map.entries R) n
-      ∙ ap (option_map (λ r. cell_by r (map.get D n))) (sym (get-entries R n))
-
-  is_some_map : {A B : Type 0} (f : A → B) (o : Option A) → is_some (option_map f o) ≡ is_some o
-  is_some_map f None = refl
-  is_some_map f (Some x) = refl
-
-  -- a node is there where it has a run
-  pub held_by_run : (n : ℕ) → is_some (map.get (cells_by R D) n) ≡ is_some (map.get R n)
-  held_by_run n = ap is_some (get_cells_by n) ∙ is_some_map _ (map.get R n)
-
-  pub len_cells : map.len (cells_by R D) ≡ map.len R
-  len_cells =
-      let most = len_within (cells_by R D) R (λ k h. sym (held_by_run k) ∙ h) in
-      let least = len_within R (cells_by R D) (λ k h. held_by_run k ∙ h) in
-      omega (arith, most, least)
-
--- a node's run and record set
-pub cells_set : (R : FinMap nat_cmp Run) (D D' : FinMap nat_cmp Record) (n : ℕ) (r : Run)
-    → ((q : ℕ) → q ≢ n → map.get D' q ≡ map.get D q)
-    → cells_by (map.insert R n r) D' ≡ map.insert (cells_by R D) n (cell_by r (map.get D' n))
-cells_set R D D' n r others =
-    inserted_by _ _ n _
-    (get_cells_by _ _ n ∙ ap (option_map (λ s. cell_by s (map.get D' n))) (inserted_here R n r))
-    (λ q other.
-    get_cells_by _ _ q
-    ∙ ap (option_map (λ s. cell_by s (map.get D' q))) (inserted_other R n r q other)
-    ∙ ap (λ (o : Option Record). option_map (λ s. cell_by s o) (map.get R q)) (others q other)
-    ∙ sym (get_cells_by R D q))
-
--- both taken away
-pub cells_taken : (R : FinMap nat_cmp Run) (D : FinMap nat_cmp Record) (n : ℕ)
-    → cells_by (map.remove R n) (map.remove D n) ≡ map.remove (cells_by R D) n
-cells_taken R D n =
-    removed_by _ _ n
-    (get_cells_by _ _ n ∙ ap (option_map (λ s. cell_by s (map.get (map.remove D n) n))) (removed_here R n))
-    (λ q other.
-    get_cells_by _ _ q
-    ∙ ap (option_map (λ s. cell_by s (map.get (map.remove D n) q))) (removed_other R n q other)
-    ∙ ap (λ (o : Option Record). option_map (λ s. cell_by s o) (map.get R q)) (removed_other D n q other)
-    ∙ sym (get_cells_by R D q))
-
--- The lists
-
-module _ (l : NodeLists) (n : ℕ) where
-  pub node_run : IsSome (map.get (node_cells l) n) → IsSome (said run l.runs.list n)
-  node_run h =
-      ap is_some (sym (get_cells run l.runs.list n))
-      ∙ sym (held_by_run (cells run l.runs.list) (cells each l.records.list) n) ∙ h
-
-  pub node_none : said run l.runs.list n ≡ None → map.get (node_cells l) n ≡ None
-  node_none h =
-      none_of _ (held_by_run (cells run l.runs.list) (cells each l.records.list) n
-      ∙ ap is_some (get_cells run l.runs.list n ∙ h))
-
-  pub node_cell : (r : Run) (o : Option Record) → said run l.runs.list n ≡ Some r
-      → said each l.records.list n ≡ o → map.get (node_cells l) n ≡ Some (cell_by r o)
-  node_cell r o run_is record_is =
-      get_cells_by (cells run l.runs.list) (cells each l.records.list) n
-      ∙ ap (λ (s : Option Run). option_map (λ q. cell_by q (map.get (cells each l.records.list) n)) s)
-      (get_cells run l.runs.list n ∙ run_is)
-      ∙ ap (λ (s : Option Record). Some (cell_by r s)) (get_cells each l.records.list n ∙ record_is)
-
--- the name and the tree children of a node are what its run says, with a record or without
-pub name_by_run : (r : Run) (o : Option Record) → (cell_by r o).name ≡ first_name r.name
-name_by_run r None = refl
-name_by_run r (Some c) = refl
-
-pub tree_by_run : (r : Run) (o : Option Record) → (cell_by r o).tree ≡ tree_of r.older r.newer
-tree_by_run r None = refl
-tree_by_run r (Some c) = refl

@@ -1,5 +1,5 @@
 -- Codes, so that an arena can be the value of a model.
-use Rattle.std.specs.Prelude.{◌≡◌, ℕ, List, [], ◌∷◌, Option, Bool, true, false, refl}
+use Rattle.std.specs.Prelude.{◌≡◌, ℕ, zero, suc, List, [], ◌∷◌, Option, Bool, true, false, refl}
 use mathlib.Core.Path.{ap}
 use base.Stored.{coded_via}
 use Rattle.std.specs.Ordering.{nat_cmp}
@@ -18,7 +18,12 @@ use Rattle.vm_ids.specs.Forest.Codes.{name_code}
 use Rattle.local_cache.specs.Arena.{Arena, Cell, Room, Table}
 use Rattle.local_cache.specs.ArenaBy.{CacheRow, CacheRows}
 use Rattle.local_cache.specs.PageNodes.{PageNodes}
-use Rattle.stretches.specs.declared.rising.Rising.{Rising}
+use Rattle.local_cache.specs.declared.runs.run.PlainState.{PlainState}
+use Rattle.local_cache.specs.declared.runs.run.PlainState.TheVariants.{Absent as PlainAbsent, Zero as PlainZero, OnSegment as PlainOnSegment}
+use Rattle.local_cache.specs.declared.runs.run.Run.{Run}
+use Rattle.local_cache.specs.declared.runs.run.RunName.{RunName}
+use Rattle.local_cache.specs.declared.runs.run.RunName.TheVariants.{Pages, Working}
+use Rattle.mixed_map.specs.Mixed.{Mixed, mixed_code}
 
 abbrev bit : Bool → ℕ
 bit false = 0
@@ -137,16 +142,66 @@ arena_code =
       room = t.1.1.1.1;
     }) (λ _. refl)
 
-abbrev pub rising_code : Coded Rising
-rising_code = code_by ℕ coded_ℕ (λ n. n.0) (λ k. record { 0 = k }) (λ _. refl)
-
 abbrev pub page_nodes_code : Coded PageNodes
 page_nodes_code =
-    code_by (FinMap nat_cmp Cell × (FinMap nat_cmp Rising × (ℕ × ℕ)))
+    code_by (FinMap nat_cmp Cell × (FinMap nat_cmp NodeId × (ℕ × ℕ)))
     (coded× (ids.code coded_ℕ cell_code)
-    (coded× (ids.code coded_ℕ rising_code) (coded× coded_ℕ coded_ℕ)))
+    (coded× (ids.code coded_ℕ id_code) (coded× coded_ℕ coded_ℕ)))
     (λ m. (m.cells, (m.pages, (m.made, m.room))))
     (λ t. record { cells = t.0; pages = t.1.0; made = t.1.1.0; room = t.1.1.1 }) (λ _. refl)
+
+-- what a run says is stored as the tuple of its fields
+abbrev pub name_key : RunName → (ℕ × (ℕ × ℕ))
+name_key (Pages cache page) = (0, (cache.0, page.0))
+name_key (Working k) = (1, (k, 0))
+
+abbrev pub name_by : (ℕ × (ℕ × ℕ)) → RunName
+name_by (zero, (a, b)) = Pages (record { 0 = a }) (record { 0 = b })
+name_by (suc _, (a, b)) = Working a
+
+abbrev pub plain_key : PlainState → ℕ
+plain_key PlainAbsent = 0
+plain_key PlainZero = 1
+plain_key PlainOnSegment = 2
+
+abbrev pub plain_by : ℕ → PlainState
+plain_by zero = PlainAbsent
+plain_by (suc zero) = PlainZero
+plain_by (suc (suc _)) = PlainOnSegment
+
+pub name_back : (x : RunName) → name_by (name_key x) ≡ x
+name_back (Pages cache page) = refl
+name_back (Working k) = refl
+
+pub plain_back : (x : PlainState) → plain_by (plain_key x) ≡ x
+plain_back PlainAbsent = refl
+plain_back PlainZero = refl
+plain_back PlainOnSegment = refl
+
+abbrev pub run_code : Coded Run
+run_code =
+    code_by
+    ((ℕ × (ℕ × ℕ)) × (ℕ × (Option NodeId × (Option NodeId × Option NodeId))))
+    (coded× (coded× coded_ℕ (coded× coded_ℕ coded_ℕ))
+    (coded× coded_ℕ
+    (coded× (coded_option id_code) (coded× (coded_option id_code) (coded_option id_code)))))
+    (λ r. (name_key r.name, (plain_key r.own, (r.parent, (r.older, r.newer)))))
+    (λ t. record {
+      name = name_by t.0;
+      own = plain_by t.1.0;
+      parent = t.1.1.0;
+      older = t.1.1.1.0;
+      newer = t.1.1.1.1;
+    }) (λ r i. record {
+      name = name_back r.name i;
+      own = plain_back r.own i;
+      parent = r.parent;
+      older = r.older;
+      newer = r.newer;
+    })
+
+abbrev pub node_table_code : Coded (Mixed Run Cell)
+node_table_code = mixed_code run_code cell_code
 
 abbrev pub row_code : Coded CacheRow
 row_code =

@@ -1,16 +1,12 @@
 -- How what the entries of the lists say goes on.
-use Rattle.std.proofs.Common.{◌≡◌, ℕ, ◌+◌, ◌-◌, ◌*◌, ◌^◌, max, min, Option, Some, None, refl, ap, arith}
+use Rattle.std.proofs.Common.{◌≡◌, ℕ, ◌+◌, ◌-◌, ◌^◌, max, min, Option, Some, None, refl, ap, arith}
 use Rattle.std.specs.Prelude.{◌↔◌}
 use Rattle.stretches.specs.GoingOn.{GoesOn}
 use Rattle.vm_ids.specs.declared.numbers.NodeId.{NodeId}
 use Rattle.local_cache.specs.declared.runs.run.RunName.{RunName}
-use Rattle.local_cache.specs.declared.runs.run.RunName.TheVariants.{Pages, Working, EverySecond}
-use Rattle.local_cache.specs.declared.runs.thin_nodes.ThinNodes.{ThinNodes}
-use Rattle.local_cache.specs.declared.runs.thin_nodes.ThinNodes.TheVariants.{Each, EverySecond as EverySecondNode}
+use Rattle.local_cache.specs.declared.runs.run.RunName.TheVariants.{Pages, Working}
 use Rattle.local_cache.specs.PageMarks.{granted_says, locks_say}
-use Rattle.local_cache.specs.Records.{key}
 use Rattle.local_cache.specs.Runs.{HasNames, further, further_if, name_after, run}
-use Rattle.local_cache.specs.ThinNodes.{HasNodes, thin_after, thin_nodes}
 
 -- Runs
 
@@ -41,7 +37,6 @@ name_starts (Pages cache page) =
     let e : page.0 + 0 ≡ page.0 = omega arith in
     λ i. Pages cache (record { 0 = e i })
 name_starts (Working k) = ap Working (let e : k + 0 ≡ k = omega arith in e)
-name_starts (EverySecond k) = ap EverySecond (let e : k + 2 * 0 ≡ k = omega arith in e)
 
 name_composes : (name : RunName) (a b : ℕ)
     → name_after (name_after name a) b ≡ name_after name (a + b)
@@ -49,15 +44,11 @@ name_composes (Pages cache page) a b =
     let e : page.0 + a + b ≡ page.0 + (a + b) = omega arith in
     λ i. Pages cache (record { 0 = e i })
 name_composes (Working k) a b = let e : k + a + b ≡ k + (a + b) = omega arith in ap Working e
-name_composes (EverySecond k) a b =
-    let e : k + 2 * a + 2 * b ≡ k + 2 * (a + b) = omega arith in
-    ap EverySecond e
 
 names_split : (name : RunName) (a b : ℕ)
     → HasNames name (a + b) ↔ (HasNames name a × HasNames (name_after name a) b)
 names_split (Pages cache page) a b = (λ h. (omega arith, omega arith), λ h. omega (arith, h.0, h.1))
 names_split (Working k) a b = (λ h. (omega arith, omega arith), λ h. omega (arith, h.0, h.1))
-names_split (EverySecond k) a b = (λ h. (omega arith, omega arith), λ h. omega (arith, h.0, h.1))
 
 pub run_goes_on : GoesOn run.after run.lasts
 run_goes_on =
@@ -79,16 +70,6 @@ run_goes_on =
       splits = λ r a b. names_split r.name a b;
     }
 
--- Keys of records
-
-pub key_goes_on : GoesOn key.after key.lasts
-key_goes_on =
-    record {
-      starts = λ k. refl;
-      composes = λ k a b. refl;
-      splits = λ k a b. (λ h. (tt, tt), λ h. tt);
-    }
-
 -- Grants and locks
 
 pub granted_goes_on : GoesOn granted_says.after granted_says.lasts
@@ -106,29 +87,3 @@ locks_go_on =
       composes = λ v a b. refl;
       splits = λ v a b. (λ h. (tt, tt), λ h. tt);
     }
-
--- Thin nodes
-
-thin_starts : (t : ThinNodes) → thin_after t 0 ≡ t
-thin_starts (Each n) = let e : n.0 + 0 ≡ n.0 = omega arith in ap Each (node_of_same _ _ e)
-thin_starts (EverySecondNode n) =
-    let e : n.0 + 2 * 0 ≡ n.0 = omega arith in
-    ap EverySecondNode (node_of_same _ _ e)
-
-thin_composes : (t : ThinNodes) (a b : ℕ) → thin_after (thin_after t a) b ≡ thin_after t (a + b)
-thin_composes (Each n) a b =
-    let e : n.0 + a + b ≡ n.0 + (a + b) = omega arith in
-    ap Each (node_of_same _ _ e)
-thin_composes (EverySecondNode n) a b =
-    let e : n.0 + 2 * a + 2 * b ≡ n.0 + 2 * (a + b) = omega arith in
-    ap EverySecondNode (node_of_same _ _ e)
-
-nodes_split : (t : ThinNodes) (a b : ℕ)
-    → HasNodes t (a + b) ↔ (HasNodes t a × HasNodes (thin_after t a) b)
-nodes_split (Each n) a b = (λ h. (omega arith, omega arith), λ h. omega (arith, h.0, h.1))
-nodes_split (EverySecondNode n) a b =
-    (λ h. (omega arith, omega arith), λ h. omega (arith, h.0, h.1))
-
-pub thin_nodes_go_on : GoesOn thin_nodes.after thin_nodes.lasts
-thin_nodes_go_on =
-    record { starts = thin_starts; composes = thin_composes; splits = nodes_split }

@@ -1,6 +1,6 @@
 -- Many page nodes of the caches changed at once: as the calls for one change them, one after the
 -- other.
-use Rattle.std.specs.Prelude.{◌≡◌, ℕ, zero, suc, ◌+◌, ◌<◌, [], ◌∷◌, map, None, Some}
+use Rattle.std.specs.Prelude.{◌≡◌, ℕ, ◌+◌, ◌<◌, [], ◌∷◌, map, None, Some}
 use Rattle.vm_ids.specs.declared.command.Span.{Span}
 use Rattle.vm_ids.specs.declared.node_name.NodeName.TheVariants.{Live, Working}
 use Rattle.vm_ids.specs.declared.numbers.CacheId.{CacheId}
@@ -9,7 +9,7 @@ use Rattle.vm_ids.specs.declared.numbers.PageNo.{PageNo}
 use Rattle.local_cache.specs.declared.own_state.OwnState.{OwnState}
 use Rattle.local_cache.specs.declared.own_state.OwnState.TheVariants.{Absent, Zero, Resident, Slot, OnSegment}
 use Rattle.local_cache.specs.Arena.{Arena, Cell, HasNode, IsVacant, as_working, cell, find, hung, no_links, with_name, with_new, with_tree, with_working, without}
-use Rattle.local_cache.specs.ManyNodes.{next_if, next_node}
+use Rattle.local_cache.specs.ManyNodes.{each, next_if, next_node}
 
 -- so many nodes from one on are there
 abbrev pub HaveNodes : Arena → NodeId → ℕ → Type 0
@@ -25,11 +25,6 @@ AreNamed a n cache page count =
     (k : ℕ) → k < count
     → HasNode a (next_node n k)
     × ((cell a (next_node n k)).name ≡ Live cache (record { 0 = page.0 + k }))
-
--- a live cache has so many pages from one on, none of which has a node
-abbrev pub AreVacant : Arena → CacheId → PageNo → ℕ → Type 0
-AreVacant a cache page count =
-    (k : ℕ) → k < count → IsVacant a cache (record { 0 = page.0 + k })
 
 -- many nodes can be made in this own state at once: it is neither a frame nor a slot
 abbrev pub IsPlain : OwnState → Type 0
@@ -47,73 +42,48 @@ pub record CanBeAlike (c : Cell) : Type 0 where
 
 -- the arena without so many nodes, from one on
 abbrev pub without_many : Arena → NodeId → ℕ → Arena
-without_many a n zero = a
-without_many a n (suc k) = without (without_many a n k) (next_node n k)
-
--- a new node for each of so many pages of a cache, from one page and one node on
-abbrev pub with_new_many : Arena → NodeId → CacheId → PageNo → OwnState → ℕ → Arena
-with_new_many a n cache page own zero = a
-with_new_many a n cache page own (suc k) =
-    with_new (with_new_many a n cache page own k) (next_node n k)
-    (Live cache (record { 0 = page.0 + k })) own
+without_many a n count =
+    each (λ k b. without b (next_node n k)) count a
 
 -- so many new working nodes, under the next names, from one node on
 abbrev pub with_working_many : Arena → NodeId → ℕ → Arena
-with_working_many a n zero = a
-with_working_many a n (suc k) = with_working (with_working_many a n k) (next_node n k)
+with_working_many a n count =
+    each (λ k b. with_working b (next_node n k)) count a
 
 -- so many nodes from one on under the next working names
 abbrev pub as_working_many : Arena → NodeId → ℕ → Arena
-as_working_many a n zero = a
-as_working_many a n (suc k) = as_working (as_working_many a n k) (next_node n k)
-
--- so many nodes from one on as the nodes of pages of a cache, from one page on
-abbrev pub renamed_many : Arena → NodeId → CacheId → PageNo → ℕ → Arena
-renamed_many a n cache page zero = a
-renamed_many a n cache page (suc k) =
-    with_name (renamed_many a n cache page k) (next_node n k)
-    (Live cache (record { 0 = page.0 + k }))
-
--- The nodes of the source's pages, from s on, as those of the destination's pages, whose own ones,
--- from d on, are gone, and new nodes of zeros, from n on, for the source's pages.
-abbrev pub moved_many : Arena → (d s n : NodeId) → Span → Arena
-moved_many a d s n span =
-    with_new_many
-    (renamed_many (without_many a d span.pages) s span.to span.to_page span.pages) n
-    span.from span.from_page Zero span.pages
+as_working_many a n count =
+    each (λ k b. as_working b (next_node n k)) count a
 
 -- so many nodes from one on, each on the next parent by a tree link
 abbrev pub hung_many : Arena → NodeId → NodeId → ℕ → Arena
-hung_many a n parent zero = a
-hung_many a n parent (suc k) =
-    hung (hung_many a n parent k) (next_node n k) (Some (next_node parent k))
+hung_many a n parent count =
+    each (λ k b. hung b (next_node n k) (Some (next_node parent k))) count a
 
 -- so many nodes from one on, each over the next node as its only tree child
 abbrev pub over_many : Arena → NodeId → NodeId → ℕ → Arena
-over_many a n child zero = a
-over_many a n child (suc k) =
-    with_tree (over_many a n child k) (next_node n k) (next_node child k ∷ [])
+over_many a n child count =
+    each (λ k b. with_tree b (next_node n k) (next_node child k ∷ [])) count a
 
 -- so many nodes from one on, each over the next two nodes as its tree children
 abbrev pub over_two_many : Arena → NodeId → NodeId → NodeId → ℕ → Arena
-over_two_many a n older newer zero = a
-over_two_many a n older newer (suc k) =
-    with_tree (over_two_many a n older newer k) (next_node n k)
-    (next_node older k ∷ next_node newer k ∷ [])
+over_two_many a n older newer count =
+    each (λ k b. with_tree b (next_node n k) (next_node older k ∷ next_node newer k ∷ [])) count a
 
--- The node so many numbers behind another one is like it: it has the same own state and no stubs,
--- its parent by a tree link and its tree children are as many numbers further on, and it is named
--- by a page as many further on, or is a working node too.
+-- The node so many numbers behind another one is like it: it has the same own state, which is a
+-- plain one, and no stubs, its parent by a tree link and its tree children are as many numbers
+-- further on, and it is named by a page or a working number as many further on.
 pub record IsAlike (a : Arena) (n : NodeId) (k : ℕ) : Type 0 where
   pub held : HasNode a (next_node n k)
   pub own : (cell a (next_node n k)).own ≡ (cell a n).own
+  pub plain : IsPlain (cell a n).own
   pub links : (cell a (next_node n k)).links
       ≡ record no_links { parent = next_if (cell a n).links.parent k }
   pub tree : (cell a (next_node n k)).tree ≡ map (λ child. next_node child k) (cell a n).tree
   pub page : (cache : CacheId) (page : PageNo) → (cell a n).name ≡ Live cache page
       → (cell a (next_node n k)).name ≡ Live cache (record { 0 = page.0 + k })
   pub working : (number : ℕ) → (cell a n).name ≡ Working number
-      → (other : ℕ) × ((cell a (next_node n k)).name ≡ Working other)
+      → (cell a (next_node n k)).name ≡ Working (number + k)
 
 -- so many nodes from one on are alike
 abbrev pub AreAlike : Arena → NodeId → ℕ → Type 0

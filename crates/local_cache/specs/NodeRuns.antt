@@ -1,53 +1,54 @@
--- What the lists and the counters of the page nodes stand for, and what holds of them.
-use Rattle.std.specs.Prelude.{◌≡◌, ◌⊎◌, ℕ, ◌+◌, ◌-◌, ◌<◌, ◌≤◌, ◌^◌, IsSome, Some}
-use Rattle.std.specs.Ordering.{nat_cmp}
-use Rattle.std.specs.FinMap.{FinMap}
+-- What the page nodes, the pages and the counters stand for, and what holds of them.
+use Rattle.std.specs.Prelude.{◌≡◌, ◌⊎◌, ℕ, ◌+◌, ◌*◌, ◌-◌, ◌<◌, ◌≤◌, ◌^◌, Some}
 use Rattle.std.specs.FinMap as map
-use Rattle.stretches.specs.Cells.{cells}
-use Rattle.stretches.specs.Rising.{rising}
 use Rattle.local_cache.specs.declared.runs.counters.Counters.{Counters}
-use Rattle.local_cache.specs.declared.runs.node_lists.NodeLists.{NodeLists}
-use Rattle.local_cache.specs.declared.runs.run.RunName.{RunName}
-use Rattle.local_cache.specs.declared.runs.run.RunName.TheVariants.{Pages, Working, EverySecond}
-use Rattle.local_cache.specs.Arena.{Cell}
-use Rattle.local_cache.specs.NodeCells.{node_cells}
+use Rattle.local_cache.specs.declared.runs.page_table.PageTable.{PageTable}
+use Rattle.local_cache.specs.NodeCells.{Cells, HasCell}
 use Rattle.local_cache.specs.NodeKeys.{key_at, working_number}
-use Rattle.local_cache.specs.NodeLists.{IsIndexed, AreListsKept}
-use Rattle.local_cache.specs.PageNodes.{PageNodes}
+use Rattle.local_cache.specs.NodeTable.{Table}
+use Rattle.local_cache.specs.PageNodes.{ArePaged, PageNodes}
 
-abbrev pub nodes_of : NodeLists → Counters → PageNodes
-nodes_of l c = record {
-  cells = node_cells l;
-  pages = cells rising l.pages.list;
+abbrev pub nodes_of : Table → PageTable → Counters → ℕ → PageNodes
+nodes_of t p c capacity = record {
+  cells = t.cells;
+  pages = p.nodes.cells;
   made = c.made;
-  room = l.capacity - map.len (node_cells l);
+  room = capacity - map.len t.cells;
 }
 
--- how many nodes of pages a node of this name is, one or none
-abbrev pub live_of : RunName → ℕ
-live_of (Pages cache page) = 1
-live_of (Working k) = 0
-live_of (EverySecond k) = 0
-
--- a number was given to a node of a page, or to one made as a working node
+-- The number of a node tells where it comes from: the first node of a page has that of the page, a
+-- page got a further one from 2^61 on, and working nodes were made from 2^63 on. So no node has the
+-- next number of either series.
 abbrev pub IsGiven : Counters → ℕ → Type 0
-IsGiven c n = (n < c.next_page) ⊎ ((2 ^ 52 ≤ n) × (n < c.next_working))
+IsGiven c n =
+    (n < 2 ^ 61)
+    ⊎ (((2 ^ 61 ≤ n) × (n < 2 ^ 61 + c.fresh)) ⊎ ((2 ^ 63 ≤ n) × (n < 2 ^ 63 + c.working)))
 
--- numbers and working names were given, no working name to two nodes
-pub record IsNumbered (nodes : FinMap nat_cmp Cell) (c : Counters) : Type 0 where
-  pub given : (n : ℕ) → IsSome (map.get nodes n) → IsGiven c n
-  pub named : (n k : ℕ) → key_at working_number nodes n ≡ Some k → k ≤ c.made
-  pub apart : (n m k : ℕ) → key_at working_number nodes n ≡ Some k
-      → key_at working_number nodes m ≡ Some k → n ≡ m
-  pub pages : c.next_page ≤ 2 ^ 52
-  pub workings : 2 ^ 52 ≤ c.next_working
-  pub few : c.next_working ≤ 2 ^ 52 + c.made
-  pub made : c.made ≤ 2 ^ 63
+pub record AreNumbered (cells : Cells) (c : Counters) : Type 0 where
+  pub given : (n : ℕ) → HasCell cells n → IsGiven c n
+  pub named : (n k : ℕ) → key_at working_number cells n ≡ Some k → k ≤ c.made
+  pub apart : (n m k : ℕ) → key_at working_number cells n ≡ Some k
+      → key_at working_number cells m ≡ Some k → n ≡ m
+  pub fresh : c.fresh ≤ c.made
+  pub working : c.working ≤ c.made
+  pub made : c.made ≤ 3 * 2 ^ 61
 
--- what holds of the lists and the counters
-pub record AreNodesRight (l : NodeLists) (c : Counters) : Type 0 where
-  pub kept : AreListsKept l
-  pub indexed : IsIndexed l
-  pub numbered : IsNumbered (node_cells l) c
-  pub nodes : c.nodes ≡ map.len (node_cells l)
-  pub live : c.live ≡ map.len (cells rising l.pages.list)
+pub record AreCounted (t : Table) (p : PageTable) (c : Counters) : Type 0 where
+  pub nodes : c.nodes ≡ map.len t.cells
+  pub live : c.live ≡ map.len p.nodes.cells
+  pub table : t.count ≡ map.len t.cells
+  pub pages : p.nodes.count ≡ map.len p.nodes.cells
+
+-- there is memory for as many nodes as there may be, each of them of a page
+pub record HavePlaces (t : Table) (p : PageTable) (capacity : ℕ) : Type 0 where
+  pub few : capacity < 2 ^ 32
+  pub nodes : map.len t.cells ≤ capacity
+  pub table : capacity ≤ t.room
+  pub pages : capacity ≤ p.nodes.room
+
+-- what holds of them all
+pub record AreNodesRight (t : Table) (p : PageTable) (c : Counters) (capacity : ℕ) : Type 0 where
+  pub paged : ArePaged t.cells p.nodes.cells
+  pub numbered : AreNumbered t.cells c
+  pub counted : AreCounted t p c
+  pub places : HavePlaces t p capacity

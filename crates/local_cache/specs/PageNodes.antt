@@ -1,25 +1,27 @@
--- What a contract sees of the page nodes: their cells by number, and the nodes of pages.
-use Rattle.std.specs.Prelude.{◌≡◌, ℕ, ◌+◌, ◌-◌, ◌≤◌, false, List, [], ◌∷◌, length, Option, Some, None, option_map, unwrap_or, IsSome}
-use Rattle.std.specs.Ordering.{nat_cmp}
-use Rattle.std.specs.FinMap.{FinMap}
+-- What a contract sees of the page nodes: their cells by number, and the nodes of pages. Each call
+-- is one equation on these two maps.
+use Rattle.std.specs.Prelude.{◌≡◌, ◌≢◌, ◌↔◌, ℕ, ◌+◌, ◌-◌, ◌<◌, ◌≤◌, ◌^◌, [], Bool, false, Option, Some, None, ◌&&◌, not}
 use Rattle.std.specs.FinMap as ids
-use Rattle.stretches.specs.declared.rising.Rising.{Rising}
 use Rattle.vm_ids.specs.declared.node_name.NodeName.{NodeName}
-use Rattle.vm_ids.specs.declared.node_name.NodeName.TheVariants.{Working}
+use Rattle.vm_ids.specs.declared.node_name.NodeName.TheVariants.{Live, Working}
 use Rattle.vm_ids.specs.declared.numbers.CacheId.{CacheId}
 use Rattle.vm_ids.specs.declared.numbers.NodeId.{NodeId}
-use Rattle.local_cache.specs.declared.links.Links.{Links}
 use Rattle.local_cache.specs.declared.own_state.OwnState.{OwnState}
-use Rattle.local_cache.specs.declared.own_state.OwnState.TheVariants.{Absent}
-use Rattle.local_cache.specs.Arena.{Cell, IsFilled, blank, new_cell}
-use Rattle.local_cache.specs.NodeKeys.{Indexes, key_at, page_key, page_number, page_of_name, rekeyed, with_key, without_key}
-use Rattle.local_cache.specs.Thin.{thin_number}
+use Rattle.local_cache.specs.declared.runs.run.Run.{Run}
+use Rattle.local_cache.specs.declared.runs.run.RunName.TheVariants.{Working as WorkingRun}
+use Rattle.local_cache.specs.Arena.{Cell, new_cell}
+use Rattle.local_cache.specs.ManyNodes.{each, next_node}
+use Rattle.local_cache.specs.NodeCells.{Cells, HasCell, HaveCells, cell_at, changed, changed_each, inheriting, named, renewed, run_cell, with_child}
+use Rattle.local_cache.specs.NodeKeys.{key_at, page_key, page_number}
+use Rattle.local_cache.specs.Own.{is_absent}
+use Rattle.local_cache.specs.Pages.{Pages, pages_with, with_pages}
+use Rattle.local_cache.specs.Runs.{run_after}
 
 -- the nodes by number, the node of each page by the number of the page among those of all caches,
 -- how many working names were given, and how many more nodes fit before memory is taken
 pub record PageNodes : Type 0 where
-  pub cells : FinMap nat_cmp Cell
-  pub pages : FinMap nat_cmp Rising
+  pub cells : Cells
+  pub pages : Pages
   pub made : ℕ
   pub room : ℕ
 
@@ -27,97 +29,154 @@ abbrev pub find : PageNodes → NodeId → Option Cell
 find m n = ids.get m.cells n.0
 
 abbrev pub HasNode : PageNodes → NodeId → Type 0
-HasNode m n = IsSome (find m n)
+HasNode m n = HasCell m.cells n.0
+
+abbrev pub HaveNodes : PageNodes → NodeId → ℕ → Type 0
+HaveNodes m n count = HaveCells m.cells n.0 count
+
+-- none of so many nodes from one on is there
+abbrev pub HaveNone : PageNodes → NodeId → ℕ → Type 0
+HaveNone m n count = (k : ℕ) → k < count → find m (next_node n k) ≡ None
 
 -- the node, or a blank one
-unfoldable pub cell : PageNodes → NodeId → Cell
-cell m n = unwrap_or (find m n) blank
+abbrev pub cell : PageNodes → NodeId → Cell
+cell m n = cell_at m.cells n.0
 
--- another cell at a number
-unfoldable pub put : PageNodes → NodeId → Cell → PageNodes
-put m n c = record m { cells = ids.insert m.cells n.0 c }
+-- the node of a page of a cache
+abbrev pub node_at : PageNodes → ℕ → ℕ → Option NodeId
+node_at m cache page = ids.get m.pages (page_number cache page)
 
-abbrev pub with_own : PageNodes → NodeId → OwnState → PageNodes
-with_own m n s = put m n (record (cell m n) { own = s })
+-- the page of a number has a node exactly where that is named by this page
+abbrev pub ArePaged : Cells → Pages → Type 0
+ArePaged cells pages =
+    (k n : ℕ) → (ids.get pages k ≡ Some (record { 0 = n })) ↔ (key_at page_key cells n ≡ Some k)
 
-abbrev pub with_links : PageNodes → NodeId → Links → PageNodes
-with_links m n l = put m n (record (cell m n) { links = l })
+-- Changes that leave names
 
--- the node on this parent by a tree link, or on none
-abbrev pub hung : PageNodes → NodeId → Option NodeId → PageNodes
-hung m n parent = with_links m n (record (cell m n).links { parent = parent; by_stub = false })
+-- each cell keeps its name
+abbrev pub KeepsNames : (Cell → Cell) → Type 0
+KeepsNames change = (c : Cell) → (change c).name ≡ c.name
 
-abbrev pub with_tree : PageNodes → NodeId → List NodeId → PageNodes
-with_tree m n ts = put m n (record (cell m n) { tree = ts })
+abbrev pub on_cell : PageNodes → NodeId → (Cell → Cell) → PageNodes
+on_cell m n change = record m { cells = changed m.cells n.0 change }
 
--- the node of a page, as the list of pages has it
-abbrev pub of_page : NodeId → Rising
-of_page n = record { 0 = n.0 }
+-- the same of each of so many nodes, from one on
+abbrev pub on_cells : PageNodes → NodeId → (ℕ → Cell → Cell) → ℕ → PageNodes
+on_cells m n change count = record m { cells = changed_each m.cells n.0 change count }
 
--- the node under another name
+-- the node without its place among the tree children of its parent, if it has one
+abbrev pub cut_from : PageNodes → Option NodeId → NodeId → Option NodeId → PageNodes
+cut_from m None n instead = m
+cut_from m (Some p) n instead = on_cell m p (with_child n instead)
+
+-- nothing hangs on it, and it hangs by no stub link
+pub record IsFreeLeaf (c : Cell) : Type 0 where
+  pub tree : c.tree ≡ []
+  pub stubs : c.links.first ≡ None
+  pub by_stub : c.links.by_stub ≡ false
+
+-- the node of this own state, without parent and children, and not among those of its parent
+abbrev pub leaf_renewed : PageNodes → NodeId → OwnState → PageNodes
+leaf_renewed m n s = cut_from (on_cell m n (renewed s)) (cell m n).links.parent n None
+
+-- Nodes under other names
+
+-- the node under another name, in the pages too
 abbrev pub with_name : PageNodes → NodeId → NodeName → PageNodes
-with_name m n x =
-    record (put m n (record (cell m n) { name = x })) {
-      pages = rekeyed m.pages (page_of_name (cell m n).name) (page_of_name x) (of_page n);
-    }
+with_name m n x = record (on_cell m n (named x)) {
+  pages = pages_with (pages_with m.pages (cell m n).name None) x (Some n);
+}
 
 -- the node under the next working name
 abbrev pub as_working : PageNodes → NodeId → PageNodes
 as_working m n = record (with_name m n (Working (m.made + 1))) { made = m.made + 1 }
 
--- a new node at a number
-unfoldable pub with_new : PageNodes → NodeId → NodeName → OwnState → PageNodes
+abbrev pub as_working_many : PageNodes → NodeId → ℕ → PageNodes
+as_working_many m n count = each (λ k p. as_working p (next_node n k)) count m
+
+-- both nodes under each other's names
+abbrev pub exchanged_names : PageNodes → NodeId → NodeId → PageNodes
+exchanged_names m n o =
+    record (on_cell (on_cell m n (named (cell m o).name)) o (named (cell m n).name)) {
+      pages = with_pages (with_pages m.pages (cell m n).name o 1) (cell m o).name n 1;
+    }
+
+abbrev pub exchanged_many : PageNodes → NodeId → NodeId → ℕ → PageNodes
+exchanged_many m n o count =
+    each (λ k p. exchanged_names p (next_node n k) (next_node o k)) count m
+
+-- so many nodes from one on are those of pages of one cache that follow one another
+pub record AreNamedFrom (m : PageNodes) (n : NodeId) (count : ℕ) : Type 0 where
+  pub cache : CacheId
+  pub page : ℕ
+  pub few : page + count < 2 ^ 32
+  pub held : HaveNodes m n count
+  pub named : (k : ℕ) → k < count
+      → (cell m (next_node n k)).name ≡ Live cache (record { 0 = page + k })
+
+-- none of so many nodes from one on is one of so many from another one on
+abbrev pub AreApart : NodeId → NodeId → ℕ → Type 0
+AreApart n o count =
+    (i j : ℕ) → i < count → j < count → n.0 + i ≢ o.0 + j
+
+-- so many cells from one on under the name and the next ones of a page
+abbrev pub name_behind : NodeName → ℕ → NodeName
+name_behind (Live cache page) k = Live cache (record { 0 = page.0 + k })
+name_behind (Working number) k = Working (number + k)
+
+abbrev pub renamed_each : Cells → ℕ → NodeName → ℕ → Cells
+renamed_each m first x count = changed_each m first (λ k. named (name_behind x k)) count
+
+-- the pages without those by which so many nodes are named, from one on
+abbrev pub without_names : Pages → Cells → ℕ → ℕ → Pages
+without_names pages cells first count =
+    each (λ k p. pages_with p (cell_at cells (first + k)).name None) count pages
+
+-- Nodes that come and go
+
+-- a new node at a number, in the pages too
+abbrev pub with_new : PageNodes → NodeId → NodeName → OwnState → PageNodes
 with_new m n x s = record m {
   cells = ids.insert m.cells n.0 (new_cell x s);
-  pages = with_key m.pages (page_of_name x) (of_page n);
+  pages = pages_with m.pages x (Some n);
   room = m.room - 1;
 }
 
--- a new node under the next working name
-abbrev pub with_working : PageNodes → NodeId → PageNodes
-with_working m n = record (with_new m n (Working (m.made + 1)) Absent) { made = m.made + 1 }
+-- the first node of each of so many pages of a cache, under the number of its page
+abbrev pub made_first : PageNodes → CacheId → OwnState → ℕ → PageNodes
+made_first m cache s count =
+    each (λ k p. with_new p (record { 0 = page_number cache.0 k })
+    (Live cache (record { 0 = k })) s) count m
 
--- the nodes without this one
-unfoldable pub without : PageNodes → NodeId → PageNodes
+-- so many new working nodes under the next names, from one node on, of which a run says this, but
+-- for their names
+abbrev pub made_working : PageNodes → NodeId → Run → ℕ → PageNodes
+made_working m n r count = record m {
+  cells = each
+      (λ k cs. ids.insert cs (n.0 + k)
+      (run_cell (run_after (record r { name = WorkingRun (m.made + 1) }) k))) count m.cells;
+  made = m.made + count;
+  room = m.room - count;
+}
+
+-- the nodes without this one, whose place is given back
+abbrev pub without : PageNodes → NodeId → PageNodes
 without m n = record m {
   cells = ids.remove m.cells n.0;
-  pages = without_key m.pages (page_of_name (cell m n).name);
+  pages = pages_with m.pages (cell m n).name None;
   room = m.room + 1;
 }
 
--- the node of the page of this number
-abbrev pub node_at : PageNodes → ℕ → Option NodeId
-node_at m k = option_map (λ v. record { 0 = v.0 }) (ids.get m.pages k)
+abbrev pub without_many : PageNodes → NodeId → ℕ → PageNodes
+without_many m n count = each (λ k p. without p (next_node n k)) count m
 
--- the page of a number has this node exactly where the node is named by this page
-abbrev pub ArePaged : PageNodes → Type 0
-ArePaged m = Indexes (λ v. v.0) m.pages page_key m.cells
+-- the child gets the own page of a node that gives way to it
+abbrev pub passes : PageNodes → NodeId → NodeId → Bool
+passes m n child = not (is_absent (cell m n).own) && is_absent (cell m child).own
 
--- n is the working node of this number, and has fewer than two children
-abbrev pub IsThin : PageNodes → NodeId → ℕ → Type 0
-IsThin m n k = key_at thin_number m.cells n.0 ≡ Some k
-
--- the thin node with the least number, or none exactly where no node is thin
-abbrev pub IsLeastThin : PageNodes → Option NodeId → Type 0
-IsLeastThin m None = (n : NodeId) (k : ℕ) → IsThin m n k → ⊥
-IsLeastThin m (Some n) =
-    (k : ℕ) × IsThin m n k × ((other : NodeId) (j : ℕ) → IsThin m other j → k ≤ j)
-
--- the pages of a cache from one page on with these nodes
-abbrev pub pages_with : FinMap nat_cmp Rising → CacheId → ℕ → List NodeId → FinMap nat_cmp Rising
-pages_with m cache page [] = m
-pages_with m cache page (n ∷ ns) =
-    pages_with (ids.insert m (page_number cache.0 page) (of_page n)) cache (page + 1) ns
-
--- a new node was made for each page of a cache, all of one own state
-pub record MakesPages (old new : PageNodes) (cache : CacheId) (own : OwnState)
-    (nodes : List NodeId) : Type 0 where
-  pub cells : IsFilled old.cells cache 0 own nodes new.cells
-  pub pages : new.pages ≡ pages_with old.pages cache 0 nodes
-  pub made : new.made ≡ old.made
-  pub room : new.room ≡ old.room - length nodes
-
--- so many new nodes were made, one for each page of a cache
-abbrev pub MakesAllPages : PageNodes → PageNodes → CacheId → OwnState → ℕ → Type 0
-MakesAllPages old new cache own pages =
-    (nodes : List NodeId) × (length nodes ≡ pages) × MakesPages old new cache own nodes
+-- the child in the place of a node, which is gone
+abbrev pub given_way : PageNodes → NodeId → NodeId → PageNodes
+given_way m n child =
+    without
+    (on_cell (cut_from m (cell m n).links.parent n (Some child)) child
+    (inheriting (cell m n).own (cell m n).links.parent)) n

@@ -1,9 +1,11 @@
 -- What holds of page nodes and the rows of caches together.
-use Rattle.std.specs.Prelude.{◌≡◌, ℕ, ◌<◌, ◌^◌, List, length, Option, Some, None, slice_index_or}
+use Rattle.std.specs.Prelude.{◌≡◌, ℕ, ◌+◌, ◌<◌, ◌^◌, List, length, Option, Some, None, slice_index_or}
 use Rattle.vm_ids.specs.declared.node_name.NodeName.{NodeName}
 use Rattle.vm_ids.specs.declared.node_name.NodeName.TheVariants.{Live, Working}
 use Rattle.vm_ids.specs.declared.numbers.NodeId.{NodeId}
 use Rattle.local_cache.specs.Arena.{Cell}
+use Rattle.local_cache.specs.NodeCells.{HasCell}
+use Rattle.local_cache.specs.NodeKeys.{page_number}
 use Rattle.local_cache.specs.PageNodes.{ArePaged, PageNodes, find}
 use Rattle.local_cache.specs.ArenaBy.{CacheRow, CacheRows}
 use Rattle.local_cache.specs.RowChanges.{row_at}
@@ -38,11 +40,13 @@ IsNameOfPage rows (Live cache page) = HasRow rows cache.0 page.0
 IsNameOfPage rows (Working k) = Unit {0}
 
 -- The node of a page is found under the page's number, and the page is one of a live cache, so no
--- number at or above those of the next cache has a node. The numbers of two caches are apart.
+-- number at or above those of the next cache has a node. The numbers of two caches are apart. Nor
+-- is there a node under the number of a page of a cache that is yet to be made.
 pub record ArePlaced (m : PageNodes) (rows : List (Option CacheRow)) : Type 0 where
-  pub paged : ArePaged m
+  pub paged : ArePaged m.cells m.pages
   pub placed : (n : NodeId) (d : Cell) → find m n ≡ Some d → IsNameOfPage rows d.name
   pub short : AreShort rows
+  pub first : (n : ℕ) → n < 2 ^ 61 → HasCell m.cells n → n < page_number (length rows + 1) 0
 
 -- what holds of the caches: nodes are placed, and each row is full
 pub record AreRight (m : PageNodes) (c : CacheRows) : Type 0 where

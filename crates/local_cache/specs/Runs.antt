@@ -1,12 +1,12 @@
 -- What one entry says of page nodes that are alike, each a step further on than the one before.
-use Rattle.std.specs.Prelude.{◌≡◌, ℕ, ◌+◌, ◌-◌, ◌*◌, ◌<◌, ◌^◌, max, min, Option, Some, None}
+use Rattle.std.specs.Prelude.{ℕ, ◌+◌, ◌-◌, ◌<◌, ◌≤◌, ◌^◌, max, min, Option, Some, None, IfSome}
 use Rattle.stretches.specs.declared.says.Says.{Ghosts}
 use Rattle.vm_ids.specs.declared.node_name.NodeName.{NodeName}
 use Rattle.vm_ids.specs.declared.node_name.NodeName.TheVariants.{Live, Working as WorkingNode}
 use Rattle.vm_ids.specs.declared.numbers.NodeId.{NodeId}
 use Rattle.local_cache.specs.declared.runs.run.Run.{Run}
 use Rattle.local_cache.specs.declared.runs.run.RunName.{RunName}
-use Rattle.local_cache.specs.declared.runs.run.RunName.TheVariants.{Pages, Working, EverySecond}
+use Rattle.local_cache.specs.declared.runs.run.RunName.TheVariants.{Pages, Working}
 
 -- the node so many numbers further on, or the greatest number where there are fewer behind this one
 abbrev pub further : NodeId → ℕ → NodeId
@@ -20,19 +20,16 @@ further_if (Some n) by = Some (further n by)
 abbrev pub name_after : RunName → ℕ → RunName
 name_after (Pages cache page) by = Pages cache (record { 0 = page.0 + by })
 name_after (Working number) by = Working (number + by)
-name_after (EverySecond number) by = EverySecond (number + 2 * by)
 
 -- the first of the names
 abbrev pub first_name : RunName → NodeName
 first_name (Pages cache page) = Live cache page
 first_name (Working number) = WorkingNode number
-first_name (EverySecond number) = WorkingNode number
 
 -- from the first name on there are so many
 abbrev pub HasNames : RunName → ℕ → Type 0
 HasNames (Pages cache page) by = page.0 + by < 2 ^ 32
 HasNames (Working number) by = number + by < 2 ^ 64
-HasNames (EverySecond number) by = number + 2 * by < 2 ^ 64
 
 -- what is said of the node so many numbers further on
 abbrev pub run_after : Run → ℕ → Run
@@ -49,9 +46,8 @@ run_after r by =
 abbrev pub run : Ghosts Run
 run = record { after = run_after; lasts = λ r by. HasNames r.name by }
 
--- both say the same of a node, but for its own state
-pub record SaysAlike (a b : Run) : Type 0 where
-  pub name : first_name b.name ≡ first_name a.name
-  pub parent : b.parent ≡ a.parent
-  pub older : b.older ≡ a.older
-  pub newer : b.newer ≡ a.newer
+-- there are so many numbers from each node on that a run names
+pub record HasNumbers (r : Run) (count : ℕ) : Type 0 where
+  pub parent : IfSome r.parent (λ n. n.0 + count ≤ 2 ^ 64)
+  pub older : IfSome r.older (λ n. n.0 + count ≤ 2 ^ 64)
+  pub newer : IfSome r.newer (λ n. n.0 + count ≤ 2 ^ 64)

@@ -59,16 +59,16 @@ module _ {S : Type 0} where
   get_filled slots places q = found_filled slots (map.entries places) q ∙ ap (slot_at slots) (sym (get-entries places q))
 
   -- the same of the entries that a contract sees
-  pub get_seen : (slots : List S) (places : FinMap nat_cmp ℕ) (l : Lone S) (count room : ℕ) → record { entries = filled slots (map.entries places); count = count; room = room } ≡ l → (q : ℕ) → map.get l.entries q ≡ slot_at slots (map.get places q)
-  get_seen slots places l count room view q = ap (λ (m : Lone S). map.get m.entries q) (sym view) ∙ get_filled slots places q
+  pub get_seen : (slots : List S) (places : FinMap nat_cmp ℕ) (l : Lone S) (at : FinMap nat_cmp ℕ) (room : ℕ) → record { entries = filled slots (map.entries places); slots = at; room = room } ≡ l → (q : ℕ) → map.get l.entries q ≡ slot_at slots (map.get places q)
+  get_seen slots places l at room view q = ap (λ (m : Lone S). map.get m.entries q) (sym view) ∙ get_filled slots places q
 
   no_place : (slots : List S) (o : Option ℕ) → ((p : ℕ) → o ≡ Some p → p < length slots) → slot_at slots o ≡ None → o ≡ None
   no_place slots None within e = refl
   no_place slots (Some p) within e = absurd (get_within slots p (within p refl) e)
 
   -- a number without an entry has no place
-  pub unplaced : (slots : List S) (places : FinMap nat_cmp ℕ) (l : Lone S) (count room : ℕ) → record { entries = filled slots (map.entries places); count = count; room = room } ≡ l → (n : ℕ) → ((p : ℕ) → map.get places n ≡ Some p → p < length slots) → map.get l.entries n ≡ None → map.get places n ≡ None
-  unplaced slots places l count room view n within none = no_place slots (map.get places n) within (sym (get_seen slots places l count room view n) ∙ none)
+  pub unplaced : (slots : List S) (places : FinMap nat_cmp ℕ) (l : Lone S) (at : FinMap nat_cmp ℕ) (room : ℕ) → record { entries = filled slots (map.entries places); slots = at; room = room } ≡ l → (n : ℕ) → ((p : ℕ) → map.get places n ≡ Some p → p < length slots) → map.get l.entries n ≡ None → map.get places n ≡ None
+  unplaced slots places l at room view n within none = no_place slots (map.get places n) within (sym (get_seen slots places l at room view n) ∙ none)
 
   -- the entry of one number changes
   pub refilled : (slots new : List S) (places others : FinMap nat_cmp ℕ) (n : ℕ) (o : Option S) → slot_at new (map.get others n) ≡ o → ((q : ℕ) → q ≢ n → slot_at new (map.get others q) ≡ slot_at slots (map.get places q)) → filled new (map.entries others) ≡ written (filled slots (map.entries places)) n o
@@ -105,8 +105,8 @@ module _ {S : Type 0} where
   filled_none slots places none = same _ _ (λ q. get_filled slots places q ∙ ap (slot_at slots) (ap (λ (m : FinMap nat_cmp ℕ). map.get m q) none ∙ get-empty nat_cmp q) ∙ sym (get-empty nat_cmp q))
 
   -- what a contract sees
-  abbrev pub the_lone : FinMap nat_cmp S → ℕ → ℕ → Lone S
-  the_lone m count room = record { entries = m; count = count; room = room }
+  abbrev pub the_lone : FinMap nat_cmp S → FinMap nat_cmp ℕ → ℕ → Lone S
+  the_lone m at room = record { entries = m; slots = at; room = room }
 
-  pub seen : (m n : FinMap nat_cmp S) (a b r s : ℕ) → m ≡ n → a ≡ b → r ≡ s → ◌≡◌ {A = Lone S} (record { entries = m; count = a; room = r }) (record { entries = n; count = b; room = s })
-  seen m n a b r s e f g = λ i. record { entries = e i; count = f i; room = g i }
+  pub seen : (m n : FinMap nat_cmp S) (a b : FinMap nat_cmp ℕ) (r s : ℕ) → m ≡ n → a ≡ b → r ≡ s → ◌≡◌ {A = Lone S} (record { entries = m; slots = a; room = r }) (record { entries = n; slots = b; room = s })
+  seen m n a b r s e f g = λ i. record { entries = e i; slots = f i; room = g i }

@@ -27,6 +27,19 @@ module _ {S : Type 0} where
         vacant_room = omega arith;
       }
 
+  -- as many other slots
+  pub kept_set : (places : FinMap nat_cmp ℕ) (slots new : List S) (vacant : List ℕ) (room a b : ℕ) → IsKept places slots vacant room a b → length new ≡ length slots → IsKept places new vacant room a b
+  kept_set places slots new vacant room a b k long = record {
+    within = λ n p e. omega (arith, k.within n p e, long);
+    once = k.once;
+    free = λ i h. (omega (arith, (k.free i h).0, long), (k.free i h).1);
+    apart = k.apart;
+    counted = omega (arith, k.counted, long);
+    few = omega (arith, k.few, long);
+    slots_room = k.slots_room;
+    vacant_room = k.vacant_room;
+  }
+
   -- the last vacant place is free
   pub last_free : (places : FinMap nat_cmp ℕ) (slots : List S) (vacant rest : List ℕ) (room a b p : ℕ) → IsKept places slots vacant room a b → vacant ≡ rest ++ p ∷ [] → (p < length slots) × ((q : ℕ) → map.get places q ≢ Some p)
   last_free places slots vacant rest room a b p k is =

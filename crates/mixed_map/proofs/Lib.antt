@@ -1,4 +1,4 @@
 pub mod Maps
 mod Filling
 mod Keeping
-mod Telling
+pub mod Telling

@@ -1,11 +1,12 @@
 -- Finite maps by number.
-use Rattle.std.proofs.Common.{◌≡◌, ◌≢◌, ℕ, ◌+◌, ◌-◌, ◌<◌, true, false, cond, Option, Some, None, refl, sym, ap, ◌∙◌, inl, inr, arith}
-use Rattle.std.specs.Prelude.{is_some, IsSome}
+use Rattle.std.proofs.Common.{◌≡◌, ◌≢◌, ℕ, zero, suc, ◌+◌, ◌-◌, ◌<◌, ◌≤◌, add-zero, add-suc, true, false, cond, Option, Some, None, refl, sym, ap, ◌∙◌, inl, inr, arith}
+use Rattle.std.specs.Prelude.{is_some, IfNone, IsSome}
 use Rattle.std.proofs.lemmas.Bool.{cases_eq, cond-true, cond-false, eq-eqb, ne_eqb}
 use Rattle.std.specs.Ordering.{nat_cmp, eq_by_cmp}
 use Rattle.std.specs.Cmp.{nat_cmp_total, unsigned_tied}
 use Rattle.std.specs.FinMap.{FinMap, empty_of_len, get-empty, get-insert, get-remove, len-insert, len-remove, nat_cmp-IsAntisymmetric, same_map}
 use Rattle.std.specs.FinMap as map
+use Rattle.mixed_map.specs.Mixed.{without_range}
 
 pub tied : (a b : ℕ) → a ≡ b → eq_by_cmp nat_cmp a b ≡ true
 tied a b e = unsigned_tied a b ∙ eq-eqb a b e
@@ -54,3 +55,37 @@ module _ {X : Type 0} where
 
   pub is_not_none : (o : Option X) → IsSome o → o ≢ None
   is_not_none o some e = (let never : is_some o ≡ false = ap is_some e in absurd (cc))
+
+  -- ranges one behind the other are one
+  pub range_more : (m : FinMap nat_cmp X) (first a b : ℕ) → without_range (without_range m first a) (first + a) b ≡ without_range m first (a + b)
+  range_more m first a zero = ap (without_range m first) (sym (add-zero a))
+  range_more m first a (suc b) =
+      let far : first + a + b ≡ first + (a + b) = omega arith in
+      (λ i. map.remove (range_more m first a b i) (far i)) ∙ ap (without_range m first) (sym (add-suc a b))
+
+  -- a range of one number
+  pub range_one : (m : FinMap nat_cmp X) (n : ℕ) → without_range m n 1 ≡ map.remove m n
+  range_one m n = ap (map.remove m) (add-zero n)
+
+  -- a number behind a range
+  pub range_behind : (m : FinMap nat_cmp X) (first k n : ℕ) → first + k ≤ n → map.get (without_range m first k) n ≡ map.get m n
+  range_behind m first zero n h = refl
+  range_behind m first (suc k) n h = remove_other (without_range m first k) (first + k) n (λ e. omega arith) ∙ range_behind m first k n (omega arith)
+
+  remove_none : (m : FinMap nat_cmp X) (n : ℕ) → map.get m n ≡ None → map.remove m n ≡ m
+  remove_none m n none = same _ _ (λ q. elim (cases_eq q n) [
+    | inl at ↦ remove_same m n q at ∙ sym (ap (map.get m) at ∙ none)
+    | inr other ↦ remove_other m n q other
+  ])
+
+  -- a range without a number of the map
+  pub range_none : (m : FinMap nat_cmp X) (first k : ℕ) → ((j : ℕ) → j < k → map.get m (first + j) ≡ None) → without_range m first k ≡ m
+  range_none m first zero h = refl
+  range_none m first (suc k) h =
+      ap (λ (q : FinMap nat_cmp X). map.remove q (first + k)) (range_none m first k (λ j less. h j (omega arith)))
+      ∙ remove_none m (first + k) (h k (omega arith))
+
+  -- what follows where there is none
+  pub if_none : (o : Option X) {P Q : Type 0} → IfNone o P → (P → Q) → IfNone o Q
+  if_none None h f = f h
+  if_none (Some x) h f = h

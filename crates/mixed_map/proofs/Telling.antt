@@ -1,7 +1,7 @@
 -- The entries of numbers, alone or told by stretches.
 use Rattle.std.proofs.Common.{◌≡◌, ◌≢◌, ℕ, zero, suc, ◌+◌, ◌-◌, ◌<◌, ◌≤◌, Bool, true, false, cond, List, [], ◌∷◌, length, get_or, Option, Some, None, refl, sym, ap, ◌∙◌, inl, inr, arith}
-use Rattle.std.specs.Prelude.{IsSome, is_some, MatchOption}
-use Rattle.std.proofs.lemmas.Bool.{cases_eq, cases_lt, cond-true, cond-false}
+use Rattle.std.specs.Prelude.{IfSome, IsSome, is_some, MatchOption}
+use Rattle.std.proofs.lemmas.Bool.{cases_eq, cond-true, cond-false}
 use Rattle.std.proofs.lemmas.Bool.Decides.{nat_tests}
 use Rattle.std.specs.Ordering.{nat_cmp}
 use Rattle.std.specs.Cmp.{nat_cmp_total}
@@ -10,20 +10,24 @@ use Rattle.std.specs.FinMap as map
 use Rattle.stretches.specs.declared.says.Says.{Ghosts}
 use Rattle.stretches.specs.declared.stretch.Stretch.{Stretch}
 use Rattle.stretches.specs.Changes.{SayAlso, SayNoMore}
-use Rattle.stretches.specs.GoingOn.{GoesOn}
-use Rattle.stretches.specs.Stretch.{behind, front, is_in, value_at}
-use Rattle.stretches.specs.Stretches.{AreTogether, SayAs, Stretches, number_count, said}
+use Rattle.stretches.specs.Stretch.{is_in, value_at}
+use Rattle.stretches.specs.Stretches.{AreTogether, IsStretchWith, SayAs, Stretches, number_count, said}
 use Rattle.stretches.specs.Stretches as stretches
 use Rattle.stretches.proofs.Cells.{in_front}
-use Rattle.stretches.proofs.Reading.Numbers.{high, low, out_before, out_behind, within}
+use Rattle.stretches.proofs.Reading.Numbers.{high, low, within}
 use Rattle.mixed_map.specs.Lone.{Lone}
-use Rattle.mixed_map.specs.Mixed.{IsMixed, IsStretchFrom, Mixed, Tells, with_first, with_stretch, with_told, without_first, without_stretch}
+use Rattle.mixed_map.specs.Mixed.{IsMixed, IsStretchFrom, Mixed, Tells, with_first, with_stretch, with_told, without_range, without_stretch}
 use Rattle.mixed_map.proofs.Maps.{insert_other, insert_same, remove_other, remove_same, same, tied, untied}
 
+module _ {V : Type 0} where
+  -- fewer numbers that are together
+  pub together_fewer : (rs : List (Stretch V)) (first count many : ℕ) → many ≤ count → AreTogether rs first count → AreTogether rs first many
+  together_fewer rs first count many le c = record { at = c.at; within = c.within; from = c.from; to = λ d. omega (arith, c.to d, le) }
+
 module _ {V S : Type 0} where
-  get_without : (m : FinMap nat_cmp S) (r : Stretch V) (k n : ℕ) → map.get (without_first m r k) n ≡ cond (in_front r k n) None (map.get m n)
+  get_without : (m : FinMap nat_cmp S) (r : Stretch V) (k n : ℕ) → map.get (without_range m r.first k) n ≡ cond (in_front r k n) None (map.get m n)
   get_without m r zero n = (let none : in_front r 0 n ≡ false = grind (arith, nat_tests) in sym (cond-false _ _ _ none))
-  get_without m r (suc k) n = get-remove nat_cmp_total (without_first m r k) (r.first + k) n ∙ elim (cases_eq n (r.first + k)) [
+  get_without m r (suc k) n = get-remove nat_cmp_total (without_range m r.first k) (r.first + k) n ∙ elim (cases_eq n (r.first + k)) [
     | inl at ↦
         let inside : in_front r (suc k) n ≡ true = grind (arith, nat_tests) in
         cond-true _ _ _ (tied n (r.first + k) at) ∙ sym (cond-true _ _ _ inside)
@@ -32,9 +36,12 @@ module _ {V S : Type 0} where
         cond-false _ _ _ (untied n (r.first + k) other) ∙ get_without m r k n ∙ ap (λ (b : Bool). cond b None (map.get m n)) alike
   ]
 
+  pub gone : (m : FinMap nat_cmp S) (r : Stretch V) (n : ℕ) → map.get (without_stretch m r) n ≡ cond (is_in r n) None (map.get m n)
+  gone m r n = get_without m r r.count n
+
   -- the numbers of a stretch go
   pub is_without : (m new : FinMap nat_cmp S) (r : Stretch V) → ((n : ℕ) → map.get new n ≡ cond (is_in r n) None (map.get m n)) → new ≡ without_stretch m r
-  is_without m new r h = same _ _ (λ n. h n ∙ sym (get_without m r r.count n))
+  is_without m new r h = same _ _ (λ n. h n ∙ sym (gone m r n))
 
 module _ {V S : Type 0} (G : Ghosts V) (told : V → S) where
   get_first : (m : FinMap nat_cmp S) (r : Stretch V) (k n : ℕ) → map.get (with_first G told m r k) n ≡ cond (in_front r k n) (Some (told (value_at G r n))) (map.get m n)
@@ -78,8 +85,9 @@ module _ {V S : Type 0} (G : Ghosts V) (told : V → S) where
   abbrev pub the_mixed : Lone S → Stretches V → Mixed V S
   the_mixed lone s = record {
     cells = with_told G told lone.entries s.list;
+    slots = lone.slots;
     list = s.list;
-    count = lone.count + number_count s.list;
+    count = map.len lone.slots + number_count s.list;
     room = lone.room;
   }
 
@@ -89,8 +97,8 @@ module _ {V S : Type 0} (G : Ghosts V) (told : V → S) where
   pub said_seen : (lone : Lone S) (s : Stretches V) (now : Mixed V S) → the_mixed lone s ≡ now → (n : ℕ) → said G s.list n ≡ said G now.list n
   said_seen lone s now view n = ap (λ (v : Mixed V S). said G v.list n) view
 
-  pub seen : (m n : FinMap nat_cmp S) (rs ss : List (Stretch V)) (a b r s : ℕ) → m ≡ n → rs ≡ ss → a ≡ b → r ≡ s → ◌≡◌ {A = Mixed V S} (record { cells = m; list = rs; count = a; room = r }) (record { cells = n; list = ss; count = b; room = s })
-  seen m n rs ss a b r s e f g h = λ i. record { cells = e i; list = f i; count = g i; room = h i }
+  pub seen : (m n : FinMap nat_cmp S) (p q : FinMap nat_cmp ℕ) (rs ss : List (Stretch V)) (a b r s : ℕ) → m ≡ n → p ≡ q → rs ≡ ss → a ≡ b → r ≡ s → ◌≡◌ {A = Mixed V S} (record { cells = m; slots = p; list = rs; count = a; room = r }) (record { cells = n; slots = q; list = ss; count = b; room = s })
+  seen m n p q rs ss a b r s e j f g h = λ i. record { cells = e i; slots = j i; list = f i; count = g i; room = h i }
 
   -- an entry alone changes, of a number that no stretch has
   pub told_insert : (m : FinMap nat_cmp S) (rs : List (Stretch V)) (n : ℕ) (x : S) → said G rs n ≡ None → with_told G told (map.insert m n x) rs ≡ map.insert (with_told G told m rs) n x
@@ -129,36 +137,17 @@ module _ {V S : Type 0} (G : Ghosts V) (told : V → S) where
   found_from lone s now view n None none = sym (said_seen lone s now view n) ∙ none
   found_from lone s now view n (Some r) from = record { begins = from.begins; fit = from.fit; told_by = tells lone s now view r from.said }
 
-  -- a number is cut out of a stretch: the numbers before it and behind it come back
-  pub cut_out : GoesOn G.after G.lasts → (m rest : FinMap nat_cmp S) (r : Stretch V) (n : ℕ) → is_in r n ≡ true → Tells G told m r → ((q : ℕ) → map.get rest q ≡ cond (is_in r q) None (map.get m q)) → with_stretch G told (with_stretch G told rest (front r (n - r.first))) (behind G r (n - r.first + 1)) ≡ map.remove m n
-  cut_out laws m rest r n has tell less = same _ _ (λ q.
-      let from : r.first ≤ n = low r n has in
-      let to : n < r.first + r.count = high r n has in
-      let by : ℕ = n - r.first in
-      let begin : Stretch V = front r by in
-      let back : Stretch V = behind G r (by + 1) in
-      get_with (with_stretch G told rest begin) back q ∙ elim (cases_eq q n) [
-        | inl at ↦
-            cond-false _ _ _ (out_before back q (omega arith)) ∙ get_with rest begin q
-            ∙ cond-false _ _ _ (out_behind begin q (omega arith)) ∙ less q
-            ∙ cond-true _ _ _ (within r q (omega arith) (omega arith)) ∙ sym (remove_same m n q at)
-        | inr other ↦ elim (cases_lt q n) [
-          | inl before_n ↦ cond-false _ _ _ (out_before back q (omega arith)) ∙ get_with rest begin q ∙ elim (cases_lt q r.first) [
-            | inl before ↦ cond-false _ _ _ (out_before begin q before) ∙ less q ∙ cond-false _ _ _ (out_before r q before) ∙ sym (remove_other m n q other)
-            | inr le_q ↦ cond-true _ _ _ (within begin q le_q (omega arith)) ∙ sym (tell q (within r q le_q (omega arith))) ∙ sym (remove_other m n q other)
-          ]
-          | inr n_le ↦ elim (cases_lt q (r.first + r.count)) [
-            | inl inside ↦
-                let far : by + 1 + (q - (r.first + (by + 1))) ≡ q - r.first = omega arith in
-                cond-true _ _ _ (within back q (omega arith) (omega arith))
-                ∙ ap (λ (v : V). Some (told v)) (laws.composes r.value (by + 1) (q - (r.first + (by + 1))) ∙ ap (G.after r.value) far)
-                ∙ sym (tell q (within r q (omega arith) inside)) ∙ sym (remove_other m n q other)
-            | inr past ↦
-                cond-false _ _ _ (out_behind back q (omega arith)) ∙ get_with rest begin q ∙ cond-false _ _ _ (out_behind begin q (omega arith))
-                ∙ less q ∙ cond-false _ _ _ (out_behind r q past) ∙ sym (remove_other m n q other)
-          ]
-        ]
-      ])
+  -- the same of a stretch that has the number
+  pub told_with : (lone : Lone S) (s : Stretches V) (now : Mixed V S) → the_mixed lone s ≡ now → (n : ℕ) (o : Option (Stretch V)) → MatchOption o (said G s.list n ≡ None) (IsStretchWith G s.list n) → IfSome o (Tells G told now.cells)
+  told_with lone s now view n None none = tt
+  told_with lone s now view n (Some r) with = tells lone s now view r with.said
+
+  -- numbers that go come back as a stretch tells them
+  pub gathered : (m : FinMap nat_cmp S) (r : Stretch V) → Tells G told m r → with_stretch G told (without_stretch m r) r ≡ m
+  gathered m r tell = same _ _ (λ n. get_with (without_stretch m r) r n ∙ by_in n (is_in r n) refl) where
+    by_in : (n : ℕ) (b : Bool) → is_in r n ≡ b → cond b (Some (told (value_at G r n))) (map.get (without_stretch m r) n) ≡ map.get m n
+    by_in n true h = sym (tell n h)
+    by_in n false h = gone m r n ∙ cond-false _ _ _ h
 
   -- a number with an entry alone is in no stretch
   pub not_told : (lone : Lone S) (s : Stretches V) → IsMixed G lone s → (n : ℕ) → map.get lone.entries n ≢ None → said G s.list n ≡ None
@@ -167,18 +156,46 @@ module _ {V S : Type 0} (G : Ghosts V) (told : V → S) where
     by_said None e = refl
     by_said (Some v) e = absurd (alone (k.apart n v e))
 
+  -- nor is one with a slot
+  pub placed_alone : (lone : Lone S) (s : Stretches V) → IsMixed G lone s → (n p : ℕ) → map.get lone.slots n ≡ Some p → said G s.list n ≡ None
+  placed_alone lone s k n p at = by_said (said G s.list n) refl where
+    by_said : (o : Option V) → said G s.list n ≡ o → o ≡ None
+    by_said None e = refl
+    by_said (Some v) e = (let none = k.placed n (k.apart n v e) in absurd (cc))
+
+  -- an entry that stands alone is the number's
+  pub cell_alone : (lone : Lone S) (s : Stretches V) (now : Mixed V S) → the_mixed lone s ≡ now → IsMixed G lone s → (n : ℕ) (x : S) → map.get lone.entries n ≡ Some x → (map.get now.cells n ≡ Some x) × (said G s.list n ≡ None)
+  cell_alone lone s now view k n x there =
+      let none = not_told lone s k n (λ e. (let never = sym there ∙ e in absurd (cc))) in
+      (get_seen lone s now view n ∙ ap (λ (o : Option V). or_told o (map.get lone.entries n)) none ∙ there, none)
+
   -- a number with an entry that doesn't stand alone is in a stretch
   pub is_told : (o : Option V) (p : Option S) → IsSome (or_told o p) → p ≡ None → IsSome o
   is_told None p some none = (let never : is_some p ≡ false = ap is_some none in absurd (cc))
   is_told (Some v) p some none = refl
 
   -- no more numbers stand alone than before
-  pub mixed_changed : (lone new : Lone S) (s : Stretches V) → IsMixed G lone s → ((n : ℕ) (v : V) → said G s.list n ≡ Some v → map.get lone.entries n ≡ None → map.get new.entries n ≡ None) → new.room ≡ lone.room → new.count + number_count s.list ≤ new.room → IsMixed G new s
-  mixed_changed lone new s k none room few = record {
+  pub mixed_changed : (lone new : Lone S) (s : Stretches V) → IsMixed G lone s → ((n : ℕ) (v : V) → said G s.list n ≡ Some v → map.get lone.entries n ≡ None → map.get new.entries n ≡ None) → ((n : ℕ) → map.get new.entries n ≡ None → map.get new.slots n ≡ None) → new.room ≡ lone.room → map.len new.slots + number_count s.list ≤ new.room → IsMixed G new s
+  mixed_changed lone new s k none placed room few = record {
     apart = λ n v e. none n v e (k.apart n v e);
+    placed = placed;
     places = omega (arith, k.places, room);
     few = few;
   }
+
+  -- a number with an entry set has one
+  pub none_set : (m : FinMap nat_cmp S) (n : ℕ) (x : S) (q : ℕ) → map.get (map.insert m n x) q ≡ None → (q ≢ n) × (map.get m q ≡ None)
+  none_set m n x q e = elim (cases_eq q n) [
+    | inl at ↦ (let some = insert_same m n x q at in absurd (cc))
+    | inr other ↦ (other, sym (insert_other m n x q other) ∙ e)
+  ]
+
+  -- and one that is removed, or had none, has none
+  pub none_left : (lone : Lone S) (n q : ℕ) → ((p : ℕ) → map.get lone.entries p ≡ None → map.get lone.slots p ≡ None) → map.get (map.remove lone.entries n) q ≡ None → map.get (map.remove lone.slots n) q ≡ None
+  none_left lone n q placed e = elim (cases_eq q n) [
+    | inl at ↦ remove_same lone.slots n q at
+    | inr other ↦ remove_other lone.slots n q other ∙ placed q (sym (remove_other lone.entries n q other) ∙ e)
+  ]
 
   -- other numbers than one stand alone as before, and no stretch has this
   pub none_of : (m : FinMap nat_cmp S) (rs : List (Stretch V)) (n : ℕ) (x : S) → said G rs n ≡ None → (q : ℕ) (v : V) → said G rs q ≡ Some v → map.get m q ≡ None → map.get (map.insert m n x) q ≡ None
@@ -191,9 +208,10 @@ module _ {V S : Type 0} (G : Ghosts V) (told : V → S) where
   none_less m n q was = elim (cases_eq q n) [ inl at ↦ remove_same m n q at | inr other ↦ remove_other m n q other ∙ was ]
 
   -- the stretches say this too, of numbers that don't stand alone
-  pub mixed_also : (lone : Lone S) (s new : Stretches V) (r : Stretch V) → IsMixed G lone s → SayAlso G s.list r new.list → ((n : ℕ) → is_in r n ≡ true → map.get lone.entries n ≡ None) → new.places ≡ s.places → lone.count + number_count new.list ≤ lone.room → IsMixed G lone new
+  pub mixed_also : (lone : Lone S) (s new : Stretches V) (r : Stretch V) → IsMixed G lone s → SayAlso G s.list r new.list → ((n : ℕ) → is_in r n ≡ true → map.get lone.entries n ≡ None) → new.places ≡ s.places → map.len lone.slots + number_count new.list ≤ lone.room → IsMixed G lone new
   mixed_also lone s new r k also none places few = record {
     apart = λ n v e. by_in n v (is_in r n) refl (sym (also n) ∙ e);
+    placed = k.placed;
     places = omega (arith, k.places, places);
     few = few;
   } where
@@ -215,14 +233,3 @@ module _ {V S : Type 0} (G : Ghosts V) (told : V → S) where
     by_said : (o : Option V) → said G s.list n ≡ o → map.get lone.entries n ≡ None
     by_said None e = absurd (said_some s.list n c.at r c.within (within (get_or s.list c.at r) n (omega (arith, c.from r, low r n h)) (omega (arith, c.to r, high r n h))) e)
     by_said (Some v) e = k.apart n v e
-
-  -- the numbers behind the one that is cut out have no entry before they come back
-  pub rest_vacant : (m rest : FinMap nat_cmp S) (r : Stretch V) (n : ℕ) (v : V) → is_in r n ≡ true → ((q : ℕ) → map.get rest q ≡ cond (is_in r q) None (map.get m q)) → (q : ℕ) → is_in {V = V} (record { first = r.first + (n - r.first + 1); count = r.count - (n - r.first + 1); value = v }) q ≡ true → map.get (with_stretch G told rest (front r (n - r.first))) q ≡ None
-  rest_vacant m rest r n v has less q h =
-      let back : Stretch V = record { first = r.first + (n - r.first + 1); count = r.count - (n - r.first + 1); value = v } in
-      let from : r.first ≤ n = low r n has in
-      let to : n < r.first + r.count = high r n has in
-      let above : r.first + (n - r.first + 1) ≤ q = low back q h in
-      let below : q < r.first + (n - r.first + 1) + (r.count - (n - r.first + 1)) = high back q h in
-      get_with rest (front r (n - r.first)) q ∙ cond-false _ _ _ (out_behind (front r (n - r.first)) q (omega arith))
-      ∙ less q ∙ cond-true _ _ _ (within r q (omega arith) (omega arith))

@@ -1,3 +1,5 @@
+pub mod Place
 pub mod Lone
 pub mod Mixed
+pub mod Lending
 pub mod Finding

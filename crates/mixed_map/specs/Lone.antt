@@ -5,20 +5,20 @@ use Rattle.std.specs.FinMap.{FinMap}
 use Rattle.std.specs.FinMap as map
 use Rattle.std.specs.Coded.{Coded, code_by, coded×, coded_ℕ}
 
--- the entry of each number, how many entries there are, and for how many there is room
+-- the entry of each number, the slot of each, and for how many there is room
 pub record Lone (S : Type 0) : Type 0 where
   pub entries : FinMap nat_cmp S
-  pub count : ℕ
+  pub slots : FinMap nat_cmp ℕ
   pub room : ℕ
 
 -- it is stored as the tuple of its fields
 abbrev pub lone_code : {S : Type 0} → Coded S → Coded (Lone S)
 lone_code {S} code =
     code_by
-    (FinMap nat_cmp S × (ℕ × ℕ))
-    (coded× (map.code coded_ℕ code) (coded× coded_ℕ coded_ℕ))
-    (λ l. (l.entries, (l.count, l.room)))
-    (λ p. record { entries = p.0; count = p.1.0; room = p.1.1 })
+    (FinMap nat_cmp S × (FinMap nat_cmp ℕ × ℕ))
+    (coded× (map.code coded_ℕ code) (coded× (map.code coded_ℕ coded_ℕ) coded_ℕ))
+    (λ l. (l.entries, (l.slots, l.room)))
+    (λ p. record { entries = p.0; slots = p.1.0; room = p.1.1 })
     (λ _. refl)
 
 module _ {S : Type 0} where

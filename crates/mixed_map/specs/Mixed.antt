@@ -1,5 +1,5 @@
 -- Entries by number, some of which stretches tell.
-use Rattle.std.specs.Prelude.{◌≡◌, ℕ, zero, suc, ◌+◌, ◌≤◌, true, refl, List, [], ◌∷◌, Some, None}
+use Rattle.std.specs.Prelude.{◌≡◌, ℕ, zero, suc, ◌+◌, ◌<◌, ◌≤◌, true, refl, List, [], ◌∷◌, IsSome, Some, None}
 use Rattle.std.specs.Ordering.{nat_cmp}
 use Rattle.std.specs.FinMap.{FinMap}
 use Rattle.std.specs.FinMap as map
@@ -10,10 +10,11 @@ use Rattle.stretches.specs.Stretch.{IsFit, is_in, value_at}
 use Rattle.stretches.specs.Stretches.{Stretches, number_count, said}
 use Rattle.mixed_map.specs.Lone.{Lone}
 
--- the entry of each number, the stretches that some of them are in, how many entries there are, and
--- for how many there is room
+-- the entry of each number, the slot of each that stands alone, the stretches that the others are
+-- in, how many entries there are, and for how many there is room
 pub record Mixed (V S : Type 0) : Type 0 where
   pub cells : FinMap nat_cmp S
+  pub slots : FinMap nat_cmp ℕ
   pub list : List (Stretch V)
   pub count : ℕ
   pub room : ℕ
@@ -32,11 +33,18 @@ stretch_code {V} code =
 abbrev pub mixed_code : {V S : Type 0} → Coded V → Coded S → Coded (Mixed V S)
 mixed_code {V} {S} value entry =
     code_by
-    (FinMap nat_cmp S × (List (Stretch V) × (ℕ × ℕ)))
+    (FinMap nat_cmp S × (FinMap nat_cmp ℕ × (List (Stretch V) × (ℕ × ℕ))))
     (coded× (map.code coded_ℕ entry)
-    (coded× (coded_list (stretch_code value)) (coded× coded_ℕ coded_ℕ)))
-    (λ m. (m.cells, (m.list, (m.count, m.room))))
-    (λ p. record { cells = p.0; list = p.1.0; count = p.1.1.0; room = p.1.1.1 })
+    (coded× (map.code coded_ℕ coded_ℕ)
+    (coded× (coded_list (stretch_code value)) (coded× coded_ℕ coded_ℕ))))
+    (λ m. (m.cells, (m.slots, (m.list, (m.count, m.room)))))
+    (λ p. record {
+      cells = p.0;
+      slots = p.1.0;
+      list = p.1.1.0;
+      count = p.1.1.1.0;
+      room = p.1.1.1.1;
+    })
     (λ _. refl)
 
 module _ {V S : Type 0} (G : Ghosts V) (told : V → S) where
@@ -64,20 +72,26 @@ module _ {V S : Type 0} (G : Ghosts V) (told : V → S) where
     pub fit : IsFit G r
     pub told_by : Tells m r
 
-module _ {V S : Type 0} where
-  -- the map without the entries of the first numbers of a stretch, so many
-  abbrev pub without_first : FinMap nat_cmp S → Stretch V → ℕ → FinMap nat_cmp S
-  without_first m r zero = m
-  without_first m r (suc k) = map.remove (without_first m r k) (r.first + k)
+module _ {X : Type 0} where
+  -- the map without so many numbers, from one on
+  abbrev pub without_range : FinMap nat_cmp X → ℕ → ℕ → FinMap nat_cmp X
+  without_range m first zero = m
+  without_range m first (suc k) = map.remove (without_range m first k) (first + k)
 
+module _ {V S : Type 0} where
   -- the map without the entries of all numbers of a stretch
   abbrev pub without_stretch : FinMap nat_cmp S → Stretch V → FinMap nat_cmp S
-  without_stretch m r = without_first m r r.count
+  without_stretch m r = without_range m r.first r.count
+
+  -- so many numbers from one on stand alone
+  abbrev pub AreAlone : Mixed V S → ℕ → ℕ → Type 0
+  AreAlone m first count = (k : ℕ) → k < count → IsSome (map.get m.slots (first + k))
 
 module _ {V S : Type 0} (G : Ghosts V) where
-  -- no number stands both alone and in a stretch, and there are places for as many numbers as there
-  -- is room for
+  -- no number stands both alone and in a stretch, each that has a slot has an entry there, and there
+  -- are places for as many numbers as there is room for
   pub record IsMixed (lone : Lone S) (stretches : Stretches V) : Type 0 where
     pub apart : (n : ℕ) (v : V) → said G stretches.list n ≡ Some v → map.get lone.entries n ≡ None
+    pub placed : (n : ℕ) → map.get lone.entries n ≡ None → map.get lone.slots n ≡ None
     pub places : lone.room ≤ stretches.places
-    pub few : lone.count + number_count stretches.list ≤ lone.room
+    pub few : map.len lone.slots + number_count stretches.list ≤ lone.room

@@ -6,14 +6,15 @@
 //! moves nothing else. Whoever keeps entries in a [`MixedMap`] sees one map, and need not know
 //! which way an entry stands: `get` finds it either way ([`Found`]), by the index first. What is
 //! set by itself stands alone from then on, cut out of its stretch; what is put as a stretch stays
-//! one. A stretch of one number costs more than a slot, so a number that is left alone before or
-//! behind one that is cut out stands alone too.
+//! one, and entries that stand alone and are alike again are gathered into one. Whoever changes
+//! much of one entry finds its [`Place`] once and changes it there.
 //!
 //! How a lone entry is had from what a stretch says is the trait [`Alone`]'s. The model is a finite
-//! map from numbers to entries, the stretches that tell some of them, how many entries there are,
-//! and for how many there is room: the calls are equations on it. Which numbers are in one stretch
-//! matters only to loops that go from stretch to stretch (`stretch_from`). None but `reserve` takes
-//! memory, and that takes addresses alone.
+//! map from numbers to entries, another one from the numbers that stand alone to their slots, the
+//! stretches that tell the others, how many entries there are, and for how many there is room: the
+//! calls are equations on it. Which numbers are in one stretch matters only to loops that go from
+//! stretch to stretch (`stretch_from`). None but `reserve` takes memory, and that takes addresses
+//! alone.
 //!
 //! This crate stands on `stretches`, whose list keeps the stretches, and on `linear_index`, whose
 //! index finds the slots. It is made for page nodes.
@@ -23,8 +24,10 @@ mod alone;
 mod found;
 mod lone_map;
 mod mixed_map;
+mod place;
 
 pub use alone::Alone;
 pub use found::Found;
 pub(crate) use lone_map::LoneMap;
 pub use mixed_map::MixedMap;
+pub use place::Place;

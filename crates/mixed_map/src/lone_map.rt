@@ -1,20 +1,22 @@
 // Entries by number, each in a slot of its own.
-ghost use Rattle.std.specs.Prelude.{◌≡◌, ◌+◌, ◌-◌, ◌<◌, ◌≤◌, None, Some, max, length, IfSome, IsOk, IsSome, MatchOption, OnErr, OnOk, option_copied, IsTrue, ◌↔◌};
-ghost use Rattle.std.specs.Bool.{OnFalse, OnTrue};
+ghost use Rattle.std.specs.Prelude.{◌≡◌, ◌≢◌, ℕ, ◌+◌, ◌<◌, ◌≤◌, None, Some, max, IfNone, IfSome, IsOk, OnErr, OnOk, option_copied};
+ghost use Rattle.std.specs.Borrow.{sem};
 ghost use Rattle.std.specs.FinMap as map;
+ghost use Rattle.mixed_map.specs.Place.{IsPlace};
 
+use crate::Place;
 use linear_index::Index;
 use std::alloc::{AllocError, Global};
 use std::marker::Model;
 
-// A finite map by number: an index from numbers to places, and a slot for each place.
+// A finite map by number: an index from numbers to slots.
 #[derive(Drop)]
 pub(crate) struct LoneMap<S: Copy> {
-    // The place of each number.
+    // The slot of each number.
     index: Index,
-    // The entry at each place. A vacant one keeps what it had.
+    // The entry in each slot. A vacant one keeps what it had.
     slots: Vec<S>,
-    // The places that were given back.
+    // The slots that were given back.
     vacant: Vec<u32>,
     // For so many entries there is memory.
     room: u32,
@@ -31,7 +33,7 @@ impl<S: Copy> Model for LoneMap<S> {
 
     ghost view = { λ l. record {
       entries = filled l.slots.items (map.entries l.index.places);
-      count = map.len l.index.places;
+      slots = l.index.places;
       room = l.room;
     } };
 
@@ -41,9 +43,11 @@ impl<S: Copy> Model for LoneMap<S> {
 }
 
 impl<S: Copy> LoneMap<S> {
+    ghost use Rattle.mixed_map.specs.Lending.{LendsAlone};
+
     // No entry, and no memory for one.
     pub(crate) fn new(alloc: Global) -> Self
-        ensures { result ≡ record { entries = map.empty; count = 0; room = 0 } }
+        ensures { result ≡ record { entries = map.empty; slots = map.empty; room = 0 } }
     {
         LoneMap {
             index: Index::new(alloc),
@@ -71,66 +75,120 @@ impl<S: Copy> LoneMap<S> {
         Ok(())
     }
 
+    // Where the entry of a number stands. `None` exactly where it has none.
+    #[inline(always)]
+    pub(crate) fn place(&self, number: u64) -> Option<Place>
+        ensures place { IfSome result (λ place. (place.number ≡ number)
+            × IsPlace self.now.slots place) }
+        ensures none { IfNone result ((map.get self.now.slots number ≡ None)
+            × (map.get self.now.entries number ≡ None)) }
+    {
+        match self.index.lately(number) {
+            Some(slot) => Some(Place { number, slot }),
+            None => self.search(number),
+        }
+    }
+
+    // The same, by the index alone.
+    fn search(&self, number: u64) -> Option<Place>
+        ensures place { IfSome result (λ place. (place.number ≡ number)
+            × IsPlace self.now.slots place) }
+        ensures none { IfNone result ((map.get self.now.slots number ≡ None)
+            × (map.get self.now.entries number ≡ None)) }
+    {
+        let slot = self.index.find(number)?;
+        Some(Place { number, slot })
+    }
+
+    // The same, where it was found lately; or else `None`.
+    #[inline(always)]
+    pub(crate) fn recent_place(&self, number: u64) -> Option<Place>
+        ensures { IfSome result (λ place. (place.number ≡ number)
+            × IsPlace self.now.slots place) }
+    {
+        let slot = self.index.lately(number)?;
+        Some(Place { number, slot })
+    }
+
+    // The place with this slot, in which an entry is.
+    pub(crate) fn place_of(&self, slot: u32) -> Place
+        requires { (number : ℕ) × (map.get self.now.slots number ≡ Some slot) }
+        ensures slot { result.slot ≡ slot }
+        ensures place { IsPlace self.now.slots result }
+    {
+        Place {
+            number: self.index.key(slot),
+            slot,
+        }
+    }
+
+    // The entry at a place.
+    #[inline(always)]
+    pub(crate) fn at(&self, place: Place) -> &S
+        requires { IsPlace self.now.slots place }
+        ensures { map.get self.now.entries place.number ≡ Some result.now }
+    {
+        &self.slots[place.slot as usize]
+    }
+
+    // The same, to be changed.
+    #[inline(always)]
+    pub(crate) fn at_mut(&mut self, place: Place) -> &mut S
+        requires { IsPlace self.old.slots place }
+        ensures* writes_back { sem 𝓛 (LendsAlone S.row self.entry place result) }
+        ensures entry { map.get self.old.entries place.number ≡ Some result.now }
+    {
+        &mut self.slots[place.slot as usize]
+    }
+
     // The entry of a number. `None` exactly where it has none.
     pub(crate) fn get(&self, number: u64) -> Option<&S>
         ensures { option_copied result ≡ map.get self.now.entries number }
     {
-        let place = self.index.find(number)?;
-        Some(&self.slots[place as usize])
+        let place = self.place(number)?;
+        Some(self.at(place))
     }
 
-    // Puts another entry in the place of a number's. Whether it had one; else nothing changes.
-    pub(crate) fn try_set(&mut self, number: u64, entry: S) -> bool
-        ensures there { IsTrue result ↔ IsSome (map.get self.old.entries number) }
-        ensures set { OnTrue result (self.new
-            ≡ record self.old { entries = map.insert self.old.entries number entry }) }
-        ensures same { OnFalse result (self.new ≡ self.old) }
-    {
-        match self.index.find(number) {
-            Some(place) => {
-                self.slots[place as usize] = entry;
-                true
-            }
-            None => false,
-        }
-    }
-
-    // An entry for a number that has none.
-    pub(crate) fn insert(&mut self, number: u64, entry: S)
+    // An entry for a number that has none. Its place.
+    pub(crate) fn insert(&mut self, number: u64, entry: S) -> Place
         requires vacant { map.get self.old.entries number ≡ None }
-        requires room { self.old.count < self.old.room }
-        ensures { self.new ≡ record self.old {
+        requires room { map.len self.old.slots < self.old.room }
+        ensures number { result.number ≡ number }
+        ensures apart { (other : ℕ) → map.get self.old.slots other ≢ Some result.slot }
+        ensures within { result.slot < self.old.room }
+        ensures inserted { self.new ≡ record self.old {
           entries = map.insert self.old.entries number entry;
-          count = self.old.count + 1;
+          slots = map.insert self.old.slots number result.slot;
         } }
+        ensures count { map.len self.new.slots ≡ map.len self.old.slots + 1 }
     {
         match self.vacant.pop() {
-            Some(place) => {
-                self.slots[place as usize] = entry;
-                self.index.enter(number, place);
+            Some(slot) => {
+                self.slots[slot as usize] = entry;
+                self.index.enter(number, slot);
+                Place { number, slot }
             }
             None => {
-                let place = self.slots.len() as u32;
+                let slot = self.slots.len() as u32;
                 self.slots.push_reserved(entry);
-                self.index.enter(number, place);
+                self.index.enter(number, slot);
+                Place { number, slot }
             }
         }
     }
 
-    // The entry of a number, which then has none any more. `None` exactly where it has none, and
-    // then nothing changes.
-    pub(crate) fn take(&mut self, number: u64) -> Option<S>
-        ensures entry { result ≡ map.get self.old.entries number }
-        ensures taken { MatchOption result (self.new ≡ self.old) (λ _. self.new
-            ≡ record self.old {
-              entries = map.remove self.old.entries number;
-              count = self.old.count - 1;
-            }) }
-        ensures some { IfSome result (λ _. 0 < self.old.count) }
+    // Takes out the entry at a place.
+    pub(crate) fn take(&mut self, place: Place) -> S
+        requires { IsPlace self.old.slots place }
+        ensures entry { map.get self.old.entries place.number ≡ Some result }
+        ensures taken { self.new ≡ record self.old {
+          entries = map.remove self.old.entries place.number;
+          slots = map.remove self.old.slots place.number;
+        } }
+        ensures count { map.len self.new.slots + 1 ≡ map.len self.old.slots }
     {
-        let place = self.index.find(number)?;
-        self.index.leave(number, place);
-        self.vacant.push_reserved(place);
-        Some(self.slots[place as usize])
+        self.index.leave(place.number, place.slot);
+        self.vacant.push_reserved(place.slot);
+        self.slots[place.slot as usize]
     }
 }

@@ -2,6 +2,8 @@
 
 -- The steps of settle.
 pub mod Steps
+-- Working nodes gave way, one alone or many at once, and the store follows.
+pub mod Merges
 -- The pages that a span names.
 pub mod Ranges
 -- The pages of a range become those of their segment.

@@ -4,7 +4,7 @@
 pub mod Parts
 -- One page was copied alone.
 pub mod OneFollowed
--- One page is copied to a node that is new.
+-- One page is copied whose node dropped no frame and no slot.
 pub mod OnePage
 -- All pages are copied at once.
 pub mod AllAtOnce

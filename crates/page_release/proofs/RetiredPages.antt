@@ -4,6 +4,8 @@
 pub mod Parts
 -- One page was retired alone.
 pub mod OneFollowed
+-- One page was retired alone, a fresh node made for it, and the store followed.
+pub mod Detached
 -- One page is retired that is in no frame and in no slot.
 pub mod OnePage
 -- All pages are retired at once.

@@ -27,7 +27,7 @@ pub record CanRetire (nodes : ℕ) (names : List NodeName) (s : Store) (a : Aren
   pub tied : IsStoreTied s a
   pub whole : IsWhole a
   pub unpinned : AreUnpinned s a names
-  pub made : a.made + nodes < 2 ^ 63
+  pub made : a.made + nodes < 3 * 2 ^ 61
 
 -- The pages of these names, all of one cache, may be replaced or taken away.
 --     saved      where the cache is named no heir reads an own page of them

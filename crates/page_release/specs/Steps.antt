@@ -1,5 +1,5 @@
 -- What a step keeps of a store that gives frames and slots back and takes none.
-use Rattle.std.specs.Prelude.{◌≡◌, ◌≢◌, ℕ, Bool, true, false, if◌then◌else◌, List, length, Option, Some, None, is_some, option_map}
+use Rattle.std.specs.Prelude.{◌≡◌, ◌≢◌, ◌<◌, ◌≤◌, ℕ, Bool, true, false, if◌then◌else◌, List, length, Option, Some, None, is_some, option_map}
 use Rattle.vm_ids.specs.Held.{Held}
 use Rattle.vm_ids.specs.declared.node_name.NodeName.{NodeName}
 use Rattle.vm_ids.specs.Forest.NameLists.{◌∈◌}
@@ -11,15 +11,15 @@ use Rattle.local_cache.specs.declared.own_state.OwnState.{OwnState}
 use Rattle.local_cache.specs.declared.own_state.OwnState.TheVariants.{Absent, Zero, Resident, Slot, OnSegment}
 use Rattle.local_cache.specs.Arena.{Arena}
 use Rattle.local_cache.specs.Home.{home_named}
-use Rattle.local_cache.specs.Reading.{name_of}
+use Rattle.local_cache.specs.Reading.{forest_of, name_of}
 use Rattle.local_cache.specs.Sound.{IsSound}
 use Rattle.local_cache.specs.Whole.{SameCaches}
 use Rattle.residency.specs.declared.store.Store.{Store}
 use Rattle.vm_ids.specs.Forest.Forgetting.{forgotten}
+use Rattle.vm_ids.specs.Forest.NameMap.{len}
 use Rattle.vm_ids.specs.Forest.Nodes.{Forest}
-use Rattle.vm_ids.specs.Forest.Settling.{settle_step}
-use Rattle.tree_merge.specs.declared.released.Released.{Released}
-use Rattle.tree_merge.specs.Releasing.{IsMerged}
+use Rattle.vm_ids.specs.Forest.Settling.{settle}
+use Rattle.vm_ids.specs.Forest.Shape.{IsConsistent}
 use Rattle.residency.specs.Seeing.{frame_forest}
 use Rattle.residency.specs.StoreForest.{store_forest}
 use Rattle.residency.specs.World.{IsStoreRight, IsTied, PinnedStays, World, is_slot_held, page_by, world, zero_page}
@@ -90,13 +90,17 @@ pub record Releases (names : List NodeName) (s : Store) (a : Arena) (t : Store) 
   pub sizes : SameCaches a b
   pub homes : KeepsHomes names a b
 
--- One step of settle was done, in the nodes and in the store.
-pub record IsSettleStep (s : Store) (a : Arena) (t : Store) (b : Arena) : Type 0 where
-  pub released : Released
-  pub merged : IsMerged a b released
+-- Some steps of settle were done, in the nodes and in the store: what settle comes to stays, and
+-- there are fewer nodes.
+pub record AreSettleSteps (s : Store) (a : Arena) (t : Store) (b : Arena) : Type 0 where
+  pub nodes : settle (forest_of b) ≡ settle (forest_of a)
   pub forest : ForAnyMapper s a t b
-      (λ old new. store_forest new ≡ settle_step (store_forest old) (name_of a merged.node))
-  pub frames : frame_forest b t.map ≡ settle_step (frame_forest a s.map) (name_of a merged.node)
+      (λ old new. settle (store_forest new) ≡ settle (store_forest old))
+  pub frames : settle (frame_forest b t.map) ≡ settle (frame_forest a s.map)
+  pub consistent : IsConsistent (forest_of b)
+  pub counters : (b.made ≡ a.made) × (b.copies ≡ a.copies)
+  pub room : a.room.nodes ≤ b.room.nodes
+  pub fewer : len (forest_of b).nodes < len (forest_of a).nodes
 
 -- a page of zeros, where the mapper tells what pages hold
 abbrev pub zeros_told : World → Option (List ℕ)

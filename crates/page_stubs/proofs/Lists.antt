@@ -14,3 +14,5 @@ pub mod Exchange
 pub mod Handing
 -- One list of stubs behind another: what it does to the links and to the lists.
 pub mod Joining
+-- A node without stubs, whose list goes to another one.
+pub mod NoStubs

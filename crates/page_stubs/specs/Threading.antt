@@ -45,21 +45,23 @@ abbrev pub end_after : Option NodeId → Option NodeId → Option NodeId → Opt
 end_after None other end = other
 end_after (Some n) other end = end
 
--- n taken out of the stubs of p, where it stands between two neighbours
-abbrev pub cut_out : Arena → NodeId → NodeId → Option NodeId → Option NodeId → Arena
-cut_out a n p before behind =
-    with_place
-    (with_ends
+-- the stubs of p without one that stands between two neighbours
+abbrev pub taken_out : Arena → NodeId → Option NodeId → Option NodeId → Arena
+taken_out a p before behind =
+    with_ends
     (with_before (with_behind a before behind) behind before)
     p
     (end_after before behind (cell a p).links.first)
     (end_after behind before (cell a p).links.last)
-    ((cell a p).links.stubs - 1))
-    n
-    None
-    false
-    None
-    None
+    ((cell a p).links.stubs - 1)
+
+-- n on no parent, and without neighbours
+abbrev pub loose : Arena → NodeId → Arena
+loose a n = with_place a n None false None None
+
+-- n taken out of the stubs of p, where it stands between two neighbours
+abbrev pub cut_out : Arena → NodeId → NodeId → Option NodeId → Option NodeId → Arena
+cut_out a n p before behind = loose (taken_out a p before behind) n
 
 -- the list of `from`, whose stubs have `to` as their parent, behind that of `to`
 abbrev pub joined : Arena → NodeId → NodeId → Arena

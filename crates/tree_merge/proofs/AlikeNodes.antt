@@ -1,5 +1,5 @@
--- Nodes that are alike, and have neither parents nor children where the first of them has none.
-use Rattle.std.proofs.Common.{◌≡◌, ℕ, ◌<◌, ◌≤◌, List, [], ◌∷◌, length, map, None, refl, ap, ◌∙◌, arith, inl, inr}
+-- Nodes that are alike, and have no children where the first of them has none.
+use Rattle.std.proofs.Common.{◌≡◌, ℕ, ◌+◌, ◌<◌, ◌≤◌, ◌^◌, List, [], ◌∷◌, length, map, None, refl, ap, ◌∙◌, arith, inl, inr}
 use Rattle.std.proofs.lemmas.List.{length-map}
 use Rattle.std.specs.Prelude.{slice_get}
 use Rattle.vm_ids.specs.declared.node_name.NodeName.TheVariants.{Live}
@@ -8,11 +8,11 @@ use Rattle.vm_ids.specs.declared.numbers.NodeId.{NodeId}
 use Rattle.vm_ids.specs.declared.numbers.PageNo.{PageNo}
 use Rattle.local_cache.specs.Arena.{Arena, cell}
 use Rattle.local_cache.specs.Many.{AreAlike, AreNamed}
-use Rattle.local_cache.specs.ManyNodes.{next_if, next_node}
+use Rattle.local_cache.specs.ManyNodes.{next_node}
 use Rattle.local_cache.specs.Own.{own_of}
 use Rattle.local_cache.specs.Reading.{name_of}
-use Rattle.tree_merge.specs.Copyable.{AreLone}
-use Rattle.tree_merge.specs.Copying.{AreEmpty, IsEmpty, IsLone}
+use Rattle.tree_merge.specs.Copyable.{AreLeaves}
+use Rattle.tree_merge.specs.Copying.{AreEmpty, IsEmpty}
 use Rattle.tree_merge.specs.Sharing.{AreShared, HasTreeChild}
 
 pub no_children : (ms : List NodeId) → slice_get ms 0 ≡ None → ms ≡ []
@@ -22,11 +22,12 @@ no_children (m ∷ ms) e = absurd (cc e)
 pub fewer : (a : Arena) (n : NodeId) (most count : ℕ) → count ≤ most → AreAlike a n most → AreAlike a n count
 fewer a n most count few alike k less = alike k (omega arith)
 
-pub fewer_lone : (a : Arena) (n : NodeId) (most count : ℕ) → count ≤ most → AreLone a n most → AreLone a n count
-fewer_lone a n most count few all = record {
+pub fewer_leaves : (a : Arena) (n : NodeId) (most count : ℕ) → count ≤ most → AreLeaves a n most → AreLeaves a n count
+fewer_leaves a n most count few all = record {
   alike = fewer a n most count few all.alike;
-  lone = λ k less. all.lone k (omega arith);
+  leaves = λ k less. all.leaves k (omega arith);
   empty = λ k less. all.empty k (omega arith);
+  short = omega (arith, all.short);
 }
 
 module _ (a : Arena) (n : NodeId) (count : ℕ) (alike : AreAlike a n count) where
@@ -40,15 +41,14 @@ module _ (a : Arena) (n : NodeId) (count : ℕ) (alike : AreAlike a n count) whe
   pub alike_trees : (ms : List NodeId) → (cell a n).tree ≡ ms → (k : ℕ) → k < count → (cell a (next_node n k)).tree ≡ map (λ m. next_node m k) ms
   alike_trees ms e k less = (alike k less).tree ∙ ap (map (λ m. next_node m k)) e
 
-  bare : (cell a n).links.parent ≡ None → (cell a n).tree ≡ [] → (k : ℕ) → k < count → IsLone (cell a (next_node n k))
-  bare root leaf k less = record {
-    root = ap (λ l. l.parent) (alike k less).links ∙ ap (λ o. next_if o k) root;
-    tree = alike_trees [] leaf k less;
-    stubs = ap (λ l. l.stubs) (alike k less).links;
+  -- nothing hangs on them where nothing hangs on the first one
+  pub alike_leaves : (cell a n).tree ≡ [] → IsEmpty (own_of a n) → n.0 + count ≤ 2 ^ 64 → AreLeaves a n count
+  alike_leaves leaf empty short = record {
+    alike = alike;
+    leaves = λ k less. record { links = (alike k less).links; tree = alike_trees [] leaf k less };
+    empty = alike_empty empty;
+    short = short;
   }
-
-  pub alike_lone : (cell a n).links.parent ≡ None → (cell a n).tree ≡ [] → IsEmpty (own_of a n) → AreLone a n count
-  alike_lone root leaf empty = record { alike = alike; lone = bare root leaf; empty = alike_empty empty }
 
   pub alike_shared : HasTreeChild (cell a n) → IsEmpty (own_of a n) → AreShared a n count
   alike_shared some empty = record {

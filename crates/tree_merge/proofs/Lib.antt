@@ -15,6 +15,8 @@ pub mod Releases
 pub mod AlikeNodes
 -- Many pages are retired at once.
 pub mod RetiredPages
+-- A node without children leaves its parent, and is as new.
+pub mod LeafRenewed
 -- Many pages are copied at once.
 pub mod CopiedPages
 -- One page is retired or copied alone.

@@ -2,9 +2,11 @@
 
 -- A child gets the own page of a node, where the node has one and the child has none.
 pub mod Page
--- Changes of one node, one after the other, as one change.
-mod Cells
 -- One step of settle: the node goes, and its only child takes its page and its place.
 pub mod Step
 -- The same where the parent and the child are written once each.
 pub mod AtOnce
+-- The same by one call.
+pub mod Once
+-- Working nodes that are alike give way, all at once.
+pub mod Many

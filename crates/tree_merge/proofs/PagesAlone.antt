@@ -8,3 +8,7 @@ pub mod Detached
 pub mod Copied
 -- A step that did one page.
 pub mod Steps
+-- The other nodes, where the node of a page was retired or detached.
+pub mod Others
+-- A node was renewed for a copy, and is to be hung on its source's.
+pub mod Hung

@@ -1,12 +1,14 @@
 -- Many pages are retired at once.
 
+-- One page is retired after the other.
+pub mod InTurn
 -- One page is retired, and its node goes.
 pub mod OnePage
--- One page is retired after the other.
-pub mod OneByOne
+-- Pages on which nothing hangs.
+pub mod Leaves
 -- One page is retired whose node stays for others.
 pub mod SharedPage
--- One such page is retired after the other.
+-- Pages on which others hang.
 pub mod SharedPages
 -- Pages whose nodes are alike can be retired at once.
 pub mod AtOnce

@@ -6,8 +6,11 @@ use Rattle.vm_ids.specs.Forest.Nodes.{Forest, node, parent, is_stub}
 use Rattle.vm_ids.specs.Forest.Shape.{IsRanked}
 use Rattle.vm_ids.specs.Forest.Changes.{cut}
 use Rattle.vm_ids.specs.Forest.Settling.{take_place}
-use Rattle.local_cache.specs.Arena.{Arena, find, tables_with}
-use Rattle.local_cache.specs.Reading.{name_of}
+use Rattle.local_cache.specs.declared.links.Links.{Links}
+use Rattle.local_cache.specs.Arena.{Arena, HasNode, find, tables_with, with_links}
+use Rattle.local_cache.specs.Changes.{Rehung}
+use Rattle.local_cache.specs.Reading.{forest_of, name_of}
+use Rattle.local_cache.specs.Sound.{IsSound}
 
 -- The node n is gone, from the tables too, and leaves its place. All other nodes keep their numbers
 -- and names, no number is new, and the counters stay.
@@ -19,6 +22,14 @@ pub record IsGone (a b : Arena) (n : NodeId) : Type 0 where
   pub made : b.made ≡ a.made
   pub copies : b.copies ≡ a.copies
   pub room : b.room ≡ record a.room { nodes = a.room.nodes + 1 }
+
+-- The node n left the list of its parent, if it has one: with these links of its own it is cut off.
+pub record HasLeft (a b : Arena) (n : NodeId) : Type 0 where
+  pub links : Links
+  pub forest : forest_of (with_links b n links) ≡ cut (forest_of a) (name_of a n)
+  pub sound : IsSound (with_links b n links)
+  pub rehung : Rehung a (with_links b n links)
+  pub held : HasNode b n
 
 module _ {P : Type 0} where
   -- no node hangs on x

@@ -1,105 +1,79 @@
 -- Page nodes that are alike, on the arena.
-use Rattle.std.proofs.Common.{◌≡◌, ℕ, ◌+◌, ◌-◌, ◌*◌, ◌<◌, ◌≤◌, ◌^◌, Option, Some, None, is_some, refl, ap, sym, subst, ◌∙◌, arith}
-use Rattle.std.specs.Prelude.{IfSome, map, max, min, unwrap_or}
-use Rattle.vm_ids.specs.declared.node_name.NodeName.TheVariants.{Live, Working as WorkingNode}
-use Rattle.vm_ids.specs.declared.numbers.CacheId.{CacheId}
+use Rattle.std.proofs.Common.{◌≡◌, ℕ, ◌+◌, ◌-◌, ◌^◌, ◌<◌, max, min, List, [], ◌∷◌, map as list_map, Option, Some, None, refl, ap, sym, subst, ◌∙◌, inl, inr, arith}
+use Rattle.std.specs.Prelude.{is_some, unwrap_or}
+use Rattle.std.proofs.lemmas.Bool.{cases_eq}
+use Rattle.std.specs.FinMap as map
+use Rattle.vm_ids.specs.declared.node_name.NodeName.{NodeName}
 use Rattle.vm_ids.specs.declared.numbers.NodeId.{NodeId}
-use Rattle.vm_ids.specs.declared.numbers.PageNo.{PageNo}
-use Rattle.local_cache.specs.declared.runs.run.Run.{Run}
-use Rattle.local_cache.specs.declared.runs.run.RunName.{RunName}
-use Rattle.local_cache.specs.declared.runs.run.RunName.TheVariants.{Pages, Working, EverySecond}
-use Rattle.local_cache.specs.Arena.{Arena, Cell, blank, cell, no_links}
+use Rattle.local_cache.specs.declared.runs.run.PlainState.{PlainState}
+use Rattle.local_cache.specs.declared.runs.run.PlainState.TheVariants.{Absent as PlainAbsent, Zero as PlainZero, OnSegment as PlainOnSegment}
+use Rattle.local_cache.specs.Arena.{Cell, blank, no_links}
+use Rattle.local_cache.specs.Arena as arena
 use Rattle.local_cache.specs.ArenaBy.{CacheRows, arena_by}
-use Rattle.local_cache.specs.KeyRanges.{run_cell}
-use Rattle.local_cache.specs.Many.{AreAlike}
+use Rattle.local_cache.specs.GoingOn.{run_goes_on}
+use Rattle.local_cache.specs.Many.{AreAlike, IsPlain}
 use Rattle.local_cache.specs.ManyNodes.{next_if, next_node}
-use Rattle.local_cache.specs.ManyNodes as many
-use Rattle.local_cache.specs.NodeCells.{tree_of}
-use Rattle.local_cache.specs.PageNodes.{PageNodes}
-use Rattle.local_cache.specs.Runs.{first_name, further, further_if, name_after}
+use Rattle.local_cache.specs.NodeCells.{cell_at, own_of_plain, run_cell, tree_of}
+use Rattle.local_cache.specs.NodeTable.{AreSaidAlike, HasNumber}
+use Rattle.local_cache.specs.PageNodes.{PageNodes, name_behind}
+use Rattle.local_cache.specs.Runs.{further_if, run_after}
+use Rattle.local_cache.proofs.Alike.{node_here}
+use Rattle.local_cache.proofs.RunAfter.{further_next_if, run_cell_after}
 
--- What a run names
+further_here : (o : Option NodeId) → further_if o 0 ≡ o
+further_here None = refl
+further_here (Some n) = (let e : max n.0 (min (n.0 + 0) (2 ^ 64 - 1)) ≡ n.0 = omega arith in λ i. Some (record { 0 = e i }))
 
--- a node of a run so many numbers further on
-further_node : (p : NodeId) (count k : ℕ) → p.0 + count ≤ 2 ^ 64 → k < count → further p k ≡ next_node (further p 0) k
-further_node p count k short less =
-    let e : max p.0 (min (p.0 + k) (2 ^ 64 - 1)) ≡ max p.0 (min (p.0 + 0) (2 ^ 64 - 1)) + k = omega (arith, short, less) in
-    λ i. record { 0 = e i }
+-- the next node, as far as there are numbers
+number_on : (o : Option NodeId) (k : ℕ) → (0 < k → HasNumber o k) → further_if o k ≡ next_if o k
+number_on o k short = elim (cases_eq k 0) [
+  | inl none ↦ ap (further_if o) none ∙ further_here o ∙ sym (node_here o) ∙ ap (next_if o) (sym none)
+  | inr some ↦ further_next_if o k (short (omega (arith, some)))
+]
 
-further_same : (o : Option NodeId) (count k : ℕ) → IfSome o (λ p. p.0 + count ≤ 2 ^ 64) → k < count
-    → further_if o k ≡ next_if (further_if o 0) k
-further_same None count k short less = refl
-further_same (Some p) count k short less = ap Some (further_node p count k short less)
+tree_next : (older newer : Option NodeId) (k : ℕ) → tree_of (next_if older k) (next_if newer k) ≡ list_map (λ n. next_node n k) (tree_of older newer)
+tree_next None None k = refl
+tree_next None (Some n) k = refl
+tree_next (Some n) None k = refl
+tree_next (Some n) (Some m) k = refl
 
-tree_same : (o w : Option NodeId) (k : ℕ) → tree_of (next_if o k) (next_if w k) ≡ map (λ t. next_node t k) (tree_of o w)
-tree_same None None k = refl
-tree_same None (Some q) k = refl
-tree_same (Some p) None k = refl
-tree_same (Some p) (Some q) k = refl
+plain_own : (p : PlainState) → IsPlain (own_of_plain p)
+plain_own PlainAbsent = tt
+plain_own PlainZero = tt
+plain_own PlainOnSegment = tt
 
--- a page of a run so many pages further on
-page_same : (name : RunName) (k : ℕ) (cache : CacheId) (page : PageNo) → first_name (name_after name 0) ≡ Live cache page
-    → first_name (name_after name k) ≡ Live cache (record { 0 = page.0 + k })
-page_same (Pages from first) k cache page is =
-    let number : PageNo = record { 0 = first.0 + 0 } in
-    let same_cache : from ≡ cache = cc is in
-    let same_page : number ≡ page = cc is in
-    let same : first.0 + 0 ≡ page.0 = ap (λ (p : PageNo). p.0) same_page in
-    let sum : first.0 + k ≡ page.0 + k = omega (arith, same) in
-    λ i. Live (same_cache i) (record { 0 = sum i })
-page_same (Working w) k cache page is = absurd (cc is)
-page_same (EverySecond w) k cache page is = absurd (cc is)
+module _ (m : PageNodes) (c : CacheRows) (n : NodeId) (count : ℕ) (alike : AreSaidAlike m.cells n.0 count) where
+  first_cell : 0 < count → cell_at m.cells n.0 ≡ run_cell alike.run
+  first_cell some =
+      let here : n.0 + 0 ≡ n.0 = omega arith in
+      ap (λ (k : ℕ). cell_at m.cells k) (sym here)
+      ∙ ap (λ (o : Option Cell). unwrap_or o blank) (alike.said 0 some)
+      ∙ ap run_cell (run_goes_on.starts alike.run)
 
-working_same : (name : RunName) (k number : ℕ) → first_name (name_after name 0) ≡ WorkingNode number
-    → (other : ℕ) × (first_name (name_after name k) ≡ WorkingNode other)
-working_same (Pages from first) k number is = absurd (cc is)
-working_same (Working w) k number is = (w + k, refl)
-working_same (EverySecond w) k number is = (w + 2 * k, refl)
+  cell_on : (k : ℕ) → k < count → cell_at m.cells (n.0 + k) ≡ run_cell (run_after alike.run k)
+  cell_on k less = ap (λ (o : Option Cell). unwrap_or o blank) (alike.said k less)
 
--- The nodes
+  name_on : (k : ℕ) → k < count → (cell_at m.cells (n.0 + k)).name ≡ name_behind (cell_at m.cells n.0).name k
+  name_on k less =
+      ap (λ (d : Cell). d.name) (cell_on k less ∙ run_cell_after alike.run k)
+      ∙ ap (λ (d : Cell). name_behind d.name k) (sym (first_cell (omega (arith, less))))
 
-module _ (m : PageNodes) (c : CacheRows) (n : NodeId) (count : ℕ) (alike : many.AreAlike m n count) where
-  abbrev a : Arena
-  a = arena_by m c
-
-  abbrev r : Run
-  r = alike.run
-
-  cell_is : (k : ℕ) → k < count → cell a (next_node n k) ≡ run_cell r k
-  unfolding cell
-  cell_is k less = ap (λ (o : Option Cell). unwrap_or o blank) (alike.said k less)
-
-  first_is : (k : ℕ) → k < count → cell a n ≡ run_cell r 0
-  first_is k less =
-      let at : n.0 ≡ n.0 + 0 = omega arith in
-      ap (λ (j : ℕ). cell a (record { 0 = j })) at ∙ cell_is 0 (omega (arith, less))
-
-  all_alike : AreAlike a n count
-  all_alike k less =
-      let here = cell_is k less in
-      let first = first_is k less in
-      let parent = further_same r.parent count k alike.parent less in
-      let older = further_same r.older count k alike.older less in
-      let newer = further_same r.newer count k alike.newer less in
+  pub alike_by : AreAlike (arena_by m c) n count
+  unfolding arena.cell
+  alike_by k less =
+      let first = first_cell (omega (arith, less)) in
+      let on = cell_on k less in
+      let parent = number_on alike.run.parent k (λ some. alike.parent k some less) in
+      let older = number_on alike.run.older k (λ some. alike.older k some less) in
+      let newer = number_on alike.run.newer k (λ some. alike.newer k some less) in
       record {
         held = ap is_some (alike.said k less);
-        own = ap (λ (x : Cell). x.own) here ∙ sym (ap (λ (x : Cell). x.own) first);
-        links = ap (λ (x : Cell). x.links) here
-            ∙ ap (λ (o : Option NodeId). record no_links { parent = o }) parent
-            ∙ sym (ap (λ (x : Cell). record no_links { parent = next_if x.links.parent k }) first);
-        tree = ap (λ (x : Cell). x.tree) here
-            ∙ (λ i. tree_of (older i) (newer i))
-            ∙ tree_same (further_if r.older 0) (further_if r.newer 0) k
-            ∙ sym (ap (λ (x : Cell). map (λ t. next_node t k) x.tree) first);
-        page = λ cache page is.
-            ap (λ (x : Cell). x.name) here
-            ∙ page_same r.name k cache page (sym (ap (λ (x : Cell). x.name) first) ∙ is);
-        working = λ number is.
-            let other = working_same r.name k number (sym (ap (λ (x : Cell). x.name) first) ∙ is) in
-            (other.0, ap (λ (x : Cell). x.name) here ∙ other.1);
+        own = ap (λ (d : Cell). d.own) on ∙ ap (λ (d : Cell). d.own) (sym first);
+        plain = subst (λ (d : Cell). IsPlain d.own) (sym first) (plain_own alike.run.own);
+        links = ap (λ (d : Cell). d.links) on ∙ (λ i. record no_links { parent = parent i })
+            ∙ ap (λ (d : Cell). record no_links { parent = next_if d.links.parent k }) (sym first);
+        tree = ap (λ (d : Cell). d.tree) on ∙ (λ i. tree_of (older i) (newer i)) ∙ tree_next alike.run.older alike.run.newer k
+            ∙ ap (λ (d : Cell). list_map (λ (child : NodeId). next_node child k) d.tree) (sym first);
+        page = λ cache page is. name_on k less ∙ ap (λ (x : NodeName). name_behind x k) is;
+        working = λ number is. name_on k less ∙ ap (λ (x : NodeName). name_behind x k) is;
       }
-
--- as an arena is seen
-pub alike_seen : (m : PageNodes) (c : CacheRows) (a : Arena) → arena_by m c ≡ a → (n : NodeId) (count : ℕ)
-    → many.AreAlike m n count → AreAlike a n count
-alike_seen m c a is n count alike = subst (λ (b : Arena). AreAlike b n count) is (all_alike m c n count alike)

@@ -7,7 +7,6 @@ use Rattle.std.proofs.lemmas.Option.{none-some}
 use Rattle.std.specs.Ordering.{nat_cmp}
 use Rattle.std.specs.FinMap.{FinMap}
 use Rattle.std.specs.FinMap as ids
-use Rattle.stretches.specs.declared.rising.Rising.{Rising}
 use Rattle.vm_ids.specs.declared.node_name.NodeName.{NodeName}
 use Rattle.vm_ids.specs.declared.node_name.NodeName.TheVariants.{Live, Working}
 use Rattle.vm_ids.specs.declared.numbers.NodeId.{NodeId}
@@ -23,12 +22,12 @@ use Rattle.local_cache.specs.ArenaBy.{CacheRows, arena_by}
 use Rattle.local_cache.specs.NodeKeys.{key_at, page_key, page_number, page_of_name}
 use Rattle.local_cache.specs.PageNodes.{ArePaged, PageNodes}
 use Rattle.local_cache.specs.Reading.{AreNamesApart, at_key, forest_of, name_of}
-use Rattle.local_cache.proofs.ArenaBy.Nodes.{cell_by, held_key, paged_at}
+use Rattle.local_cache.proofs.ArenaBy.Nodes.{cell_by}
 use Rattle.local_cache.proofs.Changes.SameNodes.{forest_of-copies}
 use Rattle.local_cache.proofs.Forest.Reading.{IsNode-forest_of, forest_of-IsNode}
 use Rattle.local_cache.proofs.NewCache.FoundPages.{some_of}
 use Rattle.local_cache.proofs.NodeCells.{removed_here, removed_other, some_number}
-use Rattle.local_cache.proofs.NodeKeys.{key_apart}
+use Rattle.local_cache.proofs.PagesKept.{key_there, same_node}
 use Rattle.local_cache.proofs.Singles.{len_remove_old}
 
 -- Names and numbers
@@ -113,12 +112,12 @@ module _ (m : PageNodes) (c : CacheRows) (named : AreNamesApart (arena_by m c)) 
   pub forest_len_by : len f.nodes ≡ ids.len m.cells
   forest_len_by = sym (length-map f.nodes.list (λ e. e.0)) ∙ all_names
 
-  module _ (paged : ArePaged m) where
+  module _ (paged : ArePaged m.cells m.pages) where
     -- the page of a node that has this name
     key_named : (n : NodeId) (x : NodeName) (k : ℕ) → HasNode a n → name_of a n ≡ x
         → page_of_name x ≡ Some k → key_at page_key m.cells n.0 ≡ Some k
     key_named n x k held is page =
-        held_key m n held ∙ ap (λ (d : Cell). page_of_name d.name) (cell_by m c n) ∙ ap page_of_name is ∙ page
+        key_there (ids.get m.cells n.0) held ∙ ap (λ (d : Cell). page_of_name d.name) (cell_by m c n) ∙ ap page_of_name is ∙ page
 
     live_names : live_count f ≡ ids.len m.pages
     live_names =
@@ -127,8 +126,8 @@ module _ (m : PageNodes) (c : CacheRows) (named : AreNamesApart (arena_by m c)) 
         (λ x y k one other.
         let n = forest_of-IsNode a x one.1 in
         let i = forest_of-IsNode a y other.1 in
-        let same : n.0.0 ≡ i.0.0 = key_apart _ m.pages page_key m.cells paged k n.0.0 i.0.0
-        (key_named n.0 x k n.1 n.2 one.0) (key_named i.0 y k i.1 i.2 other.0) in
+        let same : n.0.0 ≡ i.0.0 = same_node n.0.0 i.0.0
+        (sym ((paged k n.0.0).1 (key_named n.0 x k n.1 n.2 one.0)) ∙ (paged k i.0.0).1 (key_named i.0 y k i.1 i.2 other.0)) in
         sym n.2 ∙ ap (λ (j : ℕ). name_of a (at_key j)) same ∙ i.2)
         (filter is_live (keys f.nodes)) m.pages
         (Once-filter is_live (keys f.nodes) (Once-keys f.nodes.list f.nodes.sorted))
@@ -139,17 +138,16 @@ module _ (m : PageNodes) (c : CacheRows) (named : AreNamesApart (arena_by m c)) 
         let page = page_by_live x both.1 in (
           page.0,
           (page.1, node),
-          ap is_some (paged_at m paged n.0 page.0 n.1
-              (ap (λ (d : Cell). page_of_name d.name) (cell_by m c n.0) ∙ ap page_of_name n.2 ∙ page.1)),
+          ap is_some ((paged page.0 n.0.0).1 (key_named n.0 x page.0 n.1 n.2 page.1)),
         ))
         (λ k some.
         let v = some_of (ids.get m.pages k) some in
         let n : NodeId = at_key v.0.0 in
         let key : key_at page_key m.cells n.0 ≡ Some k =
-        (paged k v.0.0).0 (ap (option_map (λ (r : Rising). r.0)) v.1) in
+        (paged k v.0.0).0 v.1 in
         let held : HasNode a n = held_by (ids.get m.cells n.0) k key in
         let page : page_of_name (name_of a n) ≡ Some k =
-        ap (λ (d : Cell). page_of_name d.name) (sym (cell_by m c n)) ∙ sym (held_key m n held) ∙ key in
+        ap (λ (d : Cell). page_of_name d.name) (sym (cell_by m c n)) ∙ sym (key_there (ids.get m.cells n.0) held) ∙ key in
         let node = IsNode-forest_of a named n held in (
           name_of a n,
           filter_in is_live (keys f.nodes) (name_of a n) (IsNode-key f (name_of a n) node)

@@ -2,19 +2,17 @@
 use Rattle.std.proofs.Common.{◌≡◌, ℕ, zero, suc, ◌+◌, ◌<◌, List, [], ◌∷◌, ◌++◌, length, get_or, count_by, sum_by, Option, Some, None, option_map, refl, ap, ◌∙◌, arith}
 use Rattle.std.proofs.lemmas.List.Sums.{sum_by-set, sum_by_push}
 use Rattle.std.proofs.lemmas.Option.{none-some}
-use Rattle.std.specs.Ordering.{nat_cmp}
-use Rattle.std.specs.FinMap.{FinMap}
-use Rattle.stretches.specs.declared.rising.Rising.{Rising}
 use Rattle.vm_ids.specs.declared.numbers.SegId.{SegId}
 use Rattle.local_cache.specs.Arena.{is_locked, locked_pages, table_locking}
 use Rattle.local_cache.specs.ArenaBy.{CacheRow, table_by, tables_by}
+use Rattle.local_cache.specs.Pages.{Pages}
 use Rattle.local_cache.specs.RowChanges.{new_row, row_at, row_locked, row_locking, rows_changed, rows_without}
 use Rattle.local_cache.proofs.ArenaBy.NewCache.{row_within}
 use Rattle.local_cache.proofs.ArenaBy.Rows.{locked_rows, table_is, tables_changed}
 use Rattle.local_cache.proofs.Tables.Locked.{bit, locked_set, none_locked}
 
 -- one page gets so many locks
-pub locking_counts : (m : FinMap nat_cmp Rising) (rows : List (Option CacheRow)) (cache page count : ℕ)
+pub locking_counts : (m : Pages) (rows : List (Option CacheRow)) (cache page count : ℕ)
     (r : CacheRow) → row_at rows cache ≡ Some r → page < length r.locks
     → sum_by row_locked (rows_changed rows cache (row_locking page count)) + bit (get_or r.locks page 0)
     ≡ sum_by row_locked rows + bit count

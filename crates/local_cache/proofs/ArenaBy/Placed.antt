@@ -1,28 +1,27 @@
 -- Each call keeps that nodes of pages are found under numbers of pages of live caches.
-use Rattle.std.proofs.Common.{◌≡◌, ◌≢◌, ℕ, zero, suc, ◌+◌, ◌<◌, ◌≤◌, ◌^◌, List, [], length, Option, Some, None, IsSome, is_some, option_map, unwrap_or, refl, ap, sym, subst, ◌∙◌, inl, inr, arith}
-use Rattle.std.specs.Prelude.{option_and_then}
-use Rattle.std.proofs.lemmas.Bool.{cases_eq}
+use Rattle.std.proofs.Common.{◌≡◌, ◌≢◌, ℕ, zero, suc, ◌+◌, ◌*◌, ◌<◌, ◌≤◌, ◌^◌, List, [], length, Option, Some, None, IsSome, is_some, option_map, unwrap_or, refl, ap, sym, subst, ◌∙◌, inl, inr, arith}
+use Rattle.std.specs.Prelude.{◌↔◌, option_and_then}
+use Rattle.std.proofs.lemmas.Bool.{cases_eq, false≢true}
 use Rattle.std.proofs.lemmas.Option.{none-some, same_Some}
-use Rattle.std.specs.Ordering.{nat_cmp}
-use Rattle.std.specs.FinMap.{FinMap}
 use Rattle.std.specs.FinMap as ids
-use Rattle.stretches.specs.declared.rising.Rising.{Rising}
 use Rattle.vm_ids.specs.declared.node_name.NodeName.{NodeName}
 use Rattle.vm_ids.specs.declared.node_name.NodeName.TheVariants.{Live, Working}
 use Rattle.vm_ids.specs.declared.numbers.NodeId.{NodeId}
-use Rattle.local_cache.specs.declared.links.Links.{Links}
 use Rattle.local_cache.specs.declared.own_state.OwnState.{OwnState}
-use Rattle.local_cache.specs.declared.own_state.OwnState.TheVariants.{Absent}
 use Rattle.local_cache.specs.Arena.{Cell, blank, new_cell}
 use Rattle.local_cache.specs.ArenaBy.{CacheRow}
+use Rattle.local_cache.specs.NodeCells.{Cells, HasCell, changed, named}
+use Rattle.local_cache.specs.NodeKeys.{key_at, page_key, page_number, page_of_name}
+use Rattle.local_cache.specs.PageNodes.{ArePaged, HasNode, PageNodes, as_working, cell, exchanged_names, find, with_new, without}
+use Rattle.local_cache.specs.Pages.{Pages}
 use Rattle.local_cache.specs.Placed.{ArePlaced, HasRow, IsNameOfPage, IsShort}
-use Rattle.local_cache.specs.NodeKeys.{Indexes, key_at, page_key, page_number, page_of_name, rekeyed, with_key, without_key}
-use Rattle.local_cache.specs.PageNodes.{HasNode, PageNodes, as_working, cell, find, of_page, put, with_links, with_name, with_new, with_own, with_tree, with_working, without}
 use Rattle.local_cache.proofs.ArenaBy.NewCache.{row_within}
-use Rattle.local_cache.proofs.ArenaBy.Nodes.{held_key, of_number, rekeyed_is}
+use Rattle.local_cache.proofs.ArenaBy.Nodes.{page_come}
 use Rattle.local_cache.proofs.NewCache.FoundPages.{some_of}
-use Rattle.local_cache.proofs.NodeCells.{inserted_here, inserted_other, removed_here, removed_other, still_there}
-use Rattle.local_cache.proofs.NodeKeys.{indexes_rekeyed}
+use Rattle.local_cache.proofs.NodeCells.{inserted_here, inserted_other, still_there}
+use Rattle.local_cache.proofs.NodesKept.{SameNames, name_of, paged_same, there_same}
+use Rattle.local_cache.proofs.PagesKept.{key_there, paged_come, paged_without, paged_working}
+use Rattle.local_cache.proofs.Stretched.{changed_here, changed_other}
 
 -- What follows
 
@@ -46,7 +45,6 @@ module _ (m : PageNodes) (rows : List (Option CacheRow)) (right : ArePlaced m ro
 
   -- the name of a node is placed
   pub placed_name : (n : NodeId) → HasNode m n → IsNameOfPage rows (cell m n).name
-  unfolding cell
   placed_name n held =
       let d = some_of (find m n) held in
       subst (λ (o : Option Cell). IsNameOfPage rows (unwrap_or o blank).name) (sym d.1) (right.placed n d.0 d.1)
@@ -60,7 +58,7 @@ module _ (m : PageNodes) (rows : List (Option CacheRow)) (right : ArePlaced m ro
       → (cache : ℕ) × (page : ℕ) × (k ≡ page_number cache page) × HasRow rows cache page
   under_key k some =
       let v = some_of (ids.get m.pages k) some in
-      by_cell v.0.0 (ids.get m.cells v.0.0) refl ((right.paged k v.0.0).0 (ap (option_map (λ (r : Rising). r.0)) v.1))
+      by_cell v.0.0 (ids.get m.cells v.0.0) refl ((right.paged k v.0.0).0 v.1)
     where
       by_name : (x : NodeName) → IsNameOfPage rows x → page_of_name x ≡ Some k
           → (cache : ℕ) × (page : ℕ) × (k ≡ page_number cache page) × HasRow rows cache page
@@ -78,7 +76,7 @@ module _ (m : PageNodes) (rows : List (Option CacheRow)) (right : ArePlaced m ro
       → ids.get m.pages (page_number cache page) ≡ None
   next_vacant cache page above short = go (ids.get m.pages (page_number cache page)) refl
     where
-      go : (o : Option Rising) → ids.get m.pages (page_number cache page) ≡ o
+      go : (o : Option NodeId) → ids.get m.pages (page_number cache page) ≡ o
           → ids.get m.pages (page_number cache page) ≡ None
       go None is = is
       go (Some v) is =
@@ -94,143 +92,86 @@ pub none_placed : (m : PageNodes) → ((n : NodeId) → find m n ≡ None)
 none_placed m no_cell no_page =
     record {
       paged = λ k n. (
-        λ h. absurd (none-some n (sym (ap (option_map (λ (v : Rising). v.0)) (no_page k)) ∙ h)),
+        λ h. absurd (none-some _ (sym (no_page k) ∙ h)),
         λ h. absurd (none-some k (sym (ap (option_and_then page_key) (no_cell (record { 0 = n }))) ∙ h)),
       );
       placed = λ n d is. absurd (none-some d (sym (no_cell n) ∙ is));
       short = λ k r is. absurd (none-some r is);
+      first = λ n low held. absurd (false≢true (sym (ap is_some (no_cell (record { 0 = n }))) ∙ held));
     }
+
+-- The same pages and the same names
+
+pub kept_same : (m new : PageNodes) (rows : List (Option CacheRow)) → new.cells ≡ m.cells → new.pages ≡ m.pages → ArePlaced m rows → ArePlaced new rows
+kept_same m new rows cells pages right = record {
+  paged = subst (λ (p : Pages). ArePaged new.cells p) (sym pages) (subst (λ (d : Cells). ArePaged d m.pages) (sym cells) right.paged);
+  placed = λ n d is. right.placed n d (ap (λ (x : Cells). ids.get x n.0) (sym cells) ∙ is);
+  short = right.short;
+  first = λ n low held. right.first n low (ap (λ (x : Cells). is_some (ids.get x n)) (sym cells) ∙ held);
+}
+
+by_name : (o : Option Cell) (x : NodeName) → Some x ≡ name_of o → (d : Cell) × (o ≡ Some d) × (d.name ≡ x)
+by_name None x e = absurd (none-some x (sym e))
+by_name (Some d) x e = (d, refl, sym (same_Some x d.name e))
+
+pub kept_names : (m : PageNodes) (new : Cells) (rows : List (Option CacheRow)) → SameNames m.cells new → ArePlaced m rows → ArePlaced (record m { cells = new }) rows
+kept_names m new rows same right = record {
+  paged = paged_same m.cells new same m.pages right.paged;
+  placed = λ n d is.
+      (let was = by_name (find m n) d.name (sym (ap name_of is) ∙ same n.0) in
+      subst (IsNameOfPage rows) was.2 (right.placed n was.0 was.1));
+  short = right.short;
+  first = λ n low held. right.first n low (sym (there_same m.cells new same n) ∙ held);
+}
 
 -- One node
 
--- the same cells and pages, whatever the counter and the room
-pub kept_same : (m new : PageNodes) (rows : List (Option CacheRow)) → new.cells ≡ m.cells
-    → new.pages ≡ m.pages → ArePlaced m rows → ArePlaced new rows
-kept_same m new rows cells pages right =
-    record {
-      paged = subst (λ (p : FinMap nat_cmp Rising). Indexes (λ v. v.0) p page_key new.cells) (sym pages)
-          (subst (λ (d : FinMap nat_cmp Cell). Indexes (λ v. v.0) m.pages page_key d) (sym cells) right.paged);
-      placed = λ n d is. right.placed n d (ap (λ (x : FinMap nat_cmp Cell). ids.get x n.0) (sym cells) ∙ is);
-      short = right.short;
-    }
-
 module _ (m : PageNodes) (rows : List (Option CacheRow)) (right : ArePlaced m rows) (n : NodeId) where
-  placed_with : (d : Cell) → IsNameOfPage rows d.name → (i : NodeId) (e : Cell)
-      → ids.get (ids.insert m.cells n.0 d) i.0 ≡ Some e → IsNameOfPage rows e.name
+  -- another name of a node, or a new node
+  placed_with : (d : Cell) → IsNameOfPage rows d.name → (i : NodeId) (e : Cell) → ids.get (ids.insert m.cells n.0 d) i.0 ≡ Some e → IsNameOfPage rows e.name
   placed_with d at i e is = elim (cases_eq i.0 n.0) [
     | inl same ↦
-        let is_d : d ≡ e = same_Some d e
-        (sym (ap (ids.get (ids.insert m.cells n.0 d)) same ∙ inserted_here m.cells n.0 d) ∙ is) in
+        let is_d : d ≡ e = same_Some d e (sym (ap (ids.get (ids.insert m.cells n.0 d)) same ∙ inserted_here m.cells n.0 d) ∙ is) in
         subst (λ (x : Cell). IsNameOfPage rows x.name) is_d at
     | inr other ↦ right.placed i e (sym (inserted_other m.cells n.0 d i.0 other) ∙ is)
   ]
 
-  key_with : (d : Cell) → key_at page_key (ids.insert m.cells n.0 d) n.0 ≡ page_key d
-  key_with d = ap (option_and_then page_key) (inserted_here m.cells n.0 d)
-
-  key_beside : (d : Cell) (i : ℕ) → i ≢ n.0
-      → key_at page_key (ids.insert m.cells n.0 d) i ≡ key_at page_key m.cells i
-  key_beside d i other = ap (option_and_then page_key) (inserted_other m.cells n.0 d i other)
-
-  -- no page has this key
-  abbrev IsFree : Option ℕ → Type 0
-  IsFree now = (k : ℕ) → now ≡ Some k → ids.get m.pages k ≡ None
-
-  no_key : IsFree None
-  no_key k is = absurd (none-some k is)
-
-  module _ (before now : Option ℕ) (after : FinMap nat_cmp Cell)
-      (was : key_at page_key m.cells n.0 ≡ before) (is : key_at page_key after n.0 ≡ now)
-      (others : (i : ℕ) → i ≢ n.0 → key_at page_key after i ≡ key_at page_key m.cells i)
-      (free : IsFree now) where
-    paged_rekeyed : Indexes (λ v. v.0) (rekeyed m.pages before now (of_page n)) page_key after
-    paged_rekeyed =
-        indexes_rekeyed (λ v. v.0) m.pages page_key m.cells right.paged after n.0 before now (of_page n)
-        was is others refl
-        (λ i k e had. absurd (none-some i
-        (sym (ap (option_map (λ (v : Rising). v.0)) (free k e)) ∙ (right.paged k i).1 had)))
-
-    paged_with : Indexes (λ v. v.0) (with_key (without_key m.pages before) now (of_page n)) page_key after
-    paged_with =
-        subst (λ (p : FinMap nat_cmp Rising). Indexes (λ v. v.0) p page_key after)
-        (rekeyed_is m.pages (of_page n) before now
-        (λ k e. of_number (ids.get m.pages k) n ((right.paged k n.0).1 (was ∙ e))))
-        paged_rekeyed
-
-  -- another cell of the same name
-  pub kept_put : (d : Cell) → HasNode m n → d.name ≡ (cell m n).name → ArePlaced (put m n d) rows
-  unfolding put
-  kept_put d held name =
-      let key : (i : ℕ) → key_at page_key (ids.insert m.cells n.0 d) i ≡ key_at page_key m.cells i =
-      λ i. elim (cases_eq i n.0) [
-        | inl same ↦
-            ap (key_at page_key (ids.insert m.cells n.0 d)) same ∙ key_with d ∙ ap page_of_name name
-            ∙ sym (held_key m n held) ∙ sym (ap (key_at page_key m.cells) same)
-        | inr other ↦ key_beside d i other
-      ] in
-      record {
-        paged = λ k i. (
-          λ h. key i ∙ (right.paged k i).0 h,
-          λ h. (right.paged k i).1 (sym (key i) ∙ h),
-        );
-        placed = placed_with d
-            (subst (IsNameOfPage rows) (sym name) (placed_name m rows right n held));
-        short = right.short;
-      }
-
-  pub kept_own : (s : OwnState) → HasNode m n → ArePlaced (with_own m n s) rows
-  kept_own s held = kept_put (record (cell m n) { own = s }) held refl
-
-  pub kept_links : (l : Links) → HasNode m n → ArePlaced (with_links m n l) rows
-  kept_links l held = kept_put (record (cell m n) { links = l }) held refl
-
-  pub kept_tree : (ts : List NodeId) → HasNode m n → ArePlaced (with_tree m n ts) rows
-  kept_tree ts held = kept_put (record (cell m n) { tree = ts }) held refl
-
-  -- another name, of a page that has no node or none
-  pub kept_name : (x : NodeName) → HasNode m n → IsNameOfPage rows x → IsFree (page_of_name x)
-      → ArePlaced (with_name m n x) rows
-  unfolding put
-  kept_name x held at free =
-      let d : Cell = record (cell m n) { name = x } in
-      record {
-        paged = paged_rekeyed (page_of_name (cell m n).name) (page_of_name x) (ids.insert m.cells n.0 d)
-            (held_key m n held) (key_with d) (key_beside d) free;
-        placed = placed_with d at;
-        short = right.short;
-      }
+  first_with : (d : Cell) → (n.0 < 2 ^ 61 → n.0 < page_number (length rows + 1) 0) → (i : ℕ) → i < 2 ^ 61 → HasCell (ids.insert m.cells n.0 d) i → i < page_number (length rows + 1) 0
+  first_with d mine i low held = elim (cases_eq i n.0) [
+    | inl same ↦ (let here = mine (omega (arith, same, low)) in omega (arith, same, here))
+    | inr other ↦ right.first i low (sym (ap is_some (inserted_other m.cells n.0 d i other)) ∙ held)
+  ]
 
   pub kept_as_working : HasNode m n → ArePlaced (as_working m n) rows
-  kept_as_working held =
-      kept_same (with_name m n (Working (m.made + 1))) (as_working m n) rows refl refl
-      (kept_name (Working (m.made + 1)) held tt no_key)
+  kept_as_working held = record {
+    paged = paged_working m.cells m.pages n.0 (m.made + 1) right.paged held;
+    placed = placed_with (named (Working (m.made + 1)) (cell m n)) tt;
+    short = right.short;
+    first = first_with (named (Working (m.made + 1)) (cell m n)) (λ low. right.first n.0 low held);
+  }
 
-  -- a new node
-  pub kept_new : (x : NodeName) (s : OwnState) → find m n ≡ None → IsNameOfPage rows x
-      → IsFree (page_of_name x) → ArePlaced (with_new m n x s) rows
-  unfolding with_new
-  kept_new x s none at free =
-      let d : Cell = new_cell x s in
+  -- a new node of a page that has none
+  pub kept_new : (x : NodeName) (page : ℕ) (s : OwnState) → find m n ≡ None → page_of_name x ≡ Some page → ids.get m.pages page ≡ None → IsNameOfPage rows x
+      → (n.0 < 2 ^ 61 → n.0 < page_number (length rows + 1) 0) → ArePlaced (with_new m n x s) rows
+  kept_new (Working k) page s none is free at low = absurd (none-some page is)
+  kept_new (Live cache of) page s none is free at low =
+      let d : Cell = new_cell (Live cache of) s in
+      let key : page_number cache.0 of.0 ≡ page = same_Some _ _ is in
+      let come = paged_come m.cells (ids.insert m.cells n.0 d) m.pages n.0 (page_number cache.0 of.0) right.paged (ap (ids.get m.pages) key ∙ free)
+      (λ k e. none-some k (sym (ap (option_and_then page_key) none) ∙ e)) (ap (option_and_then page_key) (inserted_here m.cells n.0 d))
+      (λ q other. ap (option_and_then page_key) (inserted_other m.cells n.0 d q other)) in
       record {
-        paged = paged_with None (page_of_name x) (ids.insert m.cells n.0 d)
-            (ap (option_and_then page_key) none) (key_with d) (key_beside d) free;
+        paged = subst (λ (p : Pages). ArePaged (ids.insert m.cells n.0 d) p) (sym (page_come m.pages cache of n)) come;
         placed = placed_with d at;
         short = right.short;
+        first = first_with d low;
       }
-
-  pub kept_working : find m n ≡ None → ArePlaced (with_working m n) rows
-  kept_working none =
-      kept_same (with_new m n (Working (m.made + 1)) Absent) (with_working m n) rows refl refl
-      (kept_new (Working (m.made + 1)) Absent none tt no_key)
 
   -- a node less
   pub kept_without : HasNode m n → ArePlaced (without m n) rows
-  unfolding without
-  kept_without held =
-      record {
-        paged = paged_with (page_of_name (cell m n).name) None (ids.remove m.cells n.0)
-            (held_key m n held) (ap (option_and_then page_key) (removed_here m.cells n.0))
-            (λ i other. ap (option_and_then page_key) (removed_other m.cells n.0 i other)) no_key;
-        placed = λ i d is. right.placed i d (still_there m.cells n.0 i.0 d is).1;
-        short = right.short;
-      }
+  kept_without held = record {
+    paged = paged_without m.cells m.pages n.0 right.paged held;
+    placed = λ i d is. right.placed i d (still_there m.cells n.0 i.0 d is).1;
+    short = right.short;
+    first = λ i low there. right.first i low (ap is_some (still_there m.cells n.0 i _ (some_of (ids.get (ids.remove m.cells n.0) i) there).1).1);
+  }

@@ -1,27 +1,25 @@
 -- Each call that makes, changes or removes a cache keeps that nodes of pages are placed.
-use Rattle.std.proofs.Common.{◌≡◌, ℕ, zero, suc, ◌+◌, ◌<◌, ◌≤◌, ◌^◌, List, [], ◌∷◌, ◌++◌, length, get_or, set, Option, Some, None, IsSome, is_some, option_map, refl, ap, sym, ◌∙◌, inl, inr, arith}
+use Rattle.std.proofs.Common.{◌≡◌, ◌≢◌, ℕ, zero, suc, ◌+◌, ◌<◌, ◌≤◌, ◌^◌, List, [], ◌∷◌, ◌++◌, length, get_or, set, Option, Some, None, IsSome, is_some, option_map, refl, ap, sym, ◌∙◌, inl, inr, arith}
 use Rattle.std.specs.Prelude.{option_and_then}
 use Rattle.std.proofs.lemmas.Bool.{cases_eq, false≢true}
 use Rattle.std.proofs.lemmas.Option.{none-some, same_Some}
-use Rattle.std.specs.Ordering.{nat_cmp}
-use Rattle.std.specs.FinMap.{FinMap}
 use Rattle.std.specs.FinMap as ids
-use Rattle.stretches.specs.declared.rising.Rising.{Rising}
 use Rattle.vm_ids.specs.declared.node_name.NodeName.{NodeName}
 use Rattle.vm_ids.specs.declared.node_name.NodeName.TheVariants.{Live, Working}
 use Rattle.vm_ids.specs.declared.numbers.CacheId.{CacheId}
 use Rattle.vm_ids.specs.declared.numbers.NodeId.{NodeId}
 use Rattle.vm_ids.specs.declared.numbers.SegId.{SegId}
 use Rattle.local_cache.specs.declared.own_state.OwnState.{OwnState}
-use Rattle.local_cache.specs.Arena.{Cell, IsFilled}
+use Rattle.local_cache.specs.Arena.{Cell}
 use Rattle.local_cache.specs.ArenaBy.{CacheRow, CacheRows}
 use Rattle.local_cache.specs.Placed.{ArePlaced, HasRow, IsNameOfPage}
 use Rattle.local_cache.specs.RowChanges.{new_row, row_at, rows_changed, rows_without, with_row}
 use Rattle.local_cache.specs.NodeKeys.{key_at, page_key, page_number, page_of_name}
-use Rattle.local_cache.specs.PageNodes.{MakesAllPages, PageNodes, find, of_page, pages_with, with_new}
+use Rattle.local_cache.specs.PageNodes.{PageNodes, find, made_first}
 use Rattle.local_cache.proofs.ArenaBy.EachRow.{each_changed, each_left, each_more}
-use Rattle.local_cache.proofs.ArenaBy.Placed.{kept_new, kept_same, next_vacant}
-use Rattle.local_cache.proofs.NodeCells.{inserted_other}
+use Rattle.local_cache.proofs.ArenaBy.NewCache.{cells_out, node_by, pages_out}
+use Rattle.local_cache.proofs.ArenaBy.Placed.{kept_new, next_vacant}
+use Rattle.std.proofs.Common.{length-set, length-append}
 use Rattle.local_cache.proofs.Tables.Listing.{read_other, read_set}
 
 -- names placed among some rows are placed among others that have the same pages
@@ -65,6 +63,7 @@ module _ (change : CacheRow → CacheRow) (same : (r : CacheRow) → (change r).
         placed = λ n d is.
             carry rows (changed k) (λ cache page has. still_there cache k page has) d.name (right.placed n d is);
         short = each_changed (λ r. r.pages < 2 ^ 32) change (λ r few. omega (arith, few, same r)) rows (suc k) right.short;
+        first = λ n low held. omega (arith, right.first n low held, length-set rows k (option_map change (get_or rows k None)));
       }
 
 -- A row less
@@ -90,10 +89,6 @@ module _ (m : PageNodes) (rows : List (Option CacheRow)) (right : ArePlaced m ro
     }
   ]
 
-  some_index : (o : Option Rising) (n : ℕ) → option_map (λ v. v.0) o ≡ Some n → IsSome o
-  some_index None n e = absurd (none-some n e)
-  some_index (Some v) n e = refl
-
   still_placed : (n : NodeId) (d : Cell) → find m n ≡ Some d → (x : NodeName) → d.name ≡ x
       → IsNameOfPage rows x → IsNameOfPage (set rows k None) x
   still_placed n d is (Working j) name at = tt
@@ -101,8 +96,7 @@ module _ (m : PageNodes) (rows : List (Option CacheRow)) (right : ArePlaced m ro
       let key : key_at page_key m.cells n.0 ≡ Some (page_number cache.0 page.0) =
       ap (option_and_then page_key) is ∙ ap page_of_name name in
       not_gone cache.0 page.0
-      (some_index (ids.get m.pages (page_number cache.0 page.0)) n.0
-      ((right.paged (page_number cache.0 page.0) n.0).1 key))
+      (ap is_some ((right.paged (page_number cache.0 page.0) n.0).1 key))
       at
 
   left : ArePlaced m (set rows k None)
@@ -111,6 +105,7 @@ module _ (m : PageNodes) (rows : List (Option CacheRow)) (right : ArePlaced m ro
         paged = right.paged;
         placed = λ n d is. still_placed n d is d.name refl (right.placed n d is);
         short = each_left (λ r. r.pages < 2 ^ 32) rows (suc k) right.short;
+        first = λ n low held. omega (arith, right.first n low held, length-set {A = Option CacheRow} rows k None);
       }
 
 -- a cache whose pages have no nodes is removed
@@ -146,46 +141,25 @@ module _ (r : CacheRow) where
         paged = right.paged;
         placed = λ n d is. carry rows (rows ++ Some r ∷ []) (row_more rows) d.name (right.placed n d is);
         short = each_more (λ x. x.pages < 2 ^ 32) r few rows right.short;
+        first = λ n low held. omega (arith, right.first n low held, length-append rows (Some r ∷ []));
       }
 
 -- the nodes of the new pages
-module _ (rows : List (Option CacheRow)) (cache : CacheId) (own : OwnState) (after : FinMap nat_cmp Cell) where
-  fill : (ns : List NodeId) (m : PageNodes) (from : ℕ) → ArePlaced m rows
-      → IsFilled m.cells cache from own ns after
-      → ((page : ℕ) → from ≤ page → page < from + length ns → HasRow rows cache.0 page)
-      → ((page : ℕ) → from ≤ page → page < from + length ns → ids.get m.pages (page_number cache.0 page) ≡ None)
-      → ArePlaced (record m { cells = after; pages = pages_with m.pages cache from ns }) rows
-  unfolding with_new
-  fill [] m from right filled place vacant = kept_same m (record m { cells = after }) rows filled refl right
-  fill (n ∷ ns) m from right filled place vacant =
-      let x : NodeName = Live cache (record { 0 = from }) in
-      let one = kept_new m rows right n x own filled.0 (place from (omega arith) (omega arith))
-      (λ k e. ap (ids.get m.pages) (sym (same_Some (page_number cache.0 from) k e))
-      ∙ vacant from (omega arith) (omega arith)) in
-      let rest = fill ns (with_new m n x own) (from + 1) one filled.1
-      (λ page low high. place page (omega (arith, low)) (omega (arith, high)))
-      (λ page low high.
-      inserted_other m.pages (page_number cache.0 from) (of_page n) (page_number cache.0 page)
-      (λ e. let bad : ⊥ = omega (arith, low, e) in bad)
-      ∙ vacant page (omega (arith, low)) (omega (arith, high))) in
-      record { paged = rest.paged; placed = rest.placed; short = rest.short }
+module _ (m : PageNodes) (c : CacheRows) (cache : CacheId) (segment : Option SegId) (own : OwnState) (pages : ℕ) (right : ArePlaced m c.rows) (few : pages < 2 ^ 32)
+    (number : cache.0 ≡ length c.rows + 1) (free : (page : ℕ) → page < pages → ids.get m.cells (page_number cache.0 page) ≡ None) where
+  abbrev r : CacheRow
+  r = new_row segment pages
 
--- a cache is made
-pub kept_made : (old new : PageNodes) (c : CacheRows) (cache : CacheId) (segment : Option SegId)
-    (own : OwnState) (pages : ℕ) → ArePlaced old c.rows → pages < 2 ^ 32 → cache.0 ≡ length c.rows + 1
-    → MakesAllPages old new cache own pages → ArePlaced new (with_row c segment pages).rows
-kept_made old new c cache segment own pages right few number made =
-    let r = new_row segment pages in
-    let rows = c.rows ++ Some r ∷ [] in
-    let mid : ArePlaced old rows = kept_more r old c.rows right few in
-    let index : cache.0 ≡ suc (length c.rows) = omega (arith, number) in
-    let filled = fill rows cache own new.cells made.0 old 0 mid made.2.cells
-    (λ page low high. record {
-      row = r;
-      is = ap (row_at rows) index ∙ get_last r c.rows;
-      below = omega (arith, high, made.1);
-    })
-    (λ page low high. next_vacant old c.rows right cache.0 page (omega (arith, number))
-    (omega (arith, high, made.1, few))) in
-    kept_same (record old { cells = new.cells; pages = pages_with old.pages cache 0 made.0 }) new rows
-    refl made.2.pages filled
+  has_new : (page : ℕ) → page < pages → HasRow (with_row c segment pages).rows cache.0 page
+  has_new page below =
+      let index : cache.0 ≡ suc (length c.rows) = omega (arith, number) in
+      record { row = r; is = ap (row_at (with_row c segment pages).rows) index ∙ get_last r c.rows; below = below }
+
+  pub kept_made : (k : ℕ) → k ≤ pages → ArePlaced (made_first m cache own k) (with_row c segment pages).rows
+  kept_made zero le = kept_more r m c.rows right few
+  kept_made (suc k) le =
+      let apart : (j : ℕ) → j < k → page_number cache.0 k ≢ page_number cache.0 j = λ j less e. (let bad : ⊥ = omega (arith, less, e) in bad) in
+      kept_new (made_first m cache own k) (with_row c segment pages).rows (kept_made k (omega (arith, le))) (node_by cache k) (Live cache (record { 0 = k })) (page_number cache.0 k) own
+      (cells_out m cache own k (page_number cache.0 k) apart ∙ free k (omega (arith, le))) refl
+      (pages_out m cache own k (page_number cache.0 k) apart ∙ next_vacant m c.rows right cache.0 k (omega (arith, number)) (omega (arith, le, few)))
+      (has_new k (omega (arith, le))) (λ low. omega (arith, number, le, few, length-append c.rows (Some r ∷ [])))

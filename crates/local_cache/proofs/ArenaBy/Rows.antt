@@ -5,10 +5,8 @@ use Rattle.std.proofs.lemmas.Bool.{false≢true}
 use Rattle.std.proofs.lemmas.List.{get_or-set_same}
 use Rattle.std.proofs.lemmas.List.Sums.{sum_by-cons}
 use Rattle.std.proofs.lemmas.Option.{none-some, same_Some, slice_get-get_or, slice_get_within}
-use Rattle.std.specs.Ordering.{nat_cmp}
-use Rattle.std.specs.FinMap.{FinMap}
 use Rattle.std.specs.FinMap as ids
-use Rattle.stretches.specs.declared.rising.Rising.{Rising}
+use Rattle.local_cache.specs.Pages.{Pages}
 use Rattle.vm_ids.specs.declared.numbers.CacheId.{CacheId}
 use Rattle.vm_ids.specs.declared.numbers.NodeId.{NodeId}
 use Rattle.local_cache.specs.declared.page_entry.PageEntry.{PageEntry}
@@ -24,7 +22,7 @@ use Rattle.local_cache.proofs.Tables.Listing.{read_set}
 
 -- One table, and one entry
 
-module _ (m : FinMap nat_cmp Rising) where
+module _ (m : Pages) where
   pub length_entries : (cache from k : ℕ) → length (entries_by m cache from k) ≡ k
   length_entries cache from zero = refl
   length_entries cache from (suc k) = let rest = length_entries cache (from + 1) k in omega (arith, rest)
@@ -58,13 +56,6 @@ module _ (m : FinMap nat_cmp Rising) where
       table_get 1 rows k ∙ ap (λ (c : ℕ). option_map (table_by m c) (get_or rows k None)) at
 
 -- What is told
-
-abbrev as_node : Option Rising → Option NodeId
-as_node o = option_map (λ v. record { 0 = v.0 }) o
-
-no_node : (o : Option Rising) → as_node o ≡ None → o ≡ None
-no_node None e = refl
-no_node (Some v) e = absurd (none-some _ (sym e))
 
 module _ (m : PageNodes) (c : CacheRows) (cache : ℕ) where
   -- how many pages a cache has
@@ -140,7 +131,7 @@ module _ (m : PageNodes) (c : CacheRows) (cache : ℕ) where
 
     -- the node of a page that a live cache has
     pub node_is : HasRow c.rows cache page
-        → node_at (arena_by m c) cache page ≡ nodes.node_at m (page_number cache page)
+        → node_at (arena_by m c) cache page ≡ nodes.node_at m cache page
     node_is has =
         by_entry (table_of (arena_by m c) cache)
         ∙ ap (option_and_then (λ e. e.node)) (entry_is has)
@@ -158,13 +149,13 @@ module _ (m : PageNodes) (c : CacheRows) (cache : ℕ) where
         let has = has_row (ap is_some vacant) in
         let same = same_Some _ _ (sym (entry_is has) ∙ vacant) in (
           has,
-          no_node (ids.get m.pages (page_number cache page)) (ap (λ (e : PageEntry). e.node) same),
+          ap (λ (e : PageEntry). e.node) same,
         )
 
     -- the same, of a page of which the arena says that it has no node
     pub none_is : node_at (arena_by m c) cache page ≡ None → HasRow c.rows cache page
         → ids.get m.pages (page_number cache page) ≡ None
-    none_is none has = no_node (ids.get m.pages (page_number cache page)) (sym (node_is has) ∙ none)
+    none_is none has = sym (node_is has) ∙ none
 
     -- the number behind a page fits a u32
     pub page_short : AreShort c.rows → HasRow c.rows cache page → page + 1 < 2 ^ 32
@@ -174,12 +165,12 @@ module _ (m : PageNodes) (c : CacheRows) (cache : ℕ) where
         go zero is = absurd (none-some has.row is)
         go (suc k) is = omega (arith, few k has.row is, has.below)
 
-locked_row : (m : FinMap nat_cmp Rising) (cache : ℕ) (o : Option CacheRow)
+locked_row : (m : Pages) (cache : ℕ) (o : Option CacheRow)
     → locked_pages (option_map (table_by m cache) o) ≡ row_locked o
 locked_row m cache None = refl
 locked_row m cache (Some r) = refl
 
-pub locked_rows : (m : FinMap nat_cmp Rising) (from : ℕ) (rows : List (Option CacheRow))
+pub locked_rows : (m : Pages) (from : ℕ) (rows : List (Option CacheRow))
     → sum_by locked_pages (tables_by m from rows) ≡ sum_by row_locked rows
 locked_rows m from [] = refl
 locked_rows m from (r ∷ rows) =
@@ -197,7 +188,7 @@ locked_by m c = locked_rows m.pages 1 c.rows
 
 -- One row changed
 
-module _ (m : FinMap nat_cmp Rising) where
+module _ (m : Pages) where
   module _ (change : CacheRow → CacheRow) (after : Table → Table)
       (same : (cache : ℕ) (r : CacheRow) → table_by m cache (change r) ≡ after (table_by m cache r)) where
     row_changed : (cache : ℕ) (o : Option CacheRow)

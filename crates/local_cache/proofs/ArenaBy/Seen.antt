@@ -3,27 +3,26 @@
 use Rattle.std.proofs.Common.{◌≡◌, ℕ, zero, suc, ◌+◌, ◌<◌, ◌^◌, true, List, [], length, sum_by, Option, Some, None, IsSome, is_some, refl, ap, sym, subst, ◌∙◌}
 use Rattle.std.specs.Prelude.{option_and_then, option_map}
 use Rattle.std.proofs.lemmas.Option.{none-some}
-use Rattle.std.specs.Ordering.{nat_cmp}
-use Rattle.std.specs.FinMap.{FinMap}
 use Rattle.std.specs.FinMap as ids
-use Rattle.stretches.specs.declared.rising.Rising.{Rising}
-use Rattle.vm_ids.specs.declared.node_name.NodeName.TheVariants.{Live}
+use Rattle.local_cache.specs.Pages.{Pages}
 use Rattle.vm_ids.specs.declared.numbers.CacheId.{CacheId}
 use Rattle.vm_ids.specs.declared.numbers.NodeId.{NodeId}
 use Rattle.vm_ids.specs.declared.numbers.PageNo.{PageNo}
 use Rattle.vm_ids.specs.declared.numbers.SegId.{SegId}
-use Rattle.local_cache.specs.declared.links.Links.{Links}
 use Rattle.local_cache.specs.declared.own_state.OwnState.{OwnState}
 use Rattle.local_cache.specs.declared.page_entry.PageEntry.{PageEntry}
-use Rattle.local_cache.specs.Arena.{Arena, HasPlace, IsVacant, MakesCache, Table, entry_at, is_granted, locked_count, locks_of, node_at, table_of, with_grant, with_locks, without_cache}
+use Rattle.local_cache.specs.Arena.{Arena, Cell, HasPlace, MakesCache, NodesStay, Table, entry_at, is_granted, locked_count, locks_of, node_at, table_of, with_grant, with_locks, without_cache}
 use Rattle.local_cache.specs.Arena as arena
 use Rattle.local_cache.specs.ArenaBy.{CacheRow, CacheRows, arena_by, table_by}
 use Rattle.local_cache.specs.Placed.{ArePlaced, AreRight, EachRow, HasRow, IsFull}
 use Rattle.local_cache.specs.RowChanges.{entry_of_row, is_granting, new_row, row_at, row_granting, row_locked, row_locking, row_locks, with_changed, with_row, without_row}
 use Rattle.local_cache.specs.NodeKeys.{page_number}
-use Rattle.local_cache.specs.PageNodes.{MakesAllPages, PageNodes}
+use Rattle.local_cache.specs.Many as many
+use Rattle.local_cache.specs.ManyNodes.{next_node}
+use Rattle.local_cache.specs.OnCells as on
+use Rattle.local_cache.specs.PageNodes.{KeepsNames, PageNodes, made_first}
 use Rattle.local_cache.specs.PageNodes as nodes
-use Rattle.local_cache.proofs.ArenaBy.Calls.{MayGetNode, StandFor, cache_made, cache_removed, freed, links_set, made_working, may_get_node, next_may, node_made, page_granted, page_locked, rehung, renamed, state_set, tree_set, working_made}
+use Rattle.local_cache.proofs.ArenaBy.Calls.{StandFor, cache_made, cache_removed, cell_changed, cells_changed, freed, many_as_working, many_freed, page_granted, page_locked}
 use Rattle.local_cache.proofs.ArenaBy.EachRow.{each_changed, each_left, each_more, full_granting, full_locking, full_new}
 use Rattle.local_cache.proofs.ArenaBy.NewCache.{length_tables}
 use Rattle.local_cache.proofs.ArenaBy.Nodes.{cell_by}
@@ -51,7 +50,7 @@ full_row : (rows : List (Option CacheRow)) → EachRow IsFull rows → (cache pa
 full_row rows full zero page has = absurd (none-some has.row has.is)
 full_row rows full (suc k) page has = full k has.row has.is
 
-some_row : (m : FinMap nat_cmp Rising) (cache : ℕ) (o : Option CacheRow)
+some_row : (m : Pages) (cache : ℕ) (o : Option CacheRow)
     → is_some (option_map (table_by m cache) o) ≡ is_some o
 some_row m cache None = refl
 some_row m cache (Some r) = refl
@@ -68,6 +67,9 @@ module _ (m : PageNodes) (c : CacheRows) (a : Arena) (is : arena_by m c ≡ a) w
 
   pub held_seen : (n : NodeId) → arena.HasNode a n → nodes.HasNode m n
   held_seen n held = subst (λ (b : Arena). arena.HasNode b n) (sym is) held
+
+  pub all_held : (n : NodeId) (count : ℕ) → many.HaveNodes a n count → nodes.HaveNodes m n count
+  all_held n count held k less = held_seen (next_node n k) (held k less)
 
   pub none_seen : (n : NodeId) → nodes.find m n ≡ None → arena.find a n ≡ None
   none_seen n none = ap (λ (b : Arena). arena.find b n) (sym is) ∙ none
@@ -115,7 +117,7 @@ module _ (m : PageNodes) (c : CacheRows) (a : Arena) (is : arena_by m c ≡ a) w
       of_entry (Some r) = refl
 
   pub node_seen : (cache page : ℕ) → IsSome (node_at a cache page)
-      → nodes.node_at m (page_number cache page) ≡ node_at a cache page
+      → nodes.node_at m cache page ≡ node_at a cache page
   node_seen cache page some =
       let here : IsSome (node_at (arena_by m c) cache page) =
       subst (λ (b : Arena). IsSome (node_at b cache page)) (sym is) some in
@@ -167,78 +169,32 @@ module _ (m : PageNodes) (c : CacheRows) (a : Arena) (is : arena_by m c ≡ a) w
           };
         }
 
-    pub may_seen : (cache : CacheId) (page : PageNo) → IsVacant a cache page
-        → MayGetNode m c cache page
-    may_seen cache page vacant =
-        may_get_node m c right.placed cache page
-        (subst (λ (b : Arena). IsVacant b cache page) (sym is) vacant)
-
-    -- the pages of the next cache have no nodes
-    pub next_seen : (cache : CacheId) (pages : ℕ) → cache.0 ≡ length c.rows + 1 → pages < 2 ^ 32
-        → (page : ℕ) → page < pages → ids.get m.pages (page_number cache.0 page) ≡ None
-    next_seen = next_may m c right.placed
-
     module _ (new : PageNodes) (n : NodeId) where
-      pub fresh_call : (cache : CacheId) (page : PageNo) (s : OwnState) → nodes.find m n ≡ None
-          → IsVacant a cache page → new ≡ nodes.with_new m n (Live cache page) s
-          → Seen new c (arena.with_new a n (Live cache page) s)
-      fresh_call cache page s none vacant changed =
-          node_call new (nodes.with_new m n (Live cache page) s)
-          (λ (b : Arena). arena.with_new b n (Live cache page) s) changed
-          (node_made m c right.placed n cache page s none
-          (subst (λ (b : Arena). IsVacant b cache page) (sym is) vacant))
+      pub cell_call : (f : Cell → Cell) → KeepsNames f → arena.HasNode a n → new ≡ nodes.on_cell m n f → Seen new c (on.on_cell a n f)
+      cell_call f keeps held changed =
+          node_call new (nodes.on_cell m n f) (λ (b : Arena). on.on_cell b n f) changed
+          (cell_changed m c right.placed n f keeps (held_seen n held))
 
-      pub working_call : nodes.find m n ≡ None → new ≡ nodes.with_working m n
-          → Seen new c (arena.with_working a n)
-      working_call none changed =
-          node_call new (nodes.with_working m n) (λ (b : Arena). arena.with_working b n) changed
-          (working_made m c right.placed n none)
+      pub cells_call : (f : ℕ → Cell → Cell) (count : ℕ) → ((k : ℕ) → KeepsNames (f k)) → many.HaveNodes a n count → new ≡ nodes.on_cells m n f count
+          → Seen new c (on.on_cells a n f count)
+      cells_call f count keeps held changed =
+          node_call new (nodes.on_cells m n f count) (λ (b : Arena). on.on_cells b n f count) changed
+          (cells_changed m c right.placed n f count keeps (all_held n count held))
 
-      module _ (held : arena.HasNode a n) where
-        pub own_call : (s : OwnState) → new ≡ nodes.with_own m n s
-            → Seen new c (arena.with_own a n s)
-        own_call s changed =
-            node_call new (nodes.with_own m n s) (λ (b : Arena). arena.with_own b n s) changed
-            (state_set m c right.placed n (held_seen n held) s)
+      pub free_call : arena.HasNode a n → new ≡ nodes.without m n → Seen new c (arena.without a n)
+      free_call held changed =
+          node_call new (nodes.without m n) (λ (b : Arena). arena.without b n) changed
+          (freed m c right.placed n (held_seen n held))
 
-        pub links_call : (l : Links) → new ≡ nodes.with_links m n l
-            → Seen new c (arena.with_links a n l)
-        links_call l changed =
-            node_call new (nodes.with_links m n l) (λ (b : Arena). arena.with_links b n l) changed
-            (links_set m c right.placed n (held_seen n held) l)
+      pub free_many_call : (count : ℕ) → many.HaveNodes a n count → new ≡ nodes.without_many m n count → Seen new c (many.without_many a n count)
+      free_many_call count held changed =
+          node_call new (nodes.without_many m n count) (λ (b : Arena). many.without_many b n count) changed
+          (many_freed m c right.placed n count (all_held n count held))
 
-        pub rehang_call : (s : OwnState) (parent : Option NodeId)
-            → new ≡ nodes.hung (nodes.with_own m n s) n parent
-            → Seen new c (arena.hung (arena.with_own a n s) n parent)
-        rehang_call s parent changed =
-            node_call new (nodes.hung (nodes.with_own m n s) n parent)
-            (λ (b : Arena). arena.hung (arena.with_own b n s) n parent) changed
-            (rehung m c right.placed n (held_seen n held) s parent)
-
-        pub tree_call : (ts : List NodeId) → new ≡ nodes.with_tree m n ts
-            → Seen new c (arena.with_tree a n ts)
-        tree_call ts changed =
-            node_call new (nodes.with_tree m n ts) (λ (b : Arena). arena.with_tree b n ts) changed
-            (tree_set m c right.placed n (held_seen n held) ts)
-
-        pub name_call : (cache : CacheId) (page : PageNo) → IsVacant a cache page
-            → new ≡ nodes.with_name m n (Live cache page)
-            → Seen new c (arena.with_name a n (Live cache page))
-        name_call cache page vacant changed =
-            node_call new (nodes.with_name m n (Live cache page))
-            (λ (b : Arena). arena.with_name b n (Live cache page)) changed
-            (renamed m c right.placed n (held_seen n held) cache page
-            (subst (λ (b : Arena). IsVacant b cache page) (sym is) vacant))
-
-        pub as_working_call : new ≡ nodes.as_working m n → Seen new c (arena.as_working a n)
-        as_working_call changed =
-            node_call new (nodes.as_working m n) (λ (b : Arena). arena.as_working b n) changed
-            (made_working m c right.placed n (held_seen n held))
-
-        pub free_call : new ≡ nodes.without m n → Seen new c (arena.without a n)
-        free_call changed =
-            node_call new (nodes.without m n) (λ (b : Arena). arena.without b n) changed
-            (freed m c right.placed n (held_seen n held))
+      pub to_working_many_call : (count : ℕ) → many.HaveNodes a n count → new ≡ nodes.as_working_many m n count → Seen new c (many.as_working_many a n count)
+      to_working_many_call count held changed =
+          node_call new (nodes.as_working_many m n count) (λ (b : Arena). many.as_working_many b n count) changed
+          (many_as_working m c right.placed n count (all_held n count held))
 
     module _ (new : CacheRows) where
       pub grant_call : (cache page : ℕ) → new ≡ with_changed c cache (row_granting page)
@@ -292,21 +248,26 @@ module _ (m : PageNodes) (c : CacheRows) (a : Arena) (is : arena_by m c ≡ a) w
     -- the cache that was made
     module _ (new : PageNodes) (after : CacheRows) (cache : CacheId) (segment : Option SegId)
         (own : OwnState) (pages : ℕ) (few : pages < 2 ^ 32) (number : cache.0 ≡ length c.rows + 1)
-        (made : MakesAllPages m new cache own pages) (changed : after ≡ with_row c segment pages) where
+        (free : (page : ℕ) → page < pages → ids.get m.cells (page_number cache.0 page) ≡ None)
+        (made : new ≡ made_first m cache own pages) (changed : after ≡ with_row c segment pages) where
+      abbrev both : MakesCache (arena_by m c) (arena_by (made_first m cache own pages) (with_row c segment pages)) cache segment pages own
+          × ArePlaced (made_first m cache own pages) (with_row c segment pages).rows
+      both = cache_made m c right.placed cache segment own pages few number free
+
       pub make_call : MakesCache a (arena_by new after) cache segment pages own
       make_call =
-          subst (λ (b : Arena). MakesCache b (arena_by new after) cache segment pages own) is
-          (subst (λ (x : CacheRows). MakesCache (arena_by m c) (arena_by new x) cache segment pages own)
-          (sym changed) (cache_made m c right.placed new cache segment own pages few number made).0)
+          let P : Arena → Type 0 = λ b. MakesCache b (arena_by new after) cache segment pages own in
+          let Q : Arena → Type 0 = λ b. MakesCache (arena_by m c) b cache segment pages own in
+          subst P is (subst Q (λ i. arena_by (sym made i) (sym changed i)) both.0)
 
       pub make_right : AreRight new after
-      make_right =
-          record {
-            placed = subst (λ (x : CacheRows). ArePlaced new x.rows) (sym changed)
-                (cache_made m c right.placed new cache segment own pages few number made).1;
-            full = subst (λ (x : CacheRows). EachRow IsFull x.rows) (sym changed)
-                (each_more IsFull (new_row segment pages) (full_new segment pages) c.rows right.full);
-          }
+      make_right = record {
+        placed = (let P : PageNodes → Type 0 = λ x. ArePlaced x after.rows in
+            let Q : CacheRows → Type 0 = λ x. ArePlaced (made_first m cache own pages) x.rows in
+            subst P (sym made) (subst Q (sym changed) both.1));
+        full = subst (λ (x : CacheRows). EachRow IsFull x.rows) (sym changed)
+            (each_more IsFull (new_row segment pages) (full_new segment pages) c.rows right.full);
+      }
 
     -- more room
     module _ (new : PageNodes) (after : CacheRows) (kept : new ≡ record m { room = new.room })

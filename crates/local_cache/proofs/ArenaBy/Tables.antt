@@ -1,9 +1,7 @@
 -- The tables that are read off the nodes of pages, when the node of one page is another one.
 use Rattle.std.proofs.Common.{◌≡◌, ◌≢◌, ℕ, zero, suc, ◌+◌, ◌<◌, ◌≤◌, ◌^◌, List, [], ◌∷◌, get_or, set, Option, Some, None, option_map, refl, ap, sym, subst, ◌∙◌, arith}
-use Rattle.std.specs.Ordering.{nat_cmp}
-use Rattle.std.specs.FinMap.{FinMap}
 use Rattle.std.specs.FinMap as ids
-use Rattle.stretches.specs.declared.rising.Rising.{Rising}
+use Rattle.local_cache.specs.Pages.{Pages}
 use Rattle.vm_ids.specs.declared.numbers.NodeId.{NodeId}
 use Rattle.local_cache.specs.Arena.{cache_with, table_with}
 use Rattle.local_cache.specs.ArenaBy.{CacheRow, entries_by, entry_under, table_by, tables_by}
@@ -12,14 +10,14 @@ use Rattle.local_cache.specs.NodeKeys.{page_number}
 
 -- Two maps of nodes that agree on the pages of some caches
 
-module _ (old new : FinMap nat_cmp Rising) where
+module _ (old new : Pages) where
   abbrev pub Agree : ℕ → ℕ → Type 0
   Agree cache page =
       ids.get new (page_number cache page) ≡ ids.get old (page_number cache page)
 
   entry_same : (cache page : ℕ) → Agree cache page
       → entry_under new (page_number cache page) ≡ entry_under old (page_number cache page)
-  entry_same cache page same i = record { node = option_map (λ v. record { 0 = v.0 }) (same i) }
+  entry_same cache page same i = record { node = same i }
 
   pub entries_same : (cache from k : ℕ)
       → ((page : ℕ) → from ≤ page → page < from + k → Agree cache page)
@@ -58,7 +56,7 @@ module _ (old new : FinMap nat_cmp Rising) where
 
 -- One page whose node is another one
 
-module _ (old new : FinMap nat_cmp Rising) (cache page : ℕ) (o : Option NodeId)
+module _ (old new : Pages) (cache page : ℕ) (o : Option NodeId)
     (short : page < 2 ^ 32)
     (here : entry_under new (page_number cache page) ≡ record { node = o })
     (others : (k : ℕ) → k ≢ page_number cache page → ids.get new k ≡ ids.get old k) where

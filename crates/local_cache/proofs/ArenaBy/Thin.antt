@@ -10,7 +10,7 @@ use Rattle.vm_ids.specs.declared.numbers.NodeId.{NodeId}
 use Rattle.local_cache.specs.Arena.{Cell, blank, cell}
 use Rattle.local_cache.specs.ArenaBy.{CacheRows, arena_by}
 use Rattle.local_cache.specs.PageNodes.{PageNodes}
-use Rattle.local_cache.specs.PageNodes as nodes
+use Rattle.local_cache.specs.NodeTable as table
 use Rattle.local_cache.specs.Thin.{number_if, thin_number}
 use Rattle.local_cache.specs.Thin.{IsLeastThin, IsThin, has_few}
 
@@ -20,7 +20,7 @@ by_number (Working j) false k e = absurd (none-some k e)
 by_number (Working j) true k e = (ap Working (same_Some j k e), refl)
 
 module _ (m : PageNodes) (c : CacheRows) (n : NodeId) (k : ℕ) where
-  pub thin_by : nodes.IsThin m n k → IsThin (arena_by m c) n k
+  pub thin_by : table.IsThin m.cells n.0 k → IsThin (arena_by m c) n k
   unfolding cell
   thin_by is = go (ids.get m.cells n.0) refl is
     where
@@ -34,7 +34,7 @@ module _ (m : PageNodes) (c : CacheRows) (n : NodeId) (k : ℕ) where
             few = ap (λ (o : Option Cell). has_few (unwrap_or o blank)) found ∙ parts.1;
           }
 
-  pub thin_of : IsThin (arena_by m c) n k → nodes.IsThin m n k
+  pub thin_of : IsThin (arena_by m c) n k → table.IsThin m.cells n.0 k
   unfolding cell
   thin_of t = go (ids.get m.cells n.0) refl
     where
@@ -45,11 +45,11 @@ module _ (m : PageNodes) (c : CacheRows) (n : NodeId) (k : ℕ) where
           ∙ ap thin_number (sym (ap (λ (o : Option Cell). unwrap_or o blank) found))
           ∙ (λ i. number_if (t.name i) (t.few i))
 
-pub least_thin_by : (m : PageNodes) (c : CacheRows) (r : Option NodeId) → nodes.IsLeastThin m r
+pub least_thin_by : (m : PageNodes) (c : CacheRows) (r : Option NodeId) → table.IsLeastThin m.cells r
     → IsLeastThin (arena_by m c) r
-least_thin_by m c None none = λ n k t. none n k (thin_of m c n k t)
+least_thin_by m c None none = λ n k t. none n.0 k (thin_of m c n k t)
 least_thin_by m c (Some n) least = (
   least.0,
   thin_by m c n least.0 least.1,
-  λ other k t. least.2 other k (thin_of m c other k t),
+  λ other k t. least.2 other.0 k (thin_of m c other k t),
 )

@@ -1,9 +1,13 @@
 -- What is told of the caches and their pages.
 use Rattle.std.proofs.Common.{◌≡◌, ℕ, ◌+◌, ◌<◌, ◌≤◌, ◌^◌, [], List, length, Option, Some, None, IsSome, is_some, option_map, unwrap_or, sum_by, refl, ap, sym, ◌∙◌, inl, inr, arith}
 use Rattle.std.proofs.lemmas.Bool.{false≢true}
+use Rattle.std.specs.Ordering.{nat_cmp}
+use Rattle.std.specs.FinMap.{len-empty}
 use Rattle.std.specs.FinMap as map
 use Rattle.stretches.specs.Cells.{cells}
-use Rattle.stretches.specs.Stretches.{Stretches, said}
+use Rattle.stretches.specs.Stretches.{Stretches, number_count, said}
+use Rattle.stretches.specs.declared.says.Says.{Ghosts}
+use Rattle.stretches.specs.declared.stretch.Stretch.{Stretch}
 use Rattle.stretches.proofs.Cells.{get_cells}
 use Rattle.local_cache.specs.declared.cache_list.CacheEntry.{CacheEntry}
 use Rattle.local_cache.specs.declared.page_marks.Granted.{Granted}
@@ -12,11 +16,24 @@ use Rattle.local_cache.specs.CacheList.{AreListsRight, entry_at, granted_in, loc
 use Rattle.local_cache.specs.NodeKeys.{page_number}
 use Rattle.local_cache.specs.PageMarks.{granted_says, locks_say}
 use Rattle.local_cache.specs.Placed.{HasRow}
+use Rattle.local_cache.specs.Singles.{IsCounted}
 use Rattle.local_cache.specs.RowChanges.{entry_of_row, is_granting, row_at, row_locked, row_locks}
 use Rattle.local_cache.proofs.ArenaBy.NewCache.{row_within}
 use Rattle.local_cache.proofs.CacheList.PageNumbers.{entry_index, len_pages, nothing_at, page_cases, pages_within}
 use Rattle.local_cache.proofs.CacheList.Rows.{entry_is, granting_is, has_entry, has_row, length_rows, locks_are, locks_none, row_is}
-use Rattle.local_cache.proofs.NodeRuns.{empty_counted, empty_get}
+
+-- Lists that say nothing
+
+module _ {V : Type 0} (S : Ghosts V) where
+  empty_len : (rs : List (Stretch V)) → rs ≡ [] → map.len (cells S rs) ≡ 0
+  unfolding cells
+  empty_len rs none = ap (λ (xs : List (Stretch V)). map.len (cells S xs)) none ∙ len-empty nat_cmp V
+
+  empty_get : (rs : List (Stretch V)) → rs ≡ [] → (n : ℕ) → map.get (cells S rs) n ≡ None
+  empty_get rs none n = get_cells S rs n ∙ ap (λ (xs : List (Stretch V)). said S xs n) none
+
+  empty_counted : (l : Stretches V) → l.list ≡ [] → IsCounted S l
+  empty_counted l none = ap number_count none ∙ sym (empty_len l.list none)
 
 module _ (es : List (Option CacheEntry)) (grants : Stretches Granted) (locks : Stretches LockCount) where
   pub made_is : length (rows_of es grants locks) ≡ length es

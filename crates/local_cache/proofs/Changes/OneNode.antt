@@ -146,16 +146,6 @@ module _ (a : Arena) (kept : IsKept a) (n : NodeId) (h : HasNode a n) where
   pub own-kept : (s : OwnState) → IsKept (with_own a n s)
   own-kept s = edit-kept a kept n (record (cell a n) { own = s }) (own_fits s)
 
-  -- where n hangs on nothing
-  pub own-sound : IsLinked (forest_of a) → (cell a n).links.parent ≡ None → (s : OwnState) → IsSound (with_own a n s)
-  own-sound linked root s = record {
-    kept = own-kept s;
-    linked = subst IsLinked (sym (own-forest s)) (put_page-linked (forest_of a) linked (name_of a n) (page_of s) (λ p e.
-        let hang : (node (forest_of a) (name_of a n)).hang ≡ Root = ap (λ m. m.hang) (node-forest_of a kept.named n h) ∙ ap (λ o. hang_by a o (cell a n).links.by_stub) root in
-        let clash : Root ≡ StubOf p = sym hang ∙ e in
-        cc clash));
-  }
-
   tree_fits : (ts : List NodeId) → ((m : NodeId) → m ∈ ts → HasNode a m) → Fits a n (record (cell a n) { tree = ts })
   tree_fits ts all = record { held = h; name = refl; first = refl; last = refl; stubs = refl; place = inr refl; parents = λ p e. kept.parents n p h e; children = all }
 

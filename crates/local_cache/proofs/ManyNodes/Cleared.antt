@@ -41,13 +41,6 @@ module _ {V : Type 0} (m : FinMap nat_cmp V) (first : ℕ) where
     | inr other ↦ removed_other (without_range m first k) (first + k) n other ∙ range_in k n from (omega arith)
   ]
 
-  -- what is still there was there
-  pub range_left : (k n : ℕ) (v : V) → map.get (without_range m first k) n ≡ Some v → map.get m n ≡ Some v
-  range_left k n v h = elim (range_cases first k n) [
-    | inl inside ↦ absurd (none-some v (sym (range_in k n inside.0 inside.1) ∙ h))
-    | inr out ↦ sym (range_out k n out) ∙ h
-  ]
-
   -- a map that has nothing in a range, and beside it what was there
   pub ranged_by : (k : ℕ) (n : FinMap nat_cmp V) → ((q : ℕ) → first ≤ q → q < first + k → map.get n q ≡ None)
       → ((q : ℕ) → (q < first) ⊎ (first + k ≤ q) → map.get n q ≡ map.get m q) → n ≡ without_range m first k

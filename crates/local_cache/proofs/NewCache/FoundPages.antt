@@ -122,7 +122,3 @@ page_node a cache page own n p e =
 
 pub page_held : (a : Arena) (cache : CacheId) (page : ℕ) (own : OwnState) (n : NodeId) → HasPage a cache page own → node_at a cache.0 page ≡ Some n → HasNode a n
 page_held a cache page own n p e = ap is_some (page_node a cache page own n p e)
-
-pub page_own : (a : Arena) (cache : CacheId) (page : ℕ) (own : OwnState) (n : NodeId) → HasPage a cache page own → node_at a cache.0 page ≡ Some n → own_of a n ≡ own
-unfolding cell
-page_own a cache page own n p e = ap (λ (o : Option Cell). (unwrap_or o blank).own) (page_node a cache page own n p e)

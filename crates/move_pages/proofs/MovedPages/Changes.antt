@@ -1,23 +1,26 @@
--- The parts of a move of different pages may be done in either order.
-use Rattle.std.proofs.Common.{◌≡◌, ◌≢◌, ℕ, zero, suc, ◌+◌, ◌<◌, set, get_or, List, Option, Some, None, option_map, refl, sym, ap, ◌∙◌, arith, inl, inr}
+-- What is done of one page of a move may be done before others are moved.
+use Rattle.std.proofs.Common.{◌≡◌, ◌≢◌, ℕ, zero, suc, set, get_or, List, [], ◌∷◌, Option, Some, None, option_map, unwrap_or, refl, sym, ap, ◌∙◌, subst, inl, inr}
 use Rattle.std.proofs.lemmas.Bool.{cases_eq}
-use Rattle.std.proofs.lemmas.List.{set_comm}
-use Rattle.std.proofs.lemmas.Option.{same_Some}
+use Rattle.std.proofs.lemmas.List.{set-set, set_comm}
+use Rattle.std.specs.FinMap.{FinMap}
 use Rattle.std.specs.FinMap as map
-use Rattle.vm_ids.specs.declared.command.Span.{Span}
+use Rattle.std.specs.Ordering.{nat_cmp}
 use Rattle.vm_ids.specs.declared.node_name.NodeName.{NodeName}
 use Rattle.vm_ids.specs.declared.node_name.NodeName.TheVariants.{Live, Working}
 use Rattle.vm_ids.specs.declared.numbers.NodeId.{NodeId}
-use Rattle.vm_ids.specs.Forest.Commands.{page_name}
 use Rattle.local_cache.specs.declared.own_state.OwnState.TheVariants.{Zero}
-use Rattle.local_cache.specs.Arena.{Arena, Cell, Table, cache_with, cell, changed_at, new_cell, table_with, tables_with}
-use Rattle.local_cache.specs.ManyNodes.{IsApart, next_node}
-use Rattle.local_cache.specs.NodeKeys.{page_of_name}
-use Rattle.local_cache.proofs.NodeCells.{inserted_other, removed_other}
+use Rattle.local_cache.specs.Arena.{Arena, Cell, Table, blank, cache_with, cell, changed_at, new_cell, put, table_with, tables_with, with_name, with_new}
+use Rattle.local_cache.specs.ManyNodes.{each, next_node}
+use Rattle.local_cache.specs.NodeCells.{named, renewed, with_child}
+use Rattle.local_cache.specs.OnCells.{exchanged_many, exchanged_names, on_cell}
+use Rattle.local_cache.proofs.Changes.SameNodes.{id_cases}
+use Rattle.local_cache.proofs.Exchanged.{insert_swap}
+use Rattle.local_cache.proofs.Nodes.Cells.{cell-put, cell-put_other}
 use Rattle.local_cache.proofs.Tables.Listing.{read_other}
-use Rattle.tree_merge.specs.Copying.{AreApart}
-use Rattle.tree_merge.proofs.CopiedPages.Changes.{cell_by, differ, inserts, pages_pass, removes}
-use Rattle.tree_merge.proofs.CopiedPages.Stretches.{Passes, both, each, parted}
+use Rattle.tree_merge.specs.Copying.{renewed_many}
+use Rattle.tree_merge.proofs.CopiedPages.Changes.{cell_by, change_both, changed_twice, differ, find-new, find-new_other, inserted_again, on_swap, pages_pass}
+use Rattle.tree_merge.proofs.CopiedPages.Kinds.{AllPass, Kind, Passes, each_kind, kind_by, on, on_on, page_by}
+use Rattle.tree_merge.proofs.CopiedPages.Rows.{Pass}
 
 -- In the tables
 
@@ -47,100 +50,139 @@ tables_pass ts (Live c p) (Live d q) o r ne = elim (cases_eq c.0 d.0) [
   | inr other ↦ caches_pass ts c.0 d.0 (table_with p.0 o) (table_with q.0 r) other
 ]
 
+-- one page, twice
+table_again : (p : ℕ) (o r : Option NodeId) (t : Option Table) → option_map (table_with p r) (option_map (table_with p o) t) ≡ option_map (table_with p r) t
+table_again p o r None = refl
+table_again p o r (Some t) = ap Some (λ i. record t { pages = set-set t.pages p (record { node = o }) (record { node = r }) i })
+
+tables_again : (ts : List (Option Table)) (x : NodeName) (o r : Option NodeId) → tables_with (tables_with ts x o) x r ≡ tables_with ts x r
+tables_again ts (Working k) o r = refl
+tables_again ts (Live c p) o r = go c.0
+  where
+    go : (k : ℕ) → cache_with (cache_with ts k p.0 o) k p.0 r ≡ cache_with ts k p.0 r
+    go zero = refl
+    go (suc k) = changed_twice ts k (table_with p.0 o) (table_with p.0 r) ∙ ap (set ts k) (table_again p.0 o r (get_or ts k None))
+
 -- In the caches
 
-module _ (d s n : NodeId) (span : Span) where
-  abbrev pub to_name : ℕ → NodeName
-  to_name i = page_name span.to (span.to_page.0 + i)
+-- a new node of a page that exchanges its name with that of another page: as if that had taken the
+-- name, and a new one came in its place
+module _ (b : Arena) (d s : NodeId) (x y : NodeName) (s_d : s ≢ d) (is : (cell b s).name ≡ y) (apart : y ≢ x) where
+  abbrev n : Arena
+  n = with_new b d x Zero
 
-  abbrev pub from_name : ℕ → NodeName
-  from_name i = page_name span.from (span.from_page.0 + i)
+  cell_d : cell (with_new b d x Zero) d ≡ new_cell x Zero
+  unfolding cell
+  cell_d = ap (λ o. unwrap_or o blank) (find-new b d x Zero)
 
-  -- the old node of a destination goes
-  abbrev pub gone : Arena → ℕ → Arena
-  gone x i = record x {
-    cells = map.remove x.cells (d.0 + i);
-    caches = tables_with x.caches (page_name span.to (span.to_page.0 + i)) None;
-  }
+  cell_s : cell (with_new b d x Zero) s ≡ cell b s
+  cell_s = cell_by b (with_new b d x Zero) s (find-new_other b d s x Zero s_d)
 
-  -- the node of its source is that of the destination
-  abbrev pub named : Arena → ℕ → Arena
-  named x i = record x {
-    cells = map.insert x.cells (s.0 + i) (record (cell x (next_node s i)) { name = page_name span.to (span.to_page.0 + i) });
-    caches = tables_with
-        (tables_with x.caches (page_name span.from (span.from_page.0 + i)) None) (page_name span.to (span.to_page.0 + i)) (Some (next_node s i));
-  }
+  name_d : (cell (with_new b d x Zero) d).name ≡ x
+  name_d = ap (λ (c : Cell). c.name) cell_d
 
-  -- a new node is that of the source
-  abbrev pub came : Arena → ℕ → Arena
-  came x i = record x {
-    cells = map.insert x.cells (n.0 + i) (new_cell (page_name span.from (span.from_page.0 + i)) Zero);
-    caches = tables_with x.caches (page_name span.from (span.from_page.0 + i)) (Some (next_node n i));
-  }
+  name_s : (cell (with_new b d x Zero) s).name ≡ y
+  name_s = ap (λ (c : Cell). c.name) cell_s ∙ is
 
-  -- all parts of the move of a page
-  abbrev pub moved : Arena → ℕ → Arena
-  moved x i = came (named (gone x i) i) i
+  cells_is : (on_cell (on_cell (with_new b d x Zero) d (named y)) s (named x)).cells ≡ (with_new (with_name b s x) d y Zero).cells
+  unfolding put with_new
+  cells_is =
+      ap (λ (c : Cell). map.insert (map.insert (map.insert b.cells d.0 (new_cell x Zero)) d.0 (named y (cell (with_new b d x Zero) d))) s.0 (named x c))
+      (cell-put_other (with_new b d x Zero) d s (named y (cell (with_new b d x Zero) d)) s_d ∙ cell_s)
+      ∙ ap (λ (c : Cell). map.insert (map.insert (map.insert b.cells d.0 (new_cell x Zero)) d.0 (named y c)) s.0 (named x (cell b s))) cell_d
+      ∙ ap (λ (m : FinMap nat_cmp Cell). map.insert m s.0 (named x (cell b s))) (inserted_again b.cells d.0 (new_cell x Zero) (new_cell y Zero))
+      ∙ insert_swap b.cells d.0 s.0 (new_cell y Zero) (named x (cell b s)) (differ d s (λ e. s_d (sym e)))
 
-  module _ (apart : IsApart span) (d_s : AreApart d s span.pages) (d_n : AreApart d n span.pages) (s_n : AreApart s n span.pages) where
-    to_pass : (i j : ℕ) → i < j → to_name i ≢ to_name j
-    to_pass i j less e = let same = same_Some _ _ (ap page_of_name e) in let bad : ⊥ = omega (arith, less, same) in bad
+  caches_is : tables_with (tables_with (tables_with b.caches x (Some d)) x (Some s)) y (Some d) ≡ tables_with (tables_with (tables_with b.caches (cell b s).name None) x (Some s)) y (Some d)
+  caches_is =
+      ap (λ ts. tables_with ts y (Some d)) (tables_again b.caches x (Some d) (Some s))
+      ∙ sym (tables_again (tables_with b.caches x (Some s)) y None (Some d))
+      ∙ ap (λ ts. tables_with ts y (Some d)) (sym (tables_pass b.caches y x None (Some s) apart))
+      ∙ ap (λ z. tables_with (tables_with (tables_with b.caches z None) x (Some s)) y (Some d)) (sym is)
 
-    from_pass : (i j : ℕ) → i < j → from_name i ≢ from_name j
-    from_pass i j less e = let same = same_Some _ _ (ap page_of_name e) in let bad : ⊥ = omega (arith, less, same) in bad
+  -- both names are known
+  named_now : exchanged_names (with_new b d x Zero) d s
+      ≡ record (on_cell (on_cell (with_new b d x Zero) d (named y)) s (named x)) { caches = tables_with (tables_with (with_new b d x Zero).caches x (Some s)) y (Some d) }
+  named_now = λ i.
+      record (on_cell (on_cell (with_new b d x Zero) d (named (name_s i))) s (named (name_d i))) {
+        caches = tables_with (tables_with (with_new b d x Zero).caches (name_d i) (Some s)) (name_s i) (Some d);
+      }
 
-    gone_named : Passes gone named span.pages
-    gone_named x i j less below =
-        let low : i < span.pages = omega (arith, less, below) in
-        let other : next_node s i ≢ next_node d j = λ e. d_s j below i low (sym e) in
-        let number : s.0 + i ≢ d.0 + j = differ (next_node s i) (next_node d j) other in
-        let here : cell (gone x j) (next_node s i) ≡ cell x (next_node s i) = cell_by x (gone x j) (next_node s i) (removed_other x.cells (d.0 + j) (s.0 + i) number) in
-        let left = tables_with x.caches (from_name i) None in
-        let tables : tables_with (tables_with left (to_name i) (Some (next_node s i))) (to_name j) None
-        ≡ tables_with (tables_with (tables_with x.caches (to_name j) None) (from_name i) None) (to_name i) (Some (next_node s i)) =
-        tables_pass left (to_name i) (to_name j) (Some (next_node s i)) None (to_pass i j less)
-        ∙ ap (λ ts. tables_with ts (to_name i) (Some (next_node s i))) (tables_pass x.caches (from_name i) (to_name j) None None (apart i j low below)) in
-        (λ k. record x {
-          cells = removes x.cells (s.0 + i) (d.0 + j) (record (cell x (next_node s i)) { name = to_name i }) number k;
-          caches = tables k;
-        })
-        ∙ (λ k. record (gone x j) {
-          cells = map.insert (map.remove x.cells (d.0 + j)) (s.0 + i) (record (sym here k) { name = to_name i });
-          caches = tables_with (tables_with (tables_with x.caches (to_name j) None) (from_name i) None) (to_name i) (Some (next_node s i));
-        })
+  whole : ◌≡◌ {A = Arena} (record (on_cell (on_cell (with_new b d x Zero) d (named y)) s (named x)) { caches = tables_with (tables_with (with_new b d x Zero).caches x (Some s)) y (Some d) })
+      (with_new (with_name b s x) d y Zero)
+  unfolding put with_new
+  whole = λ i. record (with_new b d x Zero) { cells = cells_is i; caches = caches_is i }
 
-    gone_came : Passes gone came span.pages
-    gone_came x i j less below =
-        let low : i < span.pages = omega (arith, less, below) in
-        let number : n.0 + i ≢ d.0 + j = differ (next_node n i) (next_node d j) (λ e. d_n j below i low (sym e)) in
-        λ k. record x {
-          cells = removes x.cells (n.0 + i) (d.0 + j) (new_cell (from_name i) Zero) number k;
-          caches = tables_pass x.caches (from_name i) (to_name j) (Some (next_node n i)) None (apart i j low below) k;
-        }
+  pub exchanged_is : exchanged_names (with_new b d x Zero) d s ≡ with_new (with_name b s x) d y Zero
+  exchanged_is = named_now ∙ whole
 
-    named_came : Passes named came span.pages
-    named_came x i j less below =
-        let low : i < span.pages = omega (arith, less, below) in
-        let number : n.0 + i ≢ s.0 + j = differ (next_node n i) (next_node s j) (λ e. s_n j below i low (sym e)) in
-        let c : Cell = record (cell x (next_node s j)) { name = to_name j } in
-        let here : cell (came x i) (next_node s j) ≡ cell x (next_node s j) =
-        cell_by x (came x i) (next_node s j) (inserted_other x.cells (n.0 + i) (new_cell (from_name i) Zero) (s.0 + j) (λ e. number (sym e))) in
-        let first = tables_with (tables_with x.caches (from_name i) (Some (next_node n i))) (from_name j) None in
-        let tables : tables_with first (to_name j) (Some (next_node s j))
-        ≡ tables_with (tables_with (tables_with x.caches (from_name j) None) (to_name j) (Some (next_node s j))) (from_name i) (Some (next_node n i)) =
-        ap (λ ts. tables_with ts (to_name j) (Some (next_node s j))) (tables_pass x.caches (from_name i) (from_name j) (Some (next_node n i)) None (from_pass i j less))
-        ∙ tables_pass (tables_with x.caches (from_name j) None) (from_name i) (to_name j) (Some (next_node n i)) (Some (next_node s j)) (apart i j low below) in
-        (λ k. record (came x i) {
-          cells = map.insert (map.insert x.cells (n.0 + i) (new_cell (from_name i) Zero)) (s.0 + j) (record (here k) { name = to_name j });
-          caches = tables_with first (to_name j) (Some (next_node s j));
-        })
-        ∙ (λ k. record x {
-          cells = inserts x.cells (n.0 + i) (s.0 + j) (new_cell (from_name i) Zero) c number k;
-          caches = tables k;
-        })
+-- what keeps names
+module _ (m : NodeId) (f : Cell → Cell) (keeps : (c : Cell) → (f c).name ≡ c.name) where
+  pub name_on : (b : Arena) (q : NodeId) → (cell (on_cell b m f) q).name ≡ (cell b q).name
+  name_on b q = elim (id_cases q m) [
+    | inl e ↦ subst (λ (k : NodeId). (cell (on_cell b m f) k).name ≡ (cell b k).name) (sym e) (ap (λ (c : Cell). c.name) (cell-put b m (f (cell b m))) ∙ keeps (cell b m))
+    | inr ne ↦ ap (λ (c : Cell). c.name) (cell-put_other b m q (f (cell b m)) ne)
+  ]
 
-    -- the parts of each kind, one kind after the other
-    pub all_moved : (a : Arena) → each moved a span.pages ≡ each came (each named (each gone a span.pages) span.pages) span.pages
-    all_moved a =
-        parted (λ x i. named (gone x i) i) came span.pages (both named gone came span.pages gone_came named_came) a span.pages (omega arith)
-        ∙ ap (λ (x : Arena). each came x span.pages) (parted gone named span.pages gone_named a span.pages (omega arith))
+-- may be done before names are exchanged
+module _ (m : NodeId) (f : Cell → Cell) (keeps : (c : Cell) → (f c).name ≡ c.name) (same : (x : NodeName) (c : Cell) → f (named x c) ≡ named x (f c)) where
+  past : (b : Arena) (o : NodeId) (x : NodeName) → on_cell (on_cell b o (named x)) m f ≡ on_cell (on_cell b m f) o (named x)
+  past b o x = elim (id_cases m o) [
+    | inl e ↦ subst (λ (k : NodeId). on_cell (on_cell b o (named x)) k f ≡ on_cell (on_cell b k f) o (named x)) (sym e) (change_both b o (named x) f (same x))
+    | inr ne ↦ on_swap b o m (named x) f (λ e. ne (sym e))
+  ]
+
+  caches_on : (b : Arena) → (on_cell b m f).caches ≡ b.caches
+  unfolding put
+  caches_on b = refl
+
+  in_tables : (b : Arena) (ts : List (Option Table)) → on_cell (record b { caches = ts }) m f ≡ record (on_cell b m f) { caches = ts }
+  unfolding put cell
+  in_tables b ts = refl
+
+  pub past_exchanged : (b : Arena) (n o : NodeId) → on_cell (exchanged_names b n o) m f ≡ exchanged_names (on_cell b m f) n o
+  past_exchanged b n o =
+      let x : NodeName = (cell b n).name in
+      let y : NodeName = (cell b o).name in
+      let ts : List (Option Table) = tables_with (tables_with b.caches x (Some o)) y (Some n) in
+      in_tables (on_cell (on_cell b n (named y)) o (named x)) ts
+      ∙ ap (λ (z : Arena). record z { caches = ts }) (past (on_cell b n (named y)) o x ∙ ap (λ (z : Arena). on_cell z o (named x)) (past b n y))
+      ∙ (λ i.
+      record (on_cell (on_cell (on_cell b m f) n (named (sym (name_on m f keeps b o) i))) o (named (sym (name_on m f keeps b n) i))) {
+        caches = tables_with (tables_with (sym (caches_on b) i) (sym (name_on m f keeps b n) i) (Some o)) (sym (name_on m f keeps b o) i) (Some n);
+      })
+
+-- The kinds of a move
+
+abbrev pub leaving : (p d : NodeId) → Kind
+leaving p d = on p (λ i. with_child (next_node d i) None)
+
+abbrev pub renewing : NodeId → Kind
+renewing d = on d (λ i. renewed Zero)
+
+abbrev pub exchanging : (d s : NodeId) → Kind
+exchanging d s i x = exchanged_names x (next_node d i) (next_node s i)
+
+abbrev pub moving : Option NodeId → (d s : NodeId) → List Kind
+moving None d s = renewing d ∷ exchanging d s ∷ []
+moving (Some p) d s = leaving p d ∷ renewing d ∷ exchanging d s ∷ []
+
+module _ (d s : NodeId) (count : ℕ) where
+  left_past : (p : NodeId) → Passes (leaving p d) (exchanging d s) count
+  left_past p x i j less below = past_exchanged (next_node p j) (with_child (next_node d j) None) (λ c. refl) (λ y c. refl) x (next_node d i) (next_node s i)
+
+  renewed_past : Passes (renewing d) (exchanging d s) count
+  renewed_past x i j less below = past_exchanged (next_node d j) (renewed Zero) (λ c. refl) (λ y c. refl) x (next_node d i) (next_node s i)
+
+  moving_pass : (parent : Option NodeId) → ((p : NodeId) → parent ≡ Some p → Pass p d count) → AllPass (moving parent d s) count
+  moving_pass None pass = ((renewed_past, tt), (tt, tt))
+  moving_pass (Some p) pass =
+      ((on_on p d count (pass p refl) (λ i. with_child (next_node d i) None) (λ i. renewed Zero), (left_past p, tt)), ((renewed_past, tt), (tt, tt)))
+
+  moved_by : (a : Arena) (parent : Option NodeId) → kind_by (moving parent d s) count a ≡ exchanged_many (renewed_many a parent d Zero count) d s count
+  moved_by a None = refl
+  moved_by a (Some p) = refl
+
+  pub each_moved : (a : Arena) (parent : Option NodeId) → ((p : NodeId) → parent ≡ Some p → Pass p d count)
+      → each (page_by (moving parent d s)) count a ≡ exchanged_many (renewed_many a parent d Zero count) d s count
+  each_moved a parent pass = each_kind (moving parent d s) count (moving_pass parent pass) a ∙ moved_by a parent

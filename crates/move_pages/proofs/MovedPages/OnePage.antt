@@ -1,5 +1,6 @@
--- One page is moved whose old node has neither parent nor children: that node goes.
-use Rattle.std.proofs.Common.{◌≡◌, ◌≢◌, ◌+◌, ◌-◌, Some, None, is_some, refl, sym, ap, ◌∙◌, subst, arith}
+-- One page is moved whose old node has no children, and is none or zeros: that is the source's node
+-- as new.
+use Rattle.std.proofs.Common.{◌≡◌, ◌≢◌, Option, Some, None, is_some, refl, sym, ap, ◌∙◌, subst}
 use Rattle.vm_ids.specs.declared.node_name.NodeName.{NodeName}
 use Rattle.vm_ids.specs.declared.node_name.NodeName.TheVariants.{Live}
 use Rattle.vm_ids.specs.declared.numbers.CacheId.{CacheId}
@@ -7,94 +8,67 @@ use Rattle.vm_ids.specs.declared.numbers.NodeId.{NodeId}
 use Rattle.vm_ids.specs.declared.numbers.PageNo.{PageNo}
 use Rattle.vm_ids.specs.Forest.Laws.Linking.{ArePages}
 use Rattle.vm_ids.specs.Forest.Nodes.{IsNode}
-use Rattle.vm_ids.specs.Forest.Rules.{move_page}
 use Rattle.vm_ids.specs.Forest.Shape.{IsConsistent}
 use Rattle.local_cache.specs.declared.own_state.OwnState.TheVariants.{Zero}
-use Rattle.local_cache.specs.Arena.{Arena, Cell, HasNode, cell, find, node_at, with_name, with_new, without}
+use Rattle.local_cache.specs.Arena.{Arena, Cell, HasNode, cell, find}
+use Rattle.local_cache.specs.NodeCells.{exchanged, named, over, renewed}
+use Rattle.local_cache.specs.OnCells.{cut_from, exchanged_names, on_cell}
 use Rattle.local_cache.specs.Own.{own_of}
 use Rattle.local_cache.specs.Reading.{forest_of, name_of}
 use Rattle.local_cache.specs.Sound.{IsSound}
-use Rattle.local_cache.specs.Whole.{SameCaches}
 use Rattle.local_cache.proofs.Forest.Reading.{IsNode-forest_of}
-use Rattle.local_cache.proofs.Names.WorkingName.{room-with_new}
-use Rattle.local_cache.proofs.Nodes.Cells.{find-put_other}
+use Rattle.local_cache.proofs.Nodes.Cells.{cell-put, find-put, find-put_other}
 use Rattle.tree_merge.specs.declared.released.Released.TheVariants.{Dropped}
-use Rattle.tree_merge.specs.Copying.{IsLone}
-use Rattle.tree_merge.specs.Stepping.{IsRetiredAlone}
-use Rattle.tree_merge.proofs.CopiedPages.Changes.{cell_by, find-new_other, find-without_other}
-use Rattle.tree_merge.proofs.CopiedPages.OnePage.{not_free}
-use Rattle.tree_merge.proofs.RetiredPages.OnePage.{PageGone, page_alone, page_gone}
-use Rattle.move_pages.specs.Moved.{IsMoved}
-use Rattle.move_pages.proofs.Moves.{move_consistent, move_nodes, move_others, move_sizes, move_sound, move_zero, moved_room}
+use Rattle.tree_merge.specs.Copying.{IsEmpty, IsLeafOf}
+use Rattle.tree_merge.specs.Stepping.{IsDetachedAlone}
+use Rattle.tree_merge.proofs.CopiedPages.Changes.{cell_by}
+use Rattle.tree_merge.proofs.LeafRenewed.{leaf_detached, left_like}
+use Rattle.move_pages.specs.Moved.{IsMovedAlone, IsMovedBare}
+use Rattle.move_pages.proofs.MovedPages.Exchanged.{fresh_is, moved_alone}
 
--- What it needs: d is the node of the destination, s that of the source, and n a free number.
-pub record CanMovePage (a : Arena) (d s n : NodeId) (to : CacheId) (to_page : PageNo) (from : CacheId) (from_page : PageNo) : Type 0 where
+-- What it needs: d is the node of the destination, and s that of the source.
+pub record CanMoveLeaf (a : Arena) (parent : Option NodeId) (d s : NodeId) (to : CacheId) (to_page : PageNo) (from : CacheId) (from_page : PageNo) : Type 0 where
   pub sound : IsSound a
   pub consistent : IsConsistent (forest_of a)
   pub held_d : HasNode a d
-  pub lone : IsLone (cell a d)
+  pub leaf : IsLeafOf parent (cell a d)
+  pub empty : IsEmpty (own_of a d)
   pub named_d : name_of a d ≡ Live to to_page
   pub held_s : HasNode a s
   pub named_s : name_of a s ≡ Live from from_page
   pub apart : Live from from_page ≢ Live to to_page
-  pub free : find a n ≡ None
 
--- the arena in which the page is moved
-abbrev pub with_moved : Arena → (d s n : NodeId) → CacheId → PageNo → CacheId → PageNo → Arena
-with_moved a d s n to to_page from from_page = with_new (with_name (without a d) s (Live to to_page)) n (Live from from_page) Zero
+-- What it does: nothing is changed but at both nodes and a parent, which keeps its name.
+pub record LeafMoved (a b : Arena) (parent : Option NodeId) (d s : NodeId) (to : CacheId) (to_page : PageNo) (from : CacheId) (from_page : PageNo) : Type 0 where
+  pub bare : IsMovedBare a b from from_page to to_page
+  pub same : (n : NodeId) → n ≢ d → n ≢ s → (parent ≡ Some n → ⊥) → find b n ≡ find a n
+  pub held : (n : NodeId) → n ≢ d → n ≢ s → is_some (find b n) ≡ is_some (find a n)
+  pub name : (n : NodeId) → n ≢ d → n ≢ s → name_of b n ≡ name_of a n
 
--- What it does: it is the rule, and what `move_one` says; there is as much room, and nothing is
--- changed at other nodes.
-pub record PageMoved (a b : Arena) (d s n : NodeId) (to : CacheId) (to_page : PageNo) (from : CacheId) (from_page : PageNo) : Type 0 where
-  pub moved : IsMoved a b from from_page to to_page (Dropped d (own_of a d))
-  pub forest : forest_of b ≡ move_page (forest_of a) (Live to to_page) (Live from from_page) Zero
-  pub sound : IsSound b
-  pub consistent : IsConsistent (forest_of b)
-  pub same : (m : NodeId) → m ≢ d → m ≢ s → m ≢ n → find b m ≡ find a m
-  pub sizes : SameCaches a b
-  pub room : b.room.nodes ≡ a.room.nodes
+module _ (a : Arena) (parent : Option NodeId) (d s : NodeId) (to : CacheId) (to_page : PageNo) (from : CacheId) (from_page : PageNo) (can : CanMoveLeaf a parent d s to to_page from from_page) where
+  abbrev left : Arena
+  left = cut_from a parent d None
 
-module _ (a : Arena) (d s n : NodeId) (to : CacheId) (to_page : PageNo) (from : CacheId) (from_page : PageNo) (can : CanMovePage a d s n to to_page from from_page) where
-  -- The old node goes
+  abbrev b : Arena
+  b = on_cell (cut_from a parent d None) d (renewed Zero)
 
-  abbrev m : Arena
-  m = without a d
+  detached : IsDetachedAlone a (on_cell (cut_from a parent d None) d (renewed Zero)) to to_page Zero (Dropped d (own_of a d))
+  detached = leaf_detached a can.sound d can.held_d parent can.leaf to to_page can.named_d Zero
 
-  went : PageGone a (without a d) d to to_page
-  went = page_gone a d to to_page (record { sound = can.sound; held = can.held_d; lone = can.lone; named = can.named_d })
+  name_b : name_of b d ≡ Live to to_page
+  name_b =
+      ap (λ (c : Cell). c.name) (cell-put left d (renewed Zero (cell left d)))
+      ∙ (left_like a can.sound d can.held_d parent can.leaf).like.name d ∙ can.named_d
 
-  cleared : IsRetiredAlone a (without a d) to to_page (Dropped d (own_of a d))
-  cleared = page_alone a d to to_page (record { sound = can.sound; held = can.held_d; lone = can.lone; named = can.named_d })
-
-  -- The source's node is the one of the destination then
-
-  s_d : s ≢ d
-  s_d e = can.apart (sym can.named_s ∙ ap (name_of a) e ∙ can.named_d)
-
-  still_s : find (without a d) s ≡ find a s
-  still_s = find-without_other a d s s_d
-
-  pub source_named : name_of (without a d) s ≡ Live from from_page
-  source_named = ap (λ (c : Cell). c.name) (cell_by a m s still_s) ∙ can.named_s
-
-  source : node_at (without a d) from.0 from_page.0 ≡ Some s
-  source = went.sound.kept.listed.pages from.0 from_page.0 s (ap is_some still_s ∙ can.held_s) source_named
-
-  abbrev c : Arena
-  c = with_name (without a d) s (Live to to_page)
-
-  find_named : (q : NodeId) → q ≢ d → q ≢ s → find (with_name (without a d) s (Live to to_page)) q ≡ find a q
-  find_named q q_d q_s = find-put_other m s q (record (cell m s) { name = Live to to_page }) q_s ∙ find-without_other a d q q_d
-
-  free : find (with_name (without a d) s (Live to to_page)) n ≡ None
-  free = find_named n (λ e. not_free a d n can.held_d can.free (sym e)) (λ e. not_free a s n can.held_s can.free (sym e)) ∙ can.free
-
-  -- And a new node is that of the source
+  -- its number is that of the fresh node
+  fresh : d ≡ detached.fresh
+  fresh = fresh_is a b to to_page (Dropped d (own_of a d)) detached d
+      (detached.sound.kept.listed.pages to.0 to_page.0 d (ap is_some (find-put left d (renewed Zero (cell left d)))) name_b)
 
   is_page : (q : NodeId) (x : NodeName) → HasNode a q → name_of a q ≡ x → IsNode (forest_of a) x
   is_page q x held named = subst (IsNode (forest_of a)) named (IsNode-forest_of a can.sound.kept.named q held)
 
-  pub pages : ArePages (forest_of a) (Live to to_page) (Live from from_page)
+  pages : ArePages (forest_of a) (Live to to_page) (Live from from_page)
   pages = record {
     destination = is_page d (Live to to_page) can.held_d can.named_d;
     source = is_page s (Live from from_page) can.held_s can.named_s;
@@ -103,32 +77,33 @@ module _ (a : Arena) (d s n : NodeId) (to : CacheId) (to_page : PageNo) (from : 
     live_source = refl;
   }
 
-  abbrev b : Arena
-  b = with_moved a d s n to to_page from from_page
+  left_find : (n : NodeId) → (parent ≡ Some n → ⊥) → find (cut_from a parent d None) n ≡ find a n
+  left_find n ne = go parent ne
+    where
+      go : (o : Option NodeId) → (o ≡ Some n → ⊥) → find (cut_from a o d None) n ≡ find a n
+      go None other = refl
+      go (Some p) other = find-put_other a p n (over (exchanged d None (cell a p).tree) (cell a p)) (λ e. other (ap Some (sym e)))
 
-  moved : IsMoved a (with_moved a d s n to to_page from from_page) from from_page to to_page (Dropped d (own_of a d))
-  moved = record {
-    between = m;
-    cleared = cleared;
-    origin = s;
-    source = source;
-    fresh = n;
-    free = free;
-    is = refl;
-    zero = move_zero m went.sound to to_page went.vacant from from_page s source c refl n free b refl;
-    others = move_others m went.sound to to_page went.vacant from from_page s source c refl n free b refl;
-  }
+  -- the nodes that are neither
+  past : (n : NodeId) → n ≢ d → n ≢ s → find (exchanged_names b d s) n ≡ find left n
+  past n n_d n_s =
+      find-put_other (on_cell b d (named (cell b s).name)) s n (named (cell b d).name (cell (on_cell b d (named (cell b s).name)) s)) n_s
+      ∙ find-put_other b d n (named (cell b s).name (cell b d)) n_d
+      ∙ find-put_other left d n (renewed Zero (cell left d)) n_d
 
-  pub page_moved : PageMoved a (with_moved a d s n to to_page from from_page) d s n to to_page from from_page
-  page_moved =
-      let more : m.room.nodes ≡ a.room.nodes + 1 = ap (λ r. r.nodes) went.gone.room in
-      let less : b.room.nodes ≡ c.room.nodes - 1 = room-with_new c n (Live from from_page) Zero in
+  pub leaf_moved : LeafMoved a (exchanged_names (on_cell (cut_from a parent d None) d (renewed Zero)) d s) parent d s to to_page from from_page
+  leaf_moved =
+      let like = (left_like a can.sound d can.held_d parent can.leaf).like in
       record {
-        moved = moved;
-        forest = move_nodes m went.sound to to_page went.vacant from from_page s source c refl n free b refl a can.consistent pages went.forest;
-        sound = move_sound m went.sound to to_page went.vacant from from_page s source c refl n free b refl a can.consistent pages went.forest;
-        consistent = move_consistent m went.sound to to_page went.vacant from from_page s source c refl n free b refl a can.consistent pages went.forest;
-        same = λ q q_d q_s q_n. find-new_other c n q (Live from from_page) Zero q_n ∙ find_named q q_d q_s;
-        sizes = move_sizes m went.sound to to_page went.vacant from from_page s source c refl n free b refl a went.sizes;
-        room = omega (arith, more, less, moved_room m went.sound to to_page went.vacant from from_page s source c refl);
+        bare = record {
+          pages = pages;
+          node = d;
+          at = can.sound.kept.listed.pages to.0 to_page.0 d can.held_d can.named_d;
+          empty = can.empty;
+          alone = subst (λ n. IsMovedAlone a (exchanged_names b n s) from from_page to to_page (Dropped d (own_of a d))) (sym fresh)
+              (moved_alone a b can.sound can.consistent to to_page from from_page (Dropped d (own_of a d)) detached s can.held_s can.named_s pages);
+        };
+        same = λ n n_d n_s other. past n n_d n_s ∙ left_find n other;
+        held = λ n n_d n_s. ap is_some (past n n_d n_s) ∙ like.held n;
+        name = λ n n_d n_s. ap (λ (c : Cell). c.name) (cell_by left (exchanged_names b d s) n (past n n_d n_s)) ∙ like.name n;
       }

@@ -14,37 +14,49 @@ use Rattle.residency.specs.declared.store.Store.{Store}
 use Rattle.residency.specs.Seeing.{frame_forest}
 use Rattle.residency.specs.StoreForest.{store_forest}
 use Rattle.residency.specs.World.{world}
-use Rattle.page_release.specs.Steps.{ForAnyMapper, IsSettleStep}
+use Rattle.page_release.specs.Steps.{AreSettleSteps, ForAnyMapper}
+use Rattle.page_release.proofs.NodesGone.Merged.{IsSettleStep}
 use Rattle.page_release.proofs.SeenFrames.Shape.{frame_consistent, frame_thin}
 use Rattle.page_release.proofs.TiedStores.Shape.{store_consistent, store_thin}
 
--- A step of settle
+-- One step of settle
 module _ (s : Store) (a : Arena) (t : Store) (b : Arena) (sound : IsSound a) (consistent : IsConsistent (forest_of a)) (is : IsSettleStep s a t b) where
   abbrev w : NodeName
   w = name_of a is.merged.node
 
-  pub step_fewer : len (forest_of b).nodes < len (forest_of a).nodes
+  step_fewer : len (forest_of b).nodes < len (forest_of a).nodes
   step_fewer = subst (λ g. len g.nodes < len (forest_of a).nodes) (sym is.merged.forest) (step-len (forest_of a) w consistent is.merged.least)
 
-  pub step_nodes : settle (forest_of b) ≡ settle (forest_of a)
+  step_nodes : settle (forest_of b) ≡ settle (forest_of a)
   step_nodes = ap settle is.merged.forest ∙ sym (settle_by_steps (forest_of a) w consistent is.merged.least)
 
-  pub step_consistent : IsConsistent (forest_of b)
+  step_consistent : IsConsistent (forest_of b)
   step_consistent = subst IsConsistent (sym is.merged.forest) (step-consistent (forest_of a) w consistent is.merged.least)
 
-  pub step_room : a.room.nodes ≤ b.room.nodes
+  step_room : a.room.nodes ≤ b.room.nodes
   step_room = let more : b.room.nodes ≡ a.room.nodes + 1 = ap (λ k. k.nodes) is.merged.gone.room in omega arith
 
-  pub step_forest : ForAnyMapper s a t b (λ old new. settle (store_forest new) ≡ settle (store_forest old))
+  step_forest : ForAnyMapper s a t b (λ old new. settle (store_forest new) ≡ settle (store_forest old))
   step_forest told size fit =
       let f = store_forest (world told size a s) in
       ap settle (is.forest told size fit)
       ∙ sym (settle_by_steps f w (store_consistent (world told size a s) sound consistent) (sym (store_thin (world told size a s) sound) ∙ is.merged.least))
 
-  pub step_frames : settle (frame_forest b t.map) ≡ settle (frame_forest a s.map)
+  step_frames : settle (frame_forest b t.map) ≡ settle (frame_forest a s.map)
   step_frames =
       let f = frame_forest a s.map in
       ap settle is.frames ∙ sym (settle_by_steps f w (frame_consistent a s.map sound consistent) (sym (frame_thin a s.map sound) ∙ is.merged.least))
+
+  pub one_step : AreSettleSteps s a t b
+  one_step = record {
+    nodes = step_nodes;
+    forest = step_forest;
+    frames = step_frames;
+    consistent = step_consistent;
+    counters = (is.merged.gone.made, is.merged.gone.copies);
+    room = step_room;
+    fewer = step_fewer;
+  }
 
 -- Nothing is thin
 module _ (s : Store) (a : Arena) (sound : IsSound a) (settled : IsSettled (forest_of a)) where

@@ -20,17 +20,14 @@ use Rattle.tree_merge.specs.Stepping.{IsCopiedAlone, IsHung}
 use Rattle.tree_merge.proofs.PagesAlone.Copied.{copied_room, copied_rule}
 use Rattle.tree_merge.proofs.PagesAlone.Detached.{links_of}
 use Rattle.page_release.specs.Following.{CanFollow}
-use Rattle.page_release.specs.Homes.{IsUnclean}
+use Rattle.page_release.specs.Homes.{IsUnclean, MayGo}
 use Rattle.page_release.specs.Steps.{ForAnyMapper, IsStoreTied, IsUnpinned, Releases}
 use Rattle.page_release.specs.Translating.{DropsFreed}
-use Rattle.page_release.proofs.NamedNodes.Detached.{detach_forest, detach_kept}
 use Rattle.page_release.proofs.CopiedPages.Parts.{CopiesPage, grown_page}
-use Rattle.page_release.proofs.SeenFrames.Coming.{detach_frames}
 use Rattle.page_release.proofs.SeenFrames.Linking.{linked_frames, stubbed_frames}
 use Rattle.page_release.proofs.NodesGone.Elsewhere.{IsFollowed, StaysPut, can_with, followed_with, retired_put}
 use Rattle.page_release.proofs.LinkedNodes.Grown.{grown_kept, linked_forest, relinked_kept, stubbed_forest}
-use Rattle.page_release.proofs.RetiredPages.OneFollowed.{one_can, one_named, one_retires}
-use Rattle.page_release.proofs.RetiredPages.Parts.{RetiresPage}
+use Rattle.page_release.proofs.RetiredPages.Detached.{detached_can, detached_forest, detached_frames, detached_kept}
 use Rattle.page_release.proofs.TiedStores.Kept.{kept_both}
 use Rattle.page_release.proofs.TiedStores.Named.{unclean_may}
 
@@ -62,40 +59,35 @@ module _ (s : Store) (a b : Arena) (is_small : Bool) (to : CacheId) (to_page : P
   abbrev y : NodeName
   y = Live from from_page
 
-  -- the arenas behind the retired node, and behind the fresh one
-  abbrev c : Arena
-  c = is.detached.between
-
+  -- the arena behind the fresh node
   abbrev m : Arena
   m = is.between
 
+  may : MayGo a (Live to to_page)
+  may = unclean_may a x unclean
+
   put : StaysPut r
-  put = retired_put a c is.detached.retired.node r is.detached.retired.retired
+  put = retired_put a is.detached.between is.detached.retired.node r is.detached.retired.retired
 
   pub copied_can : CanFollow s b r
-  copied_can = can_with s c b r put (one_can s a c to to_page r is.detached.retired sound tied unpinned (unclean_may a x unclean))
+  copied_can = can_with s m b r put (detached_can s a m to to_page Absent r is.detached sound tied unpinned may)
 
   module _ (t : Store) (after : IsFollowed s t b r) (tables : DropsFreed s t) where
-    retired : RetiresPage (Live to to_page) s a t is.detached.between
-    retired = one_retires s a c to to_page r is.detached.retired sound tied unpinned (unclean_may a x unclean) t (followed_with s t c b r put after) tables
+    followed : IsFollowed s t is.between r
+    followed = followed_with s t m b r put after
 
-    detached_kept : Releases [] s a t is.between
-    detached_kept =
-        detach_kept s a tied to to_page Absent (λ _. unclean) is.detached.retired.node (one_named s a c to to_page r is.detached.retired sound tied unpinned (unclean_may a x unclean)) t c r is.detached.retired.retired retired.kept
-        is.detached.fresh is.detached.free refl m is.detached.is is.detached.sound
+    kept : Releases [] s a t is.between
+    kept = detached_kept s a m to to_page Absent r is.detached sound tied unpinned may (λ _. unclean) refl t followed tables
 
-    detached_forest : ForAnyMapper s a t is.between (λ old new. store_forest new ≡ detach (store_forest old) (Live to to_page) None)
-    detached_forest =
-        detach_forest s a tied to to_page Absent (λ _. unclean) is.detached.retired.node (one_named s a c to to_page r is.detached.retired sound tied unpinned (unclean_may a x unclean)) t c r is.detached.retired.retired retired.kept
-        is.detached.fresh is.detached.free refl m is.detached.is is.detached.sound is.detached.retired.vacant retired.rule.forest
+    forest : ForAnyMapper s a t is.between (λ old new. store_forest new ≡ detach (store_forest old) (Live to to_page) None)
+    forest = detached_forest s a m to to_page Absent r is.detached sound tied unpinned may (λ _. unclean) refl t followed tables
 
-    detached_frames : frame_forest is.between t.map ≡ detach (frame_forest a s.map) (Live to to_page) None
-    detached_frames =
-        detach_frames t.map c is.detached.retired.sound.kept is.detached.fresh is.detached.free to to_page is.detached.retired.vacant Absent refl m is.detached.is is.detached.sound.kept.named s.map a retired.rule.frames
+    frames : frame_forest is.between t.map ≡ detach (frame_forest a s.map) (Live to to_page) None
+    frames = detached_frames s a m to to_page Absent r is.detached sound tied unpinned may (λ _. unclean) refl t followed tables
 
     module _ (consistent : IsConsistent (forest_of a)) (pages : ArePages (forest_of a) (Live to to_page) (Live from from_page)) where
       hangs : HangsPage is_small (Live to to_page) (Live from from_page) t is.between b
-      hangs = hangs_page is_small x y t m b is.detached.sound is.sound detached_kept.tied (links_of a m consistent x y pages is.detached.forest) is.hung
+      hangs = hangs_page is_small x y t m b is.detached.sound is.sound kept.tied (links_of a m consistent x y pages is.detached.forest) is.hung
 
       pub one_copies : CopiesPage is_small (Live to to_page) (Live from from_page) s a t b
       one_copies =
@@ -104,10 +96,10 @@ module _ (s : Store) (a b : Arena) (is_small : Bool) (to : CacheId) (to_page : P
             rule = record {
               nodes = nodes;
               forest = λ told size fit.
-                  hangs.forest told size (detached_kept.gives_back told size fit).tied
-                  ∙ ap (λ f. cond is_small (stub f x y) (link f x y)) (detached_forest told size fit);
-              frames = hangs.frames ∙ ap (λ f. cond is_small (stub f x y) (link f x y)) detached_frames;
+                  hangs.forest told size (kept.gives_back told size fit).tied
+                  ∙ ap (λ f. cond is_small (stub f x y) (link f x y)) (forest told size fit);
+              frames = hangs.frames ∙ ap (λ f. cond is_small (stub f x y) (link f x y)) frames;
             };
-            kept = kept_both s a t m t b tied detached_kept hangs.kept;
+            kept = kept_both s a t m t b tied kept hangs.kept;
             grows = grown_page is_small a b x y consistent pages nodes (copied_room a b to to_page from from_page is_small r is);
           }

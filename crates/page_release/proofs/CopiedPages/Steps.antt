@@ -38,7 +38,7 @@ module _ (s : Store) (a b : Arena) (span : Span) (done : ℕ) (step : Step) (is 
       → CopiesPages (leb span.pages small_copy) span.from (span.from_page.0 + done) span.to (span.to_page.0 + done) step.pages s a t b
   step_copies t after tables same consistent pages = elim is.how [
     | inl many ↦ subst (λ u. Copied (leb span.pages small_copy) u step.pages) (sym (same many.0))
-        (subst (λ k. Copied k s step.pages) (sym many.1) (at_once_follows s a b span done step.pages tied consistent many.2))
+        (subst (λ k. Copied k s step.pages) (sym many.1) (at_once_follows s a b span done step.pages sound tied consistent many.2))
     | inr one ↦ subst (Copied (leb span.pages small_copy) t) (sym one.0)
         (copies_one (leb span.pages small_copy) span.from (span.from_page.0 + done) span.to (span.to_page.0 + done) s a t b
         (one_copies s a b (leb span.pages small_copy) span.to (page_after span.to_page done) span.from (page_after span.from_page done) step.released one.1 sound tied unpinned unclean t after tables consistent pages))

@@ -1,25 +1,22 @@
 -- One page is moved, and the store follows.
-use Rattle.std.proofs.Common.{◌≡◌, ◌+◌, ◌≤◌, ℕ, false, Option, refl, arith}
+use Rattle.std.proofs.Common.{◌≡◌, ◌+◌, ◌≤◌, ℕ, false, Option, refl}
 use Rattle.vm_ids.specs.Held.{Held}
 use Rattle.vm_ids.specs.declared.node_name.NodeName.TheVariants.{Live}
 use Rattle.vm_ids.specs.declared.numbers.CacheId.{CacheId}
-use Rattle.vm_ids.specs.declared.numbers.NodeId.{NodeId}
 use Rattle.vm_ids.specs.declared.numbers.PageNo.{PageNo}
 use Rattle.vm_ids.specs.Forest.Laws.Linking.{ArePages}
 use Rattle.vm_ids.specs.Forest.Rules.{move_page}
 use Rattle.vm_ids.specs.Forest.Shape.{IsConsistent}
 use Rattle.local_cache.specs.declared.own_state.OwnState.TheVariants.{Zero}
-use Rattle.local_cache.specs.Arena.{Arena}
+use Rattle.local_cache.specs.Arena.{Arena, HasNode}
 use Rattle.local_cache.specs.Own.{own_of}
-use Rattle.local_cache.specs.Reading.{forest_of}
+use Rattle.local_cache.specs.Reading.{forest_of, name_of}
 use Rattle.local_cache.specs.Sound.{IsSound}
 use Rattle.residency.specs.declared.store.Store.{Store}
 use Rattle.residency.specs.World.{world}
 use Rattle.tree_merge.specs.declared.released.Released.{Released}
 use Rattle.tree_merge.specs.declared.released.Released.TheVariants.{Dropped}
-use Rattle.tree_merge.specs.Copying.{IsEmpty}
-use Rattle.move_pages.specs.Moved.{IsMoved}
-use Rattle.move_pages.proofs.MovedPages.OnePage.{CanMovePage, page_moved, pages, with_moved}
+use Rattle.move_pages.specs.Moved.{IsMoved, IsMovedBare}
 use Rattle.page_release.specs.Following.{followed}
 use Rattle.page_release.specs.Homes.{IsUnclean, is_named}
 use Rattle.page_release.specs.Steps.{IsStoreTied, IsUnpinned}
@@ -51,13 +48,18 @@ module _ (s : Store) (a : Arena) (sound : IsSound a) (tied : IsStoreTied s a) (f
         grows = grown_page a d (Live to to_page) (Live from from_page) consistent are forest room;
       }
 
--- A page whose old node is lone, and none or zeros: the store is as it was.
-module _ (t : Store) (a : Arena) (d s n : NodeId) (to : CacheId) (to_page : PageNo) (from : CacheId) (from_page : PageNo) (can : CanMovePage a d s n to to_page from from_page) (empty : IsEmpty (own_of a d)) (tied : IsStoreTied t a) where
-  pub lone_moves : IsUnpinned t a (Live from from_page) → is_named a from ≡ false
-      → MovesPage (Live to to_page) (Live from from_page) t a t (with_moved a d s n to to_page from from_page)
-  lone_moves out temporary =
-      let b : Arena = with_moved a d s n to to_page from from_page in
-      let one = page_moved a d s n to to_page from from_page can in
-      page_moves t a can.sound tied from from_page to to_page (page_unpinned t a d to to_page can.sound can.held_d can.named_d empty tied) (page_unclean t a d to to_page can.sound can.held_d can.named_d empty) out temporary
-      (Dropped d (own_of a d)) b one.moved can.consistent (pages a d s n to to_page from from_page can) one.forest one.sound (omega (arith, one.room))
-      t (λ told size. nothing_freed (world told size b t) d (own_of a d) empty) (same_freed t t refl refl)
+-- A page whose old node dropped no frame and no slot: the store is as it was.
+module _ (t : Store) (a b : Arena) (from : CacheId) (from_page : PageNo) (to : CacheId) (to_page : PageNo) (is : IsMovedBare a b from from_page to to_page)
+    (sound : IsSound a) (tied : IsStoreTied t a) where
+  held : HasNode a is.node
+  held = (sound.kept.listed.nodes to.0 to_page.0 is.node is.at).0
+
+  named : name_of a is.node ≡ Live to to_page
+  named = (sound.kept.listed.nodes to.0 to_page.0 is.node is.at).1
+
+  pub bare_moves : IsConsistent (forest_of a) → IsUnpinned t a (Live from from_page) → is_named a from ≡ false → MovesPage (Live to to_page) (Live from from_page) t a t b
+  bare_moves consistent out temporary =
+      page_moves t a sound tied from from_page to to_page
+      (page_unpinned t a is.node to to_page sound held named is.empty tied) (page_unclean t a is.node to to_page sound held named is.empty) out temporary
+      (Dropped is.node (own_of a is.node)) b is.alone.moved consistent is.pages is.alone.forest is.alone.sound is.alone.room
+      t (λ told size. nothing_freed (world told size b t) is.node (own_of a is.node) is.empty) (same_freed t t refl refl)

@@ -5,6 +5,7 @@ use Rattle.vm_ids.specs.declared.node_name.NodeName.{NodeName}
 use Rattle.vm_ids.specs.declared.node_name.NodeName.TheVariants.{Live, Working}
 use Rattle.vm_ids.specs.declared.numbers.NodeId.{NodeId}
 use Rattle.vm_ids.specs.Forest.Nodes.{is_live}
+use Rattle.vm_ids.specs.Forest.Settling.{settle_step}
 use Rattle.vm_ids.proofs.Forest.Laws.Settling.{thin_is_working}
 use Rattle.frame_pool.specs.Pool.{is_pinned}
 use Rattle.global_map.specs.Pairs.{frame_of}
@@ -21,6 +22,7 @@ use Rattle.local_cache.proofs.Changes.Granted.{grants-tables_with}
 use Rattle.local_cache.proofs.Changes.Locked.{locks-tables_with}
 use Rattle.local_cache.proofs.Tables.Sizes.{sizes_by}
 use Rattle.residency.specs.declared.store.Store.{Store}
+use Rattle.residency.specs.Seeing.{frame_forest}
 use Rattle.residency.specs.StoreForest.{store_forest}
 use Rattle.residency.specs.World.{is_clean, own_page, world}
 use Rattle.residency.proofs.Worlds.Telling.{tells}
@@ -31,7 +33,7 @@ use Rattle.tree_merge.proofs.OtherPages.{settle_step-by}
 use Rattle.tree_merge.proofs.Releases.{ReleasedAt, merged_at}
 use Rattle.page_release.specs.Following.{CanFollow, followed}
 use Rattle.page_release.specs.Homes.{KeepsHomes}
-use Rattle.page_release.specs.Steps.{ForAnyMapper, GivesBack, IsSettleStep, IsStoreTied, IsWorkingUnpinned, Releases, PinnedStayNamed}
+use Rattle.page_release.specs.Steps.{ForAnyMapper, GivesBack, IsStoreTied, IsWorkingUnpinned, Releases, PinnedStayNamed}
 use Rattle.page_release.specs.Translating.{DropsFreed}
 use Rattle.page_release.proofs.TiedStores.Backed.{HomesStay, homeless}
 use Rattle.page_release.proofs.TiedStores.Homes.{others_kept, others_stay}
@@ -39,6 +41,13 @@ use Rattle.page_release.proofs.NodesGone.Passed.{gone_own}
 use Rattle.page_release.proofs.NodesGone.Followed.{IsLoose, IsPassedUnclean, can_follow}
 use Rattle.page_release.proofs.NodesGone.Retired.{loose_frame, steps_back, steps_page}
 use Rattle.page_release.proofs.SeenFrames.Leaving.{merged_frames}
+
+-- One step of settle was done, in the nodes and in the store.
+pub record IsSettleStep (s : Store) (a : Arena) (t : Store) (b : Arena) : Type 0 where
+  pub released : Released
+  pub merged : IsMerged a b released
+  pub forest : ForAnyMapper s a t b (λ old new. store_forest new ≡ settle_step (store_forest old) (name_of a merged.node))
+  pub frames : frame_forest b t.map ≡ settle_step (frame_forest a s.map) (name_of a merged.node)
 
 module _ (a b : Arena) (sound : IsSound a) (r : Released) (is : IsMerged a b r) (rel : IsReleased a b r) where
   merge_loose : (s : Store) → is_pinned s.frames (frame_of s.map is.node.0) ≡ false → (q : Released) → ReleasedAt a is.node q → IsLoose s.frames s.map q

@@ -101,9 +101,6 @@ module _ (w : World) (b : Arena) (from to : NodeId) (tied : IsTied w) (went : We
     at : IsHome w (frame_of w.map from.0) from
     at = resident_home w from tied resident
 
-    abbrev rekeyed : World
-    rekeyed = record w { caches = b; map = set w.map (frame_of w.map from.0) (Some to) }
-
     none_to : bound_times w.map to.0 ≡ 0
     none_to = tied.placed.bound to ∙ ap (λ (x : OwnState). bit (is_resident x)) absent
 

@@ -1,23 +1,21 @@
--- One page is retired that is none or zeros, and hangs on nothing or has children: the store is as
--- it was.
-use Rattle.std.proofs.Common.{◌≡◌, ◌<◌, true, false, length, Option, Some, None, is_some, refl, sym, ap, ◌∙◌, subst, inl, inr, arith}
+-- One page is retired that is none or zeros: the store is as it was.
+use Rattle.std.proofs.Common.{◌≡◌, ℕ, zero, suc, ◌<◌, true, false, length, Option, Some, None, is_some, refl, sym, ap, ◌∙◌, subst, inl, inr, arith}
 use Rattle.std.proofs.lemmas.Bool.{false≢true}
 use Rattle.vm_ids.specs.declared.node_name.NodeName.TheVariants.{Live}
 use Rattle.vm_ids.specs.declared.numbers.CacheId.{CacheId}
 use Rattle.vm_ids.specs.declared.numbers.NodeId.{NodeId}
 use Rattle.vm_ids.specs.declared.numbers.PageNo.{PageNo}
+use Rattle.vm_ids.specs.Forest.Nodes.{child_count}
 use Rattle.vm_ids.proofs.Places.{true_below}
 use Rattle.local_cache.specs.declared.own_state.OwnState.{OwnState}
-use Rattle.local_cache.specs.Arena.{Arena, Cell, HasNode, as_working, find, without}
+use Rattle.local_cache.specs.Arena.{Arena, Cell, HasNode, find}
 use Rattle.local_cache.specs.Own.{is_resident, own_of}
-use Rattle.local_cache.specs.Reading.{name_of}
+use Rattle.local_cache.specs.Reading.{forest_of, name_of}
 use Rattle.local_cache.specs.Sound.{IsSound}
 use Rattle.residency.specs.declared.store.Store.{Store}
 use Rattle.residency.specs.World.{World, is_clean, world}
-use Rattle.tree_merge.specs.declared.released.Released.TheVariants.{Dropped, Nothing}
 use Rattle.tree_merge.specs.Copying.{IsEmpty}
-use Rattle.tree_merge.proofs.RetiredPages.OnePage.{CanRetirePage, page_alone}
-use Rattle.tree_merge.proofs.RetiredPages.SharedPage.{CanSharePage, shared_alone}
+use Rattle.tree_merge.specs.Stepping.{IsRetiredBare}
 use Rattle.page_release.specs.Following.{without_page}
 use Rattle.page_release.specs.Homes.{IsUnclean}
 use Rattle.page_release.specs.Steps.{IsStoreTied, IsUnpinned}
@@ -67,24 +65,27 @@ module _ (t : Store) (a : Arena) (d : NodeId) (cache : CacheId) (page : PageNo) 
       go None none = ap is_clean (gone_own a n none)
       go (Some k) some = ap (λ m. is_clean (own_of a m)) (is_page t a d cache page sound held named n (ap is_some some) name) ∙ empty_clean (own_of a d) empty
 
--- It has neither parent nor children, and goes
+-- It is retired alone
 
-module _ (t : Store) (a : Arena) (d : NodeId) (cache : CacheId) (page : PageNo) (can : CanRetirePage a d cache page) (empty : IsEmpty (own_of a d)) where
-  -- over any caches
-  pub page_followed : (c : Arena) → IsFollowed t t c (Dropped d (own_of a d))
-  page_followed c told size = nothing_freed (world told size c t) d (own_of a d) empty
+module _ (t : Store) (a b : Arena) (cache : CacheId) (page : PageNo) (is : IsRetiredBare a b cache page) (sound : IsSound a) where
+  empty : IsEmpty (own_of a is.alone.node)
+  empty = is.empty is.alone.node is.alone.at
 
-  pub page_goes : IsStoreTied t a → RetiresPage (Live cache page) t a t (without a d)
-  page_goes tied =
-      one_retires t a (without a d) cache page (Dropped d (own_of a d)) (page_alone a d cache page can) can.sound tied
-      (page_unpinned t a d cache page can.sound can.held can.named empty tied) (unclean_may a (Live cache page) (page_unclean t a d cache page can.sound can.held can.named empty))
-      t (page_followed (without a d)) (same_freed t t refl refl)
+  held : HasNode a is.alone.node
+  held = (sound.kept.listed.nodes cache.0 page.0 is.alone.node is.alone.at).0
 
--- It has children, and becomes a working node
+  named : name_of a is.alone.node ≡ Live cache page
+  named = (sound.kept.listed.nodes cache.0 page.0 is.alone.node is.alone.at).1
 
-module _ (t : Store) (a : Arena) (d : NodeId) (cache : CacheId) (page : PageNo) (can : CanSharePage a d cache page) (empty : IsEmpty (own_of a d)) where
-  pub page_stays : IsStoreTied t a → RetiresPage (Live cache page) t a t (as_working a d)
-  page_stays tied =
-      one_retires t a (as_working a d) cache page Nothing (shared_alone a d cache page can) can.sound tied
-      (page_unpinned t a d cache page can.sound can.held can.named empty tied) (unclean_may a (Live cache page) (page_unclean t a d cache page can.sound can.held can.named empty))
-      t (λ told size. refl) (same_freed t t refl refl)
+  followed : IsFollowed t t b is.released
+  followed = go (child_count (forest_of a) (name_of a is.alone.node)) refl
+    where
+      go : (k : ℕ) → child_count (forest_of a) (name_of a is.alone.node) ≡ k → IsFollowed t t b is.released
+      go zero e = subst (IsFollowed t t b) (sym (is.alone.retired.leaf e).0) (λ told size. nothing_freed (world told size b t) is.alone.node (own_of a is.alone.node) empty)
+      go (suc k) e = subst (IsFollowed t t b) (sym (is.alone.retired.parent (omega (arith, e))).0) (λ told size. refl)
+
+  pub bare_retires : IsStoreTied t a → RetiresPage (Live cache page) t a t b
+  bare_retires tied =
+      one_retires t a b cache page is.released is.alone sound tied
+      (page_unpinned t a is.alone.node cache page sound held named empty tied) (unclean_may a (Live cache page) (page_unclean t a is.alone.node cache page sound held named empty))
+      t followed (same_freed t t refl refl)

@@ -29,7 +29,7 @@ module _ (s : Store) (a b : Arena) (extent : Extent) (done : ℕ) (step : Step) 
 
   step_retires : (t : Store) → IsFollowed s t b step.released → DropsFreed s t → (step.released ≡ Nothing → t ≡ s) → RetiresPages extent.cache (extent.first.0 + done) step.pages s a t b
   step_retires t after tables same = elim is.how [
-    | inl many ↦ subst (λ u. RetiresPages extent.cache (extent.first.0 + done) step.pages s a u b) (sym (same many.0)) (at_once_follows s a b extent done step.pages tied many.1)
+    | inl many ↦ subst (λ u. RetiresPages extent.cache (extent.first.0 + done) step.pages s a u b) (sym (same many.0)) (at_once_follows s a b extent done step.pages sound tied many.1)
     | inr one ↦ subst (λ k. RetiresPages extent.cache (extent.first.0 + done) k s a t b) (sym one.0)
         (retires_one extent.cache (extent.first.0 + done) s a t b
         (one_retires s a b extent.cache (page_after extent.first done) step.released one.1 sound tied unpinned may t after tables))

@@ -154,9 +154,6 @@ pub record OnlyTables (s t : Store) : Type 0 where
   pub is : t ≡ record s { tables = t.tables }
   pub places : length t.tables ≡ length s.tables
 
-pub tables_same : (s : Store) → OnlyTables s s
-tables_same s = record { is = refl; places = refl }
-
 pub tables_mapped : (s t : Store) (h : Option Entry → Option Entry) → t ≡ record s { tables = map h s.tables } → OnlyTables s t
 tables_mapped s t h e = record {
   is = e ∙ ap (λ (l : List (Option Entry)). record s { tables = l }) (sym (ap (λ (r : Store). r.tables) e));

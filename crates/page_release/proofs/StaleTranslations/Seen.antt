@@ -25,7 +25,6 @@ use Rattle.local_cache.specs.Sound.{IsSound}
 use Rattle.local_cache.proofs.NewCache.FoundPages.{some_of}
 use Rattle.local_cache.proofs.Forest.Reading.{IsNode-forest_of}
 use Rattle.local_cache.proofs.Forest.ReadingBy.{bare-of, page-at}
-use Rattle.page_tables.specs.Translations.{IsFrame}
 use Rattle.residency.specs.declared.store.Store.{Store}
 use Rattle.residency.specs.Seeing.{IsAlone, frame_forest, own_frame, seen_in}
 use Rattle.residency.specs.World.{page_by, world}
@@ -114,10 +113,6 @@ module _ (s : Store) (a : Arena) (tied : IsStoreTied s a) where
   own_found n (Some f) is =
       let at = home (world None None a s) f.0 n tied is.0 is.1 in
       in_frame (own_of a n) (frame_of s.map n.0) at.resident ∙ ap Some at.place
-
-  -- there are places for its translations
-  pub is_within : (f : ℕ) → f < length s.map → IsFrame s.tables f
-  is_within f low = omega (arith, low, tied.fitted.places_frames, tied.fitted.map_frames)
 
   module _ (sound : IsSound a) where
     pub own_is : (n : NodeId) → HasNode a n → (x : NodeName) → name_of a n ≡ x → (found : Option FrameId) → IsFound s.map n found → own_in a s.map x ≡ number_of found

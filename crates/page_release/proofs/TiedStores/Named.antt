@@ -8,7 +8,7 @@ use Rattle.vm_ids.specs.declared.numbers.PageNo.{PageNo}
 use Rattle.vm_ids.specs.declared.numbers.SegId.{SegId}
 use Rattle.local_cache.specs.declared.home.Home.{Home}
 use Rattle.local_cache.specs.Arena.{Arena, Table, table_of}
-use Rattle.local_cache.specs.Whole.{SameCaches, segment_of}
+use Rattle.local_cache.specs.Whole.{SameCaches}
 use Rattle.local_cache.specs.Home.{home_named}
 use Rattle.residency.specs.declared.store.Store.{Store}
 use Rattle.residency.specs.World.{world}
@@ -41,10 +41,6 @@ module _ (a : Arena) (cache : CacheId) where
 by_segment : (o : Option Table) → is_some (option_and_then (λ (t : Table). t.segment) o) ≡ is_some (option_and_then (λ (s : Option SegId). s) (option_map (λ (t : Table). t.segment) o))
 by_segment None = refl
 by_segment (Some t) = refl
-
--- a cache is named, or temporary, as its segment tells
-pub named_is : (a : Arena) (cache : CacheId) (segment : Option SegId) → segment_of a cache.0 ≡ Some segment → is_named a cache ≡ is_some segment
-named_is a cache segment is = by_segment (table_of a cache.0) ∙ ap (λ (o : Option (Option SegId)). is_some (option_and_then (λ s. s) o)) is
 
 -- and is so still
 module _ (a b : Arena) (same : SameCaches a b) (cache : CacheId) where

@@ -1,8 +1,10 @@
 -- Stubs that are handed to another node, one after another.
-use Rattle.std.proofs.Common.{◌≡◌, ◌⊎◌, ℕ, zero, suc, ◌<◌, List, [], ◌∷◌, ◌++◌, take, drop, length, Option, Some, None, refl, sym, ap, ◌∙◌, subst, inl, inr, arith}
+use Rattle.std.proofs.Common.{◌≡◌, ◌⊎◌, ℕ, zero, suc, ◌<◌, List, [], ◌∷◌, ◌++◌, take, drop, length, true, Option, Some, None, refl, sym, ap, ◌∙◌, subst, inl, inr, arith}
 use Rattle.vm_ids.specs.declared.numbers.NodeId.{NodeId}
 use Rattle.local_cache.specs.declared.links.Links.{Links}
+use Rattle.local_cache.specs.declared.links.Neighbours.{Neighbours}
 use Rattle.local_cache.specs.Arena.{Arena, cell, HasNode, with_links}
+use Rattle.local_cache.specs.NodeCells.{neighbours_of}
 use Rattle.local_cache.specs.Reading.{stubs_of}
 use Rattle.local_cache.specs.Threads.{head_or, last_or, IsStub, Row}
 use Rattle.local_cache.specs.Sound.{IsKept, ◌∈◌}
@@ -83,14 +85,21 @@ module _ (a b : Arena) (kept : IsKept a) (from to : NodeId) (hf : HasNode a from
   new : (at_place (stubs_of a from) i short).0 ∈ take i (stubs_of a from) → ⊥
   new j = once-apart (take i (stubs_of a from)) ((at_place (stubs_of a from) i short).0 ∷ drop (suc i) (stubs_of a from)) (subst Once parts once) (at_place (stubs_of a from) i short).0 j (inl refl)
 
-  pub turn : (c : Arena) (k : NodeId) (l : Links) (o : Option NodeId) → o ≡ head_or (drop i (stubs_of a from)) None → o ≡ Some k → l ≡ (cell b k).links → c ≡ with_links b k (record l { parent = Some to })
-      → Handed a c (take (suc i) (stubs_of a from)) to × (l.behind ≡ head_or (drop (suc i) (stubs_of a from)) None)
-  turn c k l o o_is is l_is c_is =
+  still_stub : (cell b (at_place (stubs_of a from) i short).0).links.by_stub ≡ true
+  still_stub = ap (λ m. m.by_stub) (h.rest (at_place (stubs_of a from) i short).0 new) ∙ stub.by_stub
+
+  pub turn : (c : Arena) (k : NodeId) (m : Neighbours) (o : Option NodeId) → o ≡ head_or (drop i (stubs_of a from)) None → o ≡ Some k → m ≡ neighbours_of (cell b k).links
+      → c ≡ with_links b k (record (cell b k).links { parent = Some to; by_stub = true; before = m.before; behind = m.behind })
+      → Handed a c (take (suc i) (stubs_of a from)) to × (m.behind ≡ head_or (drop (suc i) (stubs_of a from)) None)
+  turn c k m o o_is is m_is c_is =
       let k_is : (at_place (stubs_of a from) i short).0 ≡ k = (let two : Some (at_place (stubs_of a from) i short).0 ≡ Some k = sym next_is ∙ sym o_is ∙ is in cc two) in
       let step = handed_more a b (take i (stubs_of a from)) (at_place (stubs_of a from) i short).0 to held_y new h in
+      let by_stub : (cell b k).links.by_stub ≡ true = subst (λ q. (cell b q).links.by_stub ≡ true) k_is still_stub in
       let same : c ≡ with_links b (at_place (stubs_of a from) i short).0 (record (cell b (at_place (stubs_of a from) i short).0).links { parent = Some to }) =
-      c_is ∙ ap (λ m. with_links b k (record m { parent = Some to })) l_is ∙ ap (λ m. with_links b m (record (cell b m).links { parent = Some to })) (sym k_is) in
+      c_is ∙ ap (λ (n : Neighbours). with_links b k (record (cell b k).links { parent = Some to; by_stub = true; before = n.before; behind = n.behind })) m_is
+      ∙ ap (λ t. with_links b k (record (cell b k).links { parent = Some to; by_stub = t })) (sym by_stub)
+      ∙ ap (λ q. with_links b q (record (cell b q).links { parent = Some to })) (sym k_is) in
       let at_c : Handed a c (take i (stubs_of a from) ++ (at_place (stubs_of a from) i short).0 ∷ []) to = subst (λ x. Handed a x (take i (stubs_of a from) ++ (at_place (stubs_of a from) i short).0 ∷ []) to) (sym same) step in (
         subst (λ zs. Handed a c zs to) (sym (at_place (stubs_of a from) i short).2) at_c,
-        ap (λ m. m.behind) l_is ∙ ap (λ m. (cell b m).links.behind) (sym k_is) ∙ ap (λ m. m.behind) (h.rest (at_place (stubs_of a from) i short).0 new) ∙ stub.has_behind,
+        ap (λ (n : Neighbours). n.behind) m_is ∙ ap (λ q. (cell b q).links.behind) (sym k_is) ∙ ap (λ l. l.behind) (h.rest (at_place (stubs_of a from) i short).0 new) ∙ stub.has_behind,
       )

@@ -52,13 +52,15 @@ module _ {V : Type 0} (S : Ghosts V) where
   pub said_first : (rs : List (Stretch V)) → AreInOrder S 0 rs → (n at : ℕ) → IsFirstBehind rs n at → at ≡ 0 → said S rs n ≡ None
   said_first rs order n at place e = said_gap rs order n at place (λ k d last. absurd (omega arith))
 
-  -- the same where the last one that begins there is known
-  pub said_last : (rs : List (Stretch V)) → AreInOrder S 0 rs → (n at : ℕ) (e : Stretch V) → IsFirstBehind rs n at → 0 < at → is_in (get_or rs (at - 1) e) n ≡ false → said S rs n ≡ None
-  said_last rs order n at e place some out = said_gap rs order n at place (λ k d last.
-      let index : k ≡ at - 1 = omega arith in
-      let less : k < length rs = omega (arith, place.within) in
-      let same : get_or rs k d ≡ get_or rs (at - 1) e = any_default rs k d e less ∙ ap (λ j. get_or rs j e) index in
-      ap (λ (r : Stretch V). is_in r n) same ∙ out)
+  -- the same where the last one that begins there hasn't the number
+  pub said_last : (rs : List (Stretch V)) → AreInOrder S 0 rs → (n k : ℕ) → IsFirstBehind rs n (k + 1) → ¬ HasAt rs n k → said S rs n ≡ None
+  said_last rs order n k place out = said_gap rs order n (k + 1) place (λ j d last. elim (cases_Bool (is_in (get_or rs j d) n)) [
+    | inl h ↦
+        let less : k < length rs = omega (arith, place.within) in
+        let same : get_or rs k d ≡ get_or rs j d = ap (λ q. get_or rs q d) (omega arith) in
+        absurd (out (record { within = less; has = λ e. ap (λ (r : Stretch V). is_in r n) (any_default rs k e d less ∙ same) ∙ h }))
+    | inr h ↦ h
+  ])
 
   -- the stretch at a place where the number is has it, and says what the stretches say
   pub stretch_at_place : (rs : List (Stretch V)) → AreInOrder S 0 rs → (n at : ℕ) (d : Stretch V) → HasAt rs n at → IsStretchWith S rs n (get_or rs at d)

@@ -13,6 +13,22 @@ module _ {V : Type 0} where
   together_has : (rs : List (Stretch V)) (first count : ℕ) → 0 < count → (c : AreTogether rs first count) → HasAt rs first c.at
   together_has rs first count some c = record { within = c.within; has = λ d. within (get_or rs c.at d) first (c.from d) (omega (arith, c.to d)) }
 
+  -- the numbers of a stretch are in one
+  pub part_together : (rs : List (Stretch V)) (first count at : ℕ) → IsPart rs first count at → AreTogether rs first count
+  part_together rs first count at part = record {
+    at = at;
+    within = part.within;
+    from = λ d. omega (arith, part.first d);
+    to = λ d. omega (arith, part.first d, part.count d);
+  }
+
+  -- the stretch of some numbers has the first one
+  pub part_has : (rs : List (Stretch V)) (first count at : ℕ) → 0 < count → IsPart rs first count at → HasAt rs first at
+  part_has rs first count at some part = record {
+    within = part.within;
+    has = λ d. within (get_or rs at d) first (omega (arith, part.first d)) (omega (arith, part.first d, part.count d));
+  }
+
   -- one number that is in a stretch
   pub together_one : (rs : List (Stretch V)) (n at : ℕ) → HasAt rs n at → AreTogether rs n 1
   together_one rs n at has = record {
@@ -39,6 +55,11 @@ module _ {V : Type 0} (S : Ghosts V) where
       let same : c.at ≡ at = one_place S rs order first c.at at (together_has rs first count some c) has r in
       let far : first + count ≤ (get_or rs at r).first + (get_or rs at r).count = subst (λ (k : ℕ). first + count ≤ (get_or rs k r).first + (get_or rs k r).count) same (c.to r) in
       subst (λ (q : Stretch V). first + count ≤ q.first + q.count) (sym is) far
+
+  -- no other stretch has the first number of one
+  pub part_is : (rs : List (Stretch V)) → AreInOrder S 0 rs → (first count at other : ℕ) → Stretch V → 0 < count → IsPart rs first count at → HasAt rs first other → IsPart rs first count other
+  part_is rs order first count at other d some part has =
+      subst (IsPart rs first count) (one_place S rs order first at other (part_has rs first count at some part) has d) part
 
   -- something is said of the first of them
   pub together_said : (rs : List (Stretch V)) → AreInOrder S 0 rs → (first count : ℕ) → 0 < count → AreTogether rs first count → IsSome (said S rs first)

@@ -87,14 +87,6 @@ module _ (a : Arena) (sound : IsSound a) (n : NodeId) (hn : HasNode a n) where
       go [] (s ∷ ss) o is k count none = absurd (let clash : None ≡ Some s = none ∙ is in cc clash)
       go (t ∷ ts) ss o is k count none = absurd (let clash : None ≡ Some t = none in cc clash)
 
-  pub first_some : (y : NodeId) → Some y ≡ first_child a n → 0 < child_count (forest_of a) (name_of a n)
-  first_some y e = subst (λ k. 0 < k) (sym counted) (go (cell a n).tree (stubs_of a n) (cell a n).links.first (sound.kept.threaded n hn).first (cell a n).links.stubs (sound.kept.threaded n hn).count e)
-    where
-      go : (ts ss : List NodeId) (o : Option NodeId) → o ≡ head_or ss None → (k : ℕ) → k ≡ length ss → Some y ≡ option_or (slice_get ts 0) o → 0 < length ts + k
-      go [] [] o is k count some = absurd (let clash : Some y ≡ None = some ∙ is in cc clash)
-      go [] (s ∷ ss) o is k count some = omega arith
-      go (t ∷ ts) ss o is k count some = omega arith
-
   -- the first child, where there is one
   pub first_is : first ((node (forest_of a) (name_of a n)).tree ++ (node (forest_of a) (name_of a n)).stubs) ≡ option_map (name_of a) (first_child a n)
   first_is = ap first (ap (λ ts. ts ++ (node (forest_of a) (name_of a n)).stubs) tree_is ∙ ap (λ ss. map (name_of a) (cell a n).tree ++ ss) stubs_is)

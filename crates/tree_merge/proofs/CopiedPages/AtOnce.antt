@@ -1,49 +1,34 @@
 -- Pages whose nodes are alike can be copied at once.
-use Rattle.std.proofs.Common.{◌≡◌, ℕ, ◌+◌, ◌-◌, ◌<◌, ◌≤◌, ◌^◌, List, [], ◌∷◌, Some, None, IsSome, refl, sym, ap, ◌∙◌, subst, arith, inl, inr}
-use Rattle.std.specs.Prelude.{slice_get}
-use Rattle.vm_ids.specs.declared.command.Span.{Span}
+use Rattle.std.specs.Prelude.{IfSome, slice_get}
+use Rattle.std.specs.List.{cons_option}
+use Rattle.std.proofs.Common.{◌≡◌, ℕ, zero, suc, ◌+◌, ◌<◌, ◌≤◌, List, [], ◌∷◌, cond, Option, Some, None, IsSome, refl, sym, ap, ◌∙◌, subst, arith, inl, inr}
 use Rattle.vm_ids.specs.declared.node_name.NodeName.{NodeName}
+use Rattle.vm_ids.specs.declared.node_name.NodeName.TheVariants.{Live}
 use Rattle.vm_ids.specs.declared.numbers.CacheId.{CacheId}
 use Rattle.vm_ids.specs.declared.numbers.NodeId.{NodeId}
+use Rattle.vm_ids.specs.declared.numbers.PageNo.{PageNo}
 use Rattle.vm_ids.specs.Forest.Commands.{firsts, page_name, page_pairs, seconds}
 use Rattle.vm_ids.specs.Forest.Laws.Commands.{CanCopy}
 use Rattle.vm_ids.specs.Forest.NameLists as names
 use Rattle.vm_ids.specs.Forest.Nodes.{IsNode}
 use Rattle.vm_ids.proofs.Forest.Laws.Ranges.{pairs_fill_destinations, pairs_read_sources, ranges_hold_their_pages}
-use Rattle.local_cache.specs.Arena.{Arena, cell, node_at}
+use Rattle.local_cache.specs.declared.own_state.OwnState.{OwnState}
+use Rattle.local_cache.specs.Arena.{Arena, Cell, NodesStay, cell, find, node_at, put}
 use Rattle.local_cache.specs.Many.{AreNamed, HaveNodes, HaveNone}
-use Rattle.local_cache.specs.ManyNodes.{next_node}
+use Rattle.local_cache.specs.ManyNodes.{next_if, next_node}
+use Rattle.local_cache.specs.NodeCells.{exchanged, renewed, tree_of, with_child}
+use Rattle.local_cache.specs.OnCells.{on_cells}
 use Rattle.local_cache.specs.Reading.{forest_of, name_of}
-use Rattle.local_cache.specs.Sound.{IsSound}
+use Rattle.local_cache.specs.Sound.{IsSound, ◌∈◌}
+use Rattle.local_cache.proofs.Changes.SameNodes.{id_cases}
 use Rattle.local_cache.proofs.Whole.LivePages.{page_there}
-use Rattle.tree_merge.specs.Copyable.{AreReady, IsHistory}
-use Rattle.tree_merge.specs.Copying.{AreApart, CanCopyFirst, CanCopyMany, CanCopyMore, IsCopiedAtOnce, copied_first, copied_more, page_after, renewed}
-use Rattle.tree_merge.proofs.AlikeNodes.{alike_named, alike_trees, no_children}
-use Rattle.tree_merge.proofs.CopiedPages.OnePage.{not_free}
-use Rattle.tree_merge.proofs.CopiedPages.OneByOne.{first_copied, history_held, more_copied, rows_apart}
-use Rattle.tree_merge.proofs.CopiedPages.Stretches.{held_renewed, made_renewed, room_renewed}
-
--- Tree children
-
--- a tree child that is the only one, apart from the sources
-pub only_history : (ms : List NodeId) (h s : NodeId) (count : ℕ) → slice_get ms 0 ≡ Some h → slice_get ms 1 ≡ None → AreApart h s count → h.0 + count ≤ 2 ^ 64 → IsHistory ms s count
-only_history [] h s count first second apart short = tt
-only_history (m ∷ []) h s count first second apart short =
-    let same : h ≡ m = cc in
-    (subst (λ n. AreApart n s count) same apart, subst (λ n. n.0 + count ≤ 2 ^ 64) same short)
-only_history (m ∷ k ∷ ms) h s count first second apart short = absurd (cc second)
-
-record OneHistory (ms : List NodeId) (h s : NodeId) (count : ℕ) : Type 0 where
-  pub tree : ms ≡ h ∷ []
-  pub apart : AreApart h s count
-  pub short : h.0 + count ≤ 2 ^ 64
-
-one_history : (ms : List NodeId) (h s : NodeId) (count : ℕ) → IsHistory ms s count → slice_get ms 0 ≡ Some h → OneHistory ms h s count
-one_history [] h s count is first = absurd (cc first)
-one_history (m ∷ []) h s count is first =
-    let same : m ≡ h = cc in
-    record { tree = ap (λ n. n ∷ []) same; apart = subst (λ n. AreApart n s count) same is.0; short = subst (λ n. n.0 + count ≤ 2 ^ 64) same is.1 }
-one_history (m ∷ k ∷ ms) h s count is first = absurd is
+use Rattle.tree_merge.specs.Copyable.{AreCopyable, history, history_of}
+use Rattle.tree_merge.specs.Copying.{copied_many, left_many, renewed_many}
+use Rattle.tree_merge.specs.Stepping.{AreCopied}
+use Rattle.tree_merge.proofs.AlikeNodes.{alike_named, no_children}
+use Rattle.tree_merge.proofs.ChildLists.TreeLists.{equal, exchanged-in, place_other, place_same, unequal}
+use Rattle.tree_merge.proofs.CopiedPages.InTurn.{copied_at_once}
+use Rattle.tree_merge.proofs.CopiedPages.Rows.{apart_back}
 
 -- The pages of a copy
 
@@ -67,94 +52,132 @@ module _ (a : Arena) (sound : IsSound a) (to from : CacheId) (q p most : ℕ) (c
       let first : p + 0 ≡ p = omega arith in
       page_there a sound from (record { 0 = p }) (subst (λ i. IsNode (forest_of a) (page_name from i)) first (can.sources _ (read 0 some)).0)
 
-  -- nodes of destinations and sources are apart by their names
-  named_apart : (d s : NodeId) (count : ℕ) → count ≤ most → AreNamed a d to (record { 0 = q }) count → AreNamed a s from (record { 0 = p }) count → AreApart d s count
-  named_apart d s count few destinations sources i low j high e =
-      let same : page_name to (q + i) ≡ page_name from (p + j) = sym (destinations i low).1 ∙ ap (name_of a) e ∙ (sources j high).1 in
-      (can.sources _ (read j (omega arith))).2 (subst (λ x. names.◌∈◌ x (firsts (page_pairs from p to q most))) same (filled i (omega arith)))
+-- Tree children
 
-module _ {a : Arena} {span : Span} {done : ℕ} {d s : NodeId} {count : ℕ} (ready : AreReady a span done d s count) where
-  pub destinations : AreNamed a d span.to (page_after span.to_page done) count
-  destinations = alike_named a d count ready.copyable.renewable.lone.alike span.to (page_after span.to_page done)
-      (ready.sound.kept.listed.nodes span.to.0 (span.to_page.0 + done) d ready.destination).1
+only_child : (ms : List NodeId) (c : NodeId) → slice_get ms 0 ≡ Some c → slice_get ms 1 ≡ None → ms ≡ c ∷ []
+only_child [] c first second = absurd (cc first)
+only_child (m ∷ []) c first second = let same : m ≡ c = cc first in ap (λ n. n ∷ []) same
+only_child (m ∷ k ∷ ms) c first second = absurd (cc second)
 
-  sources : AreNamed a s span.from (page_after span.from_page done) count
-  sources = alike_named a s count ready.copyable.alike span.from (page_after span.from_page done)
-      (ready.sound.kept.listed.nodes span.from.0 (span.from_page.0 + done) s ready.source).1
+-- what is left of an only child
+left_child : (d c : NodeId) (k : ℕ) → exchanged (next_node d k) None (next_node c k ∷ []) ≡ tree_of (next_if (history d (Some c)) k) None
+left_child d c k = elim (id_cases c d) [
+  | inl e ↦
+      ap (λ (o : Option NodeId). cons_option o []) (place_same (next_node d k) (next_node c k) None (ap (λ n. next_node n k) e))
+      ∙ ap (λ t. tree_of (next_if (cond t None (Some c)) k) None) (sym (equal c.0 d.0 (ap (λ (n : NodeId). n.0) e)))
+  | inr ne ↦
+      ap (λ (o : Option NodeId). cons_option o []) (place_other (next_node d k) (next_node c k) None (λ e. let same : c.0 + k ≡ d.0 + k = ap (λ (n : NodeId). n.0) e in ne (λ i. record { 0 = less k c.0 d.0 same i })))
+      ∙ ap (λ t. tree_of (next_if (cond t None (Some c)) k) None) (sym (unequal c.0 d.0 (λ e. ne (λ i. record { 0 = e i }))))
+]
+  where
+    less : (k m n : ℕ) → m + k ≡ n + k → m ≡ n
+    less k m n e = omega arith
 
-  module _ (new : NodeId) (free : HaveNone a new count) where
-    abbrev after : Arena
-    after = renewed a d new span.to (page_after span.to_page done) count
+-- the tree child of a source that is left, and of the one so many numbers behind it
+left_tree : (d : NodeId) (o : Option NodeId) (ms : List NodeId) (k : ℕ) → slice_get ms 0 ≡ next_if o k → slice_get ms 1 ≡ None
+    → exchanged (next_node d k) None ms ≡ tree_of (next_if (history d o) k) None
+left_tree d None ms k first second = ap (exchanged (next_node d k) None) (no_children ms first)
+left_tree d (Some c) ms k first second = ap (exchanged (next_node d k) None) (only_child ms (next_node c k) first second) ∙ left_child d c k
 
-    many : CanCopyMany a d s new span.to (page_after span.to_page done) span.from (page_after span.from_page done) count
-    many = record {
-      sound = ready.sound;
-      destinations = destinations;
-      lone = ready.copyable.renewable.lone.lone;
-      empty = ready.copyable.renewable.lone.empty;
-      sources = sources;
-      apart = named_apart a ready.sound span.to span.from (span.to_page.0 + done) (span.from_page.0 + done) (span.pages - done) ready.can d s count ready.few destinations sources;
-      free = free;
-    }
+-- Many pages
 
-    -- what is there, and isn't renewed, is there still
-    stays : (n : NodeId) → HaveNodes a n count → AreApart d n count → HaveNodes after n count
-    stays n held apart k less =
-        held_renewed d new span.to (page_after span.to_page done) a count (next_node n k) (λ j low e. apart j low k less (sym e))
-        (λ j low. not_free a (next_node n k) (next_node new j) (held k less) (free j low)) (held k less)
+module _ (a : Arena) (sound : IsSound a) (d s : NodeId) (count : ℕ) (copyable : AreCopyable a d s count) where
+  pub held_d : HaveNodes a d count
+  held_d k less = (copyable.leaves.alike k less).held
 
-    pub sources_stay : HaveNodes after s count
-    sources_stay = stays s (λ k less. (sources k less).0) many.apart
+  -- the nodes that they hang on
+  pub held_p : IfSome (cell a d).links.parent (λ p. HaveNodes a p count)
+  held_p = go (cell a d).links.parent refl
+    where
+      go : (o : Option NodeId) → (cell a d).links.parent ≡ o → IfSome o (λ p. HaveNodes a p count)
+      go None is = tt
+      go (Some p) is = λ k less.
+          sound.kept.parents (next_node d k) (next_node p k) (held_d k less) (ap (λ l. l.parent) (copyable.leaves.leaves k less).links ∙ ap (λ o. next_if o k) is)
 
-    pub roomy : after.room.nodes ≡ a.room.nodes
-    roomy = room_renewed d new span.to (page_after span.to_page done) a count
+  trees : (k : ℕ) → k < count → exchanged (next_node d k) None (cell a (next_node s k)).tree ≡ tree_of (next_if (history_of a d s) k) None
+  trees k less = left_tree d (slice_get (cell a s).tree 0) (cell a (next_node s k)).tree k (copyable.row.children k less) (copyable.row.alone k less)
 
-    pub as_many_made : after.made ≡ a.made
-    as_many_made = made_renewed d new span.to (page_after span.to_page done) a count
+  module _ (from : CacheId) (from_page : PageNo) (named_s : name_of a s ≡ Live from from_page) where
+    sources : AreNamed a s from from_page count
+    sources = copyable.row.named from from_page named_s
 
-    -- Sources without tree children
+    pub held_s : HaveNodes a s count
+    held_s k less = (sources k less).0
 
-    pub first_at_once : slice_get (cell a s).tree 0 ≡ None → IsCopiedAtOnce a (copied_first a d s new span.to (page_after span.to_page done) count) span done count
-    first_at_once none =
-        let can : CanCopyFirst a d s new span.to (page_after span.to_page done) span.from (page_after span.from_page done) count =
-        record { can = many; trees = alike_trees a s count ready.copyable.alike [] (no_children (cell a s).tree none) } in
-        let copied = first_copied a d s new span.to (page_after span.to_page done) span.from (page_after span.from_page done) count can in
-        record {
-          forest = copied.forest;
-          sound = copied.sound;
-          sizes = copied.sizes;
-          room = copied.room;
-          at_once = inl (record { old = d; source = s; fresh = new; can = can; is = refl });
-        }
+    pub held_h : IfSome (history_of a d s) (λ h. HaveNodes a h count)
+    held_h = go (history_of a d s) refl
+      where
+        go : (o : Option NodeId) → history_of a d s ≡ o → IfSome o (λ h. HaveNodes a h count)
+        go None is = tt
+        go (Some h) is = λ k less.
+            let only : exchanged (next_node d k) None (cell a (next_node s k)).tree ≡ next_node h k ∷ [] = trees k less ∙ ap (λ o. tree_of (next_if o k) None) is in
+            elim (exchanged-in (next_node d k) None (cell a (next_node s k)).tree (next_node h k) (subst (λ ms. next_node h k ∈ ms) (sym only) (inl refl))) [
+              | inl none ↦ absurd (cc none)
+              | inr has ↦ sound.kept.children (next_node s k) (next_node h k) (held_s k less) has
+            ]
 
-    -- Sources with one tree child
+    module _ (to : CacheId) (to_page : PageNo) (named_d : name_of a d ≡ Live to to_page) where
+      pub many_copied : (w : NodeId) → IfSome (history_of a d s) (λ _. HaveNone a w count × (count ≤ a.room.nodes))
+          → AreCopied a (copied_many a (cell a d).links.parent (history_of a d s) d s w count) to to_page from from_page count
+      many_copied w working = copied_at_once a (cell a d).links.parent (history_of a d s) d s w to to_page from from_page count (record {
+        sound = sound;
+        destinations = alike_named a d count copyable.leaves.alike to to_page named_d;
+        leaves = copyable.leaves.leaves;
+        empty = copyable.leaves.empty;
+        sources = sources;
+        apart = apart_back s d count copyable.apart;
+        trees = trees;
+        free = copyable.free;
+        working = working;
+      })
 
-    module _ (h : NodeId) (child : slice_get (cell a s).tree 0 ≡ Some h) where
-      one : OneHistory (cell a s).tree h s count
-      one = one_history (cell a s).tree h s count (ready.copyable.history ready.some) child
+-- What stays where cells alone are changed
 
-      module _ (w : NodeId) (high : 2 ^ 52 ≤ w.0) (none : HaveNone after w count) (room : count ≤ a.room.nodes) where
-        more : CanCopyMore a d s h new w span.to (page_after span.to_page done) span.from (page_after span.from_page done) count
-        more = record {
-          can = many;
-          trees = alike_trees a s count ready.copyable.alike (h ∷ []) one.tree;
-          histories = one.apart;
-          fresh = λ i low j less e. let same : d.0 + i ≡ w.0 + j = ap (λ (n : NodeId). n.0) e in let below = ready.copyable.renewable.low i low in omega arith;
-          free = none;
-          room = room;
-        }
+counters_put : (a : Arena) (n : NodeId) (c : Cell) → ((put a n c).room ≡ a.room) × ((put a n c).made ≡ a.made)
+unfolding put
+counters_put a n c = (refl, refl)
 
-        pub histories_stay : HaveNodes after h count
-        histories_stay = stays h (history_held a d s h new w span.to (page_after span.to_page done) span.from (page_after span.from_page done) count more)
-            (rows_apart a d s h new w span.to (page_after span.to_page done) span.from (page_after span.from_page done) count more).d_h
+module _ (n : NodeId) (change : ℕ → Cell → Cell) where
+  room_on : (a : Arena) (k : ℕ) → (on_cells a n change k).room ≡ a.room
+  room_on a zero = refl
+  room_on a (suc k) =
+      let b : Arena = on_cells a n change k in
+      (counters_put b (next_node n k) (change k (cell b (next_node n k)))).0 ∙ room_on a k
 
-        pub more_at_once : IsCopiedAtOnce a (copied_more a d s h new w span.to (page_after span.to_page done) count) span done count
-        more_at_once =
-            let copied = more_copied a d s h new w span.to (page_after span.to_page done) span.from (page_after span.from_page done) count more in
-            record {
-              forest = copied.forest;
-              sound = copied.sound;
-              sizes = copied.sizes;
-              room = copied.room;
-              at_once = inr (record { old = d; source = s; history = h; fresh = new; working = w; can = more; is = refl });
-            }
+  made_on : (a : Arena) (k : ℕ) → (on_cells a n change k).made ≡ a.made
+  made_on a zero = refl
+  made_on a (suc k) =
+      let b : Arena = on_cells a n change k in
+      (counters_put b (next_node n k) (change k (cell b (next_node n k)))).1 ∙ made_on a k
+
+module _ (a : Arena) (d : NodeId) (state : OwnState) (count : ℕ) where
+  pub room_renewed : (parent : Option NodeId) → (renewed_many a parent d state count).room ≡ a.room
+  room_renewed None = room_on d (λ _. renewed state) a count
+  room_renewed (Some p) = room_on d (λ _. renewed state) (left_many a (Some p) d count) count ∙ room_on p (λ k. with_child (next_node d k) None) a count
+
+  pub made_renewed : (parent : Option NodeId) → (renewed_many a parent d state count).made ≡ a.made
+  made_renewed None = made_on d (λ _. renewed state) a count
+  made_renewed (Some p) = made_on d (λ _. renewed state) (left_many a (Some p) d count) count ∙ made_on p (λ k. with_child (next_node d k) None) a count
+
+-- what isn't there once nodes were added wasn't there before
+none_before : (a b : Arena) (n : NodeId) (count : ℕ) → NodesStay a b → HaveNone b n count → HaveNone a n count
+none_before a b n count stays none k less = go (find a (next_node n k)) (find b (next_node n k)) (stays (next_node n k)) (none k less)
+  where
+    never : (r : Option Cell) → IsSome r → r ≡ None → ⊥
+    never None some e = absurd (cc some)
+    never (Some c) some e = absurd (cc e)
+
+    go : (o r : Option Cell) → (IsSome o → IsSome r) → r ≡ None → o ≡ None
+    go None r some e = refl
+    go (Some c) r some e = absurd (never r (some refl) e)
+
+-- the nodes that there may be are there still
+pub if_stay : (a b : Arena) (count : ℕ) → NodesStay a b → (o : Option NodeId) → IfSome o (λ n. HaveNodes a n count) → IfSome o (λ n. HaveNodes b n count)
+if_stay a b count stays None held = tt
+if_stay a b count stays (Some n) held = λ k less. stays (next_node n k) (held k less)
+
+-- and there is room for the working nodes that come
+pub if_new : (a b : Arena) (w : NodeId) (count : ℕ) → NodesStay a b → count ≤ a.room.nodes → (o : Option NodeId) → IfSome o (λ _. HaveNone b w count)
+    → IfSome o (λ _. HaveNone a w count × (count ≤ a.room.nodes))
+if_new a b w count stays room None none = tt
+if_new a b w count stays room (Some h) none = (none_before a b w count stays none, room)

@@ -1,21 +1,23 @@
--- Changes of nodes of different numbers may be made in either order.
-use Rattle.std.proofs.Common.{◌≡◌, ◌≢◌, ℕ, zero, suc, ◌+◌, ◌-◌, ◌≤◌, Bool, true, false, eqb, cond, set, get_or, List, Option, Some, None, option_map, unwrap_or, refl, sym, ap, ◌∙◌, arith}
+-- Changes of nodes one after the other: those of different numbers may be made in either order.
+use Rattle.std.proofs.Common.{◌≡◌, ◌≢◌, ℕ, zero, suc, ◌+◌, ◌-◌, Bool, true, false, eqb, cond, set, get_or, List, Option, Some, None, option_map, unwrap_or, refl, sym, ap, ◌∙◌}
 use Rattle.std.proofs.lemmas.Bool.{eqb-true, ne_eqb, eq-eqb}
 use Rattle.std.proofs.lemmas.List.{set-set, set_comm}
 use Rattle.std.specs.Ordering.{nat_cmp}
 use Rattle.std.specs.FinMap.{FinMap}
 use Rattle.std.specs.FinMap as map
 use Rattle.vm_ids.specs.declared.node_name.NodeName.{NodeName}
-use Rattle.vm_ids.specs.declared.node_name.NodeName.TheVariants.{Live, Working}
-use Rattle.vm_ids.specs.declared.numbers.CacheId.{CacheId}
+use Rattle.vm_ids.specs.declared.node_name.NodeName.TheVariants.{Working}
 use Rattle.vm_ids.specs.declared.numbers.NodeId.{NodeId}
-use Rattle.vm_ids.specs.declared.numbers.PageNo.{PageNo}
 use Rattle.local_cache.specs.declared.own_state.OwnState.{OwnState}
 use Rattle.local_cache.specs.declared.own_state.OwnState.TheVariants.{Absent}
+use Rattle.local_cache.specs.OnCells.{on_cell}
 use Rattle.local_cache.specs.Arena.{Arena, Cell, Table, blank, cache_with, cell, find, new_cell, put, table_with, tables_with, with_new, with_working, without}
+use Rattle.local_cache.proofs.Exchanged.{insert_swap}
 use Rattle.local_cache.proofs.Singles.{get_inserted, get_removed, same_maps}
 use Rattle.local_cache.proofs.Tables.Listing.{read_set}
 use Rattle.local_cache.proofs.Nodes.Cells.{cell-put, cell-put_other}
+use Rattle.history_tree.proofs.OnCells.{on_twice}
+pub use Rattle.history_tree.proofs.OnCells.{on_swap}
 
 pub differ : (n m : NodeId) → n ≢ m → n.0 ≢ m.0
 differ n m ne e = ne (λ i. record { 0 = e i })
@@ -36,16 +38,22 @@ module _ {X : Type 0} where
   twice true x y o = refl
   twice false x y o = refl
 
-  pub inserts : (m : FinMap nat_cmp X) (p q : ℕ) (x y : X) → p ≢ q → map.insert (map.insert m p x) q y ≡ map.insert (map.insert m q y) p x
-  inserts m p q x y ne = same_maps _ _ (λ r.
-      get_inserted (map.insert m p x) q y r ∙ ap (cond (eqb r q) (Some y)) (get_inserted m p x r)
-      ∙ by_tests (eqb r q) (eqb r p) (not_both p q r ne) (Some y) (Some x) (map.get m r)
-      ∙ sym (get_inserted (map.insert m q y) p x r ∙ ap (cond (eqb r p) (Some x)) (get_inserted m q y r)))
-
   pub inserted_again : (m : FinMap nat_cmp X) (p : ℕ) (x y : X) → map.insert (map.insert m p x) p y ≡ map.insert m p y
   inserted_again m p x y = same_maps _ _ (λ r.
       get_inserted (map.insert m p x) p y r ∙ ap (cond (eqb r p) (Some y)) (get_inserted m p x r)
       ∙ twice (eqb r p) (Some y) (Some x) (map.get m r) ∙ sym (get_inserted m p y r))
+
+  -- a number that is changed, and goes
+  removed_again : (m : FinMap nat_cmp X) (p : ℕ) (x : X) → map.remove (map.insert m p x) p ≡ map.remove m p
+  removed_again m p x = same_maps _ _ (λ r.
+      get_removed (map.insert m p x) p r ∙ ap (cond (eqb r p) None) (get_inserted m p x r)
+      ∙ twice (eqb r p) None (Some x) (map.get m r) ∙ sym (get_removed m p r))
+
+  -- one that goes, and comes again
+  pub inserted_for : (m : FinMap nat_cmp X) (p : ℕ) (x : X) → map.insert (map.remove m p) p x ≡ map.insert m p x
+  inserted_for m p x = same_maps _ _ (λ r.
+      get_inserted (map.remove m p) p x r ∙ ap (cond (eqb r p) (Some x)) (get_removed m p r)
+      ∙ twice (eqb r p) (Some x) None (map.get m r) ∙ sym (get_inserted m p x r))
 
   pub removes : (m : FinMap nat_cmp X) (p q : ℕ) (x : X) → p ≢ q → map.remove (map.insert m p x) q ≡ map.insert (map.remove m q) p x
   removes m p q x ne = same_maps _ _ (λ r.
@@ -63,7 +71,7 @@ two_pages_of : (p q : ℕ) (o r : Option NodeId) → p ≢ q → (t : Option Tab
 two_pages_of p q o r ne None = refl
 two_pages_of p q o r ne (Some t) = ap Some (two_pages p q o r ne t)
 
-changed_twice : (ts : List (Option Table)) (k : ℕ) (f g : Table → Table) → set (set ts k (option_map f (get_or ts k None))) k (option_map g (get_or (set ts k (option_map f (get_or ts k None))) k None)) ≡ set ts k (option_map g (option_map f (get_or ts k None)))
+pub changed_twice : (ts : List (Option Table)) (k : ℕ) (f g : Table → Table) → set (set ts k (option_map f (get_or ts k None))) k (option_map g (get_or (set ts k (option_map f (get_or ts k None))) k None)) ≡ set ts k (option_map g (option_map f (get_or ts k None)))
 changed_twice ts k f g =
     ap (λ (t : Option Table). set (set ts k (option_map f (get_or ts k None))) k (option_map g t)) (read_set ts k f)
     ∙ set-set ts k (option_map f (get_or ts k None)) (option_map g (option_map f (get_or ts k None)))
@@ -104,49 +112,29 @@ pub find-without : (x : Arena) (n : NodeId) → find (without x n) n ≡ None
 unfolding without
 find-without x n = get_removed x.cells n.0 n.0 ∙ ap (λ (t : Bool). cond t None (map.get x.cells n.0)) (eq-eqb n.0 n.0 refl)
 
--- one cell, changed twice: what two changes of different columns do in either order is the same
-put_again : (x : Arena) (n : NodeId) (c e : Cell) → put (put x n c) n e ≡ put x n e
-unfolding put
-put_again x n c e = λ i. record x { cells = inserted_again x.cells n.0 c e i }
+-- what two changes of different columns of one cell do in either order is the same
+pub change_both : (x : Arena) (n : NodeId) (f g : Cell → Cell) → ((c : Cell) → g (f c) ≡ f (g c)) → on_cell (on_cell x n f) n g ≡ on_cell (on_cell x n g) n f
+change_both x n f g same = on_twice x n f g ∙ (λ i. on_cell x n (λ c. same c i)) ∙ sym (on_twice x n g f)
 
-pub change_both : (x : Arena) (n : NodeId) (f g : Cell → Cell) → ((c : Cell) → g (f c) ≡ f (g c))
-    → put (put x n (f (cell x n))) n (g (cell (put x n (f (cell x n))) n)) ≡ put (put x n (g (cell x n))) n (f (cell (put x n (g (cell x n))) n))
-change_both x n f g same =
-    put_again x n (f (cell x n)) _
-    ∙ ap (λ (c : Cell). put x n (g c)) (cell-put x n (f (cell x n)))
-    ∙ ap (put x n) (same (cell x n))
-    ∙ sym (put_again x n (g (cell x n)) _ ∙ ap (λ (c : Cell). put x n (f c)) (cell-put x n (g (cell x n))))
+-- a node that goes whatever was changed of it but its name
+pub without_put : (x : Arena) (n : NodeId) (c : Cell) → c.name ≡ (cell x n).name → without (put x n c) n ≡ without x n
+unfolding put without
+without_put x n c same =
+    let name : (cell (put x n c) n).name ≡ (cell x n).name = ap (λ (k : Cell). k.name) (cell-put x n c) ∙ same in
+    λ i. record x {
+      cells = removed_again x.cells n.0 c i;
+      caches = tables_with x.caches (name i) None;
+      room = record x.room { nodes = x.room.nodes + 1 };
+    }
 
 module _ (x : Arena) (p q : NodeId) (ne : p ≢ q) where
   abbrev back : q ≢ p
   back e = ne (sym e)
 
-  -- two cells
-  puts : (c e : Cell) → put (put x p c) q e ≡ put (put x q e) p c
-  unfolding put
-  puts c e = λ i. record x { cells = inserts x.cells p.0 q.0 c e (differ p q ne) i }
-
-  -- a changed cell, and another one
-  pub change_change : (f g : Cell → Cell) → put (put x p (f (cell x p))) q (g (cell (put x p (f (cell x p))) q)) ≡ put (put x q (g (cell x q))) p (f (cell (put x q (g (cell x q))) p))
-  change_change f g =
-      ap (λ (c : Cell). put (put x p (f (cell x p))) q (g c)) (cell-put_other x p q (f (cell x p)) back)
-      ∙ puts (f (cell x p)) (g (cell x q))
-      ∙ ap (λ (c : Cell). put (put x q (g (cell x q))) p (f c)) (sym (cell-put_other x q p (g (cell x q)) ne))
-
-  -- a changed cell, and a new node
-  put_new : (c : Cell) (name : NodeName) (s : OwnState) → with_new (put x p c) q name s ≡ put (with_new x q name s) p c
-  unfolding put with_new
-  put_new c name s = λ i. record (with_new x q name s) { cells = inserts x.cells p.0 q.0 c (new_cell name s) (differ p q ne) i }
-
-  pub change_new : (f : Cell → Cell) (name : NodeName) (s : OwnState) → with_new (put x p (f (cell x p))) q name s ≡ put (with_new x q name s) p (f (cell (with_new x q name s) p))
-  change_new f name s =
-      put_new (f (cell x p)) name s
-      ∙ ap (λ (c : Cell). put (with_new x q name s) p (f c)) (sym (cell_by x (with_new x q name s) p (find-new_other x q p name s ne)))
-
   -- a changed cell, and a new working node
   put_working : (c : Cell) → with_working (put x p c) q ≡ put (with_working x q) p c
   unfolding put with_new
-  put_working c = λ i. record (with_working x q) { cells = inserts x.cells p.0 q.0 c (new_cell (Working (x.made + 1)) Absent) (differ p q ne) i }
+  put_working c = λ i. record (with_working x q) { cells = insert_swap x.cells p.0 q.0 c (new_cell (Working (x.made + 1)) Absent) (differ p q ne) i }
 
   pub change_working : (f : Cell → Cell) → with_working (put x p (f (cell x p))) q ≡ put (with_working x q) p (f (cell (with_working x q) p))
   change_working f =
@@ -165,38 +153,3 @@ module _ (x : Arena) (p q : NodeId) (ne : p ≢ q) where
   change_without f =
       put_without (f (cell x p))
       ∙ ap (λ (c : Cell). put (without x q) p (f c)) (sym (cell_by x (without x q) p (find-without_other x q p ne)))
-
-  -- a new node of a page, and a node of another page of the cache that goes
-  pub new_without : (cache : CacheId) (page other : PageNo) (s : OwnState) → (cell x q).name ≡ Live cache other → page.0 ≢ other.0 → 1 ≤ x.room.nodes
-      → without (with_new x p (Live cache page) s) q ≡ with_new (without x q) p (Live cache page) s
-  unfolding with_new without
-  new_without cache page other s named pages room =
-      let name : (cell (with_new x p (Live cache page) s) q).name ≡ Live cache other = ap (λ (c : Cell). c.name) (cell_by x (with_new x p (Live cache page) s) q (find-new_other x p q (Live cache page) s back)) ∙ named in
-      let tables : tables_with (tables_with x.caches (Live cache page) (Some p)) (cell (with_new x p (Live cache page) s) q).name None ≡ tables_with (tables_with x.caches (cell x q).name None) (Live cache page) (Some p) =
-      ap (λ (y : NodeName). tables_with (tables_with x.caches (Live cache page) (Some p)) y None) name
-      ∙ pages_pass x.caches cache.0 page.0 other.0 (Some p) None pages
-      ∙ ap (λ (y : NodeName). tables_with (tables_with x.caches y None) (Live cache page) (Some p)) (sym named) in
-      let nodes : x.room.nodes - 1 + 1 ≡ x.room.nodes + 1 - 1 = omega arith in
-      λ i. record x {
-        cells = removes x.cells p.0 q.0 (new_cell (Live cache page) s) (differ p q ne) i;
-        caches = tables i;
-        room = record x.room { nodes = nodes i };
-      }
-
--- a new working node, and a node that goes for a new one
-pub working_renewed : (x : Arena) (w d n : NodeId) (name : NodeName) (s : OwnState) → w ≢ d → w ≢ n
-    → with_new (without (with_working x w) d) n name s ≡ with_working (with_new (without x d) n name s) w
-unfolding with_new without
-working_renewed x w d n name s w_d w_n =
-    let old : (cell (with_working x w) d).name ≡ (cell x d).name = ap (λ (c : Cell). c.name) (cell_by x (with_working x w) d (find-working_other x w d (λ e. w_d (sym e)))) in
-    let work : Cell = new_cell (Working (x.made + 1)) Absent in
-    let cells : map.insert (map.remove (map.insert x.cells w.0 work) d.0) n.0 (new_cell name s) ≡ map.insert (map.insert (map.remove x.cells d.0) n.0 (new_cell name s)) w.0 work =
-    ap (λ (m : FinMap nat_cmp Cell). map.insert m n.0 (new_cell name s)) (removes x.cells w.0 d.0 work (differ w d w_d))
-    ∙ inserts (map.remove x.cells d.0) w.0 n.0 work (new_cell name s) (differ w n w_n) in
-    let nodes : x.room.nodes - 1 + 1 - 1 ≡ x.room.nodes + 1 - 1 - 1 = omega arith in
-    λ i. record x {
-      cells = cells i;
-      caches = tables_with (tables_with x.caches (old i) None) name (Some n);
-      made = x.made + 1;
-      room = record x.room { nodes = nodes i };
-    }

@@ -1,248 +1,273 @@
--- One page is copied to a node that is new.
-use Rattle.std.proofs.Common.{◌≡◌, ◌≢◌, ◌+◌, ◌-◌, ◌≤◌, [], ◌∷◌, true, false, Some, None, is_some, refl, sym, ap, ◌∙◌, subst, arith, inl}
+-- One page is copied by a tree link, whose node is as new: it had no children, and nothing of its
+-- own.
+use Rattle.std.proofs.Common.{◌≡◌, ◌≢◌, ◌+◌, ◌≤◌, false, List, [], ◌∷◌, Option, Some, None, is_some, refl, sym, ap, ◌∙◌, subst, inl, inr, arith}
+use Rattle.std.specs.List.{cons_option}
 use Rattle.std.proofs.lemmas.Bool.{false≢true}
 use Rattle.vm_ids.specs.declared.node_name.NodeName.{NodeName}
-use Rattle.vm_ids.specs.declared.node_name.NodeName.TheVariants.{Live, Working}
+use Rattle.vm_ids.specs.declared.node_name.NodeName.TheVariants.{Live}
 use Rattle.vm_ids.specs.declared.numbers.CacheId.{CacheId}
 use Rattle.vm_ids.specs.declared.numbers.NodeId.{NodeId}
 use Rattle.vm_ids.specs.declared.numbers.PageNo.{PageNo}
-use Rattle.vm_ids.specs.Forest.Nodes.{Forest, childless, is_live, node}
-use Rattle.vm_ids.specs.Forest.Nodes.Hang.{Root}
-use Rattle.vm_ids.specs.Forest.Rules.{copy_page, detach, link}
+use Rattle.vm_ids.specs.Forest.Laws.Linking.{ArePages}
+use Rattle.vm_ids.specs.Forest.NameLists as names
+use Rattle.vm_ids.specs.Forest.Nodes.{IsNode, childless, is_live, node}
+use Rattle.vm_ids.specs.Forest.Nodes.Hang.{Root, TreeOf}
+use Rattle.vm_ids.specs.Forest.Rules.{detach, link}
 use Rattle.vm_ids.proofs.Forest.NodesAfter.{node-put}
-use Rattle.local_cache.specs.declared.own_state.OwnState.{OwnState}
 use Rattle.local_cache.specs.declared.own_state.OwnState.TheVariants.{Absent}
-use Rattle.local_cache.specs.Arena.{Arena, HasNode, cell, find, hung, tables_with, with_new, with_tree, with_working, without}
+use Rattle.local_cache.specs.Arena.{Arena, Cell, HasNode, cell, find, hung, put, with_tree, with_working}
 use Rattle.local_cache.specs.Changes.{Rehung}
-use Rattle.local_cache.specs.Reading.{forest_of, name_of}
+use Rattle.local_cache.specs.NodeCells.{exchanged, hanging, over, renewed, tree_of}
+use Rattle.local_cache.specs.OnCells.{cut_from, on_cell}
+use Rattle.local_cache.specs.Own.{own_of}
+use Rattle.local_cache.specs.Reading.{forest_of, hang_by, name_of}
 use Rattle.local_cache.specs.Sound.{IsSound, ◌∈◌}
-use Rattle.local_cache.specs.Whole.{SameCaches}
-use Rattle.local_cache.proofs.Changes.SameNodes.{rehung-links, rehung-tree, rehung_then}
-use Rattle.local_cache.proofs.Nodes.Cells.{find-put_other}
-use Rattle.local_cache.proofs.NewNode.FreshNode.{cell-new, page-forest}
-use Rattle.local_cache.proofs.NewNode.States.{fresh_found, fresh_name, fresh_own}
-use Rattle.local_cache.proofs.Tables.Sizes.{sizes_by, sizes_same, sizes_then}
+use Rattle.local_cache.proofs.Changes.SameNodes.{id_cases}
+use Rattle.local_cache.proofs.Forest.Reading.{IsNode-forest_of, node-forest_of}
+use Rattle.local_cache.proofs.Nodes.Cells.{cell-put, cell-put_other, find-put, find-put_other}
 use Rattle.history_tree.specs.Hanging.{set_one, set_two}
+use Rattle.history_tree.proofs.OnCells.{on_swap}
 use Rattle.history_tree.proofs.Hang.{CanLink, Linked, links-first, links-more}
-use Rattle.tree_merge.specs.Copying.{IsBare, IsLeft, IsLone}
-use Rattle.tree_merge.proofs.CopiedPages.Changes.{cell_by, find-new_other, find-without, find-without_other, find-working_other}
-use Rattle.tree_merge.proofs.Leaving.Detached.{detached-forest, detached-sound}
-use Rattle.tree_merge.proofs.RetiredPages.OnePage.{CanRetirePage, PageGone, page_gone}
+use Rattle.tree_merge.specs.declared.released.Released.TheVariants.{Dropped}
+use Rattle.tree_merge.specs.Copying.{IsEmpty, IsLeafOf}
+use Rattle.tree_merge.specs.Stepping.{IsCopiedBare, IsDetachedAlone}
+use Rattle.tree_merge.proofs.ChildLists.Names.{in_names}
+use Rattle.tree_merge.proofs.ChildLists.TreeLists.{place_other}
+use Rattle.tree_merge.proofs.CopiedPages.Changes.{cell_by, change_both, find-working_other}
+use Rattle.tree_merge.proofs.LeafRenewed.{leaf_detached, left_like}
 
--- What a copy of one page needs: the node d of the page has neither parent nor children, new is a
--- free number, and s is the node of another page.
-pub record CanCopyPage (a : Arena) (d s new : NodeId) (cache : CacheId) (page : PageNo) : Type 0 where
+-- What a copy of one page needs: d is its node, and s that of its source, whose tree children are
+-- its history, or none, but for d.
+pub record CanCopyLeaf (a : Arena) (parent history : Option NodeId) (d s : NodeId) (to : CacheId) (to_page : PageNo) (from : CacheId) (from_page : PageNo) : Type 0 where
   pub sound : IsSound a
   pub held_d : HasNode a d
-  pub lone : IsLone (cell a d)
-  pub named : name_of a d ≡ Live cache page
-  pub free_new : find a new ≡ None
+  pub leaf : IsLeafOf parent (cell a d)
+  pub empty : IsEmpty (own_of a d)
+  pub named_d : name_of a d ≡ Live to to_page
   pub held_s : HasNode a s
-  pub live : is_live (name_of a s) ≡ true
+  pub named_s : name_of a s ≡ Live from from_page
   pub apart : s ≢ d
+  pub tree : exchanged d None (cell a s).tree ≡ tree_of history None
 
--- What a copy of one page does: it is the rule, the old node d is gone, the fresh node new and the
--- working node w have no own pages, and other nodes stay, as do the sizes of the caches. Nothing is
--- changed at those that are none of these, nor the source s or its tree child h.
-pub record PageCopied (a b : Arena) (d s h new w : NodeId) (to from : NodeName) : Type 0 where
-  pub forest : forest_of b ≡ copy_page false (forest_of a) to from
-  pub sound : IsSound b
-  pub gone : find b d ≡ None
-  pub fresh : IsBare b new
-  pub working : IsBare b w
-  pub left : (n : NodeId) → n ≢ d → n ≢ new → n ≢ w → IsLeft a b n
-  pub same : (n : NodeId) → n ≢ d → n ≢ new → n ≢ w → n ≢ s → n ≢ h → find b n ≡ find a n
-  pub sizes : SameCaches a b
+-- What it does: nothing is changed but at its nodes, and there is at most one node more.
+pub record LeafCopied (a b : Arena) (ns : List NodeId) (to : CacheId) (to_page : PageNo) (from : CacheId) (from_page : PageNo) : Type 0 where
+  pub bare : IsCopiedBare a b to to_page from from_page
   pub room : a.room.nodes ≤ b.room.nodes + 1
+  pub same : (n : NodeId) → (n ∈ ns → ⊥) → find b n ≡ find a n
 
 -- a node that is there is none that isn't
 pub not_free : (a : Arena) (n m : NodeId) → HasNode a n → find a m ≡ None → n ≢ m
 not_free a n m held none e = false≢true (sym (ap is_some none) ∙ subst (HasNode a) e held)
 
-pub left_by_find : (a b : Arena) (n : NodeId) → find b n ≡ find a n → IsLeft a b n
-left_by_find a b n e =
-    let c = cell_by a b n e in
-    record { held = ap is_some e; name = ap (λ k. k.name) c; own = ap (λ k. k.own) c }
+in_option : (o : Option NodeId) (ms : List NodeId) (n : NodeId) → n ∈ ms → n ∈ cons_option o ms
+in_option None ms n is = is
+in_option (Some m) ms n is = inr is
 
-pub left_then : (a b c : Arena) (n : NodeId) → IsLeft a b n → IsLeft b c n → IsLeft a c n
-left_then a b c n f g = record { held = g.held ∙ f.held; name = g.name ∙ f.name; own = g.own ∙ f.own }
+first_in : (o : Option NodeId) (ms : List NodeId) (n : NodeId) → o ≡ Some n → n ∈ cons_option o ms
+first_in None ms n e = absurd (cc e)
+first_in (Some m) ms n e = let same : m ≡ n = cc e in inl (sym same)
 
-left_rehung : (a b : Arena) → Rehung a b → (n : NodeId) → IsLeft a b n
-left_rehung a b r n = record { held = r.like.held n; name = r.like.name n; own = r.own n }
+room_put : (a : Arena) (n : NodeId) (c : Cell) → (put a n c).room.nodes ≡ a.room.nodes
+unfolding put
+room_put a n c = refl
 
-tables_new : (x : Arena) (n : NodeId) (name : NodeName) (s : OwnState) → (with_new x n name s).caches ≡ tables_with x.caches name (Some n)
-unfolding with_new
-tables_new x n name s = refl
+-- a list without d is as it is without it
+left_out : (d : NodeId) (ms : List NodeId) → (d ∈ ms → ⊥) → exchanged d None ms ≡ ms
+left_out d [] out = refl
+left_out d (m ∷ ms) out =
+    ap (λ (o : Option NodeId). cons_option o (exchanged d None ms)) (place_other d m None (λ e. out (inl (sym e))))
+    ∙ ap (λ ks. m ∷ ks) (left_out d ms (λ is. out (inr is)))
 
-tables_working : (x : Arena) (n : NodeId) → (with_working x n).caches ≡ x.caches
-unfolding with_new
-tables_working x n = refl
+-- which node a leaf hangs on
+parent_of : (a : Arena) (s : NodeId) (o : Option NodeId) → hang_by a o false ≡ TreeOf (name_of a s) → (p : NodeId) × (o ≡ Some p) × (name_of a p ≡ name_of a s)
+parent_of a s None e = let none : Root ≡ TreeOf (name_of a s) = e in absurd (cc none)
+parent_of a s (Some p) e =
+    let some : TreeOf (name_of a p) ≡ TreeOf (name_of a s) = e in
+    let same : name_of a p ≡ name_of a s = cc some in
+    (p, refl, same)
 
-room_working : (x : Arena) (n : NodeId) → (with_working x n).room.nodes ≡ x.room.nodes - 1
-unfolding with_new
-room_working x n = refl
+module _ (a : Arena) (d s : NodeId) (parent history : Option NodeId) (to : CacheId) (to_page : PageNo) (from : CacheId) (from_page : PageNo) (can : CanCopyLeaf a parent history d s to to_page from from_page) where
+  -- d among the tree children of the source hangs on it
+  above : d ∈ (cell a s).tree → parent ≡ Some s
+  above is =
+      let listed : names.◌∈◌ (name_of a d) (node (forest_of a) (name_of a s)).tree =
+      subst (λ xs. names.◌∈◌ (name_of a d) xs) (sym (ap (λ n. n.tree) (node-forest_of a can.sound.kept.named s can.held_s))) (in_names a (cell a s).tree d is) in
+      let hang : hang_by a parent false ≡ TreeOf (name_of a s) =
+      sym (ap (λ n. n.hang) (node-forest_of a can.sound.kept.named d can.held_d) ∙ ap (λ l. hang_by a l.parent l.by_stub) can.leaf.links)
+      ∙ (can.sound.linked.tree_links (name_of a d) (name_of a s)).0 listed in
+      let p = parent_of a s parent hang in
+      let held_p : HasNode a p.0 = can.sound.kept.parents d p.0 can.held_d (ap (λ l. l.parent) can.leaf.links ∙ p.1) in
+      p.1 ∙ ap Some (can.sound.kept.named.apart p.0 s held_p can.held_s p.2)
 
--- Tree links
+  -- The node leaves its parent
 
-rehung_one : (a : Arena) (p x : NodeId) → HasNode a p → HasNode a x → Rehung a (set_one a p x)
-rehung_one a p x hp hx =
-    let a1 : Arena = with_tree a p (x ∷ []) in
-    let r1 = rehung-tree a p (x ∷ []) hp in
-    rehung_then a a1 (set_one a p x) r1 (rehung-links a1 x _ (r1.like.held x ∙ hx))
+  abbrev left : Arena
+  left = cut_from a parent d None
 
-rehung_two : (a : Arena) (p x y : NodeId) → HasNode a p → HasNode a x → HasNode a y → Rehung a (set_two a p x y)
-rehung_two a p x y hp hx hy =
-    let a1 : Arena = with_tree a p (x ∷ y ∷ []) in
-    let a2 : Arena = hung a1 y (Some p) in
-    let r1 = rehung-tree a p (x ∷ y ∷ []) hp in
-    let r2 = rehung_then a a1 a2 r1 (rehung-links a1 y _ (r1.like.held y ∙ hy)) in
-    rehung_then a a2 (set_two a p x y) r2 (rehung-links a2 x _ (r2.like.held x ∙ hx))
+  like : Rehung a (cut_from a parent d None)
+  like = left_like a can.sound d can.held_d parent can.leaf
 
-find_one : (a : Arena) (p x n : NodeId) → n ≢ p → n ≢ x → find (set_one a p x) n ≡ find a n
-find_one a p x n n_p n_x = find-put_other (with_tree a p (x ∷ [])) x n _ n_x ∙ find-put_other a p n _ n_p
+  -- the source's tree children without it
+  left_tree : (cell (cut_from a parent d None) s).tree ≡ exchanged d None (cell a s).tree
+  left_tree = go parent refl
+    where
+      go : (o : Option NodeId) → parent ≡ o → (cell (cut_from a o d None) s).tree ≡ exchanged d None (cell a s).tree
+      go None is = sym (left_out d (cell a s).tree (λ has. let never : None ≡ Some s = sym is ∙ above has in cc never))
+      go (Some p) is = elim (id_cases p s) [
+        | inl e ↦ subst (λ q. (cell (cut_from a (Some q) d None) s).tree ≡ exchanged d None (cell a s).tree) (sym e)
+            (ap (λ (c : Cell). c.tree) (cell-put a s (over (exchanged d None (cell a s).tree) (cell a s))))
+        | inr ne ↦ ap (λ (c : Cell). c.tree) (cell-put_other a p s (over (exchanged d None (cell a p).tree) (cell a p)) (λ e. ne (sym e)))
+            ∙ sym (left_out d (cell a s).tree (λ has. let same : Some p ≡ Some s = sym is ∙ above has in ne (cc same)))
+      ]
 
-find_two : (a : Arena) (p x y n : NodeId) → n ≢ p → n ≢ x → n ≢ y → find (set_two a p x y) n ≡ find a n
-find_two a p x y n n_p n_x n_y =
-    find-put_other (hung (with_tree a p (x ∷ y ∷ [])) y (Some p)) x n _ n_x
-    ∙ find-put_other (with_tree a p (x ∷ y ∷ [])) y n _ n_y
-    ∙ find-put_other a p n _ n_p
+  left_find : (n : NodeId) → (parent ≡ Some n → ⊥) → find (cut_from a parent d None) n ≡ find a n
+  left_find n ne = go parent ne
+    where
+      go : (o : Option NodeId) → (o ≡ Some n → ⊥) → find (cut_from a o d None) n ≡ find a n
+      go None other = refl
+      go (Some p) other = find-put_other a p n (over (exchanged d None (cell a p).tree) (cell a p)) (λ e. other (ap Some (sym e)))
 
--- The old node goes
-
-module _ (a : Arena) (d s new : NodeId) (cache : CacheId) (page : PageNo) (can : CanCopyPage a d s new cache page) where
-  pub goes : CanRetirePage a d cache page
-  goes = record { sound = can.sound; held = can.held_d; lone = can.lone; named = can.named }
-
-  went : PageGone a (without a d) d cache page
-  went = page_gone a d cache page goes
-
-  -- A fresh one comes
+  -- It is as new
 
   abbrev b : Arena
-  b = with_new (without a d) new (Live cache page) Absent
+  b = on_cell (cut_from a parent d None) d (renewed Absent)
 
-  d_new : d ≢ new
-  d_new = not_free a d new can.held_d can.free_new
+  detached : IsDetachedAlone a (on_cell (cut_from a parent d None) d (renewed Absent)) to to_page Absent (Dropped d (own_of a d))
+  detached = leaf_detached a can.sound d can.held_d parent can.leaf to to_page can.named_d Absent
 
-  pub free_then : find (without a d) new ≡ None
-  free_then = find-without_other a d new (λ e. d_new (sym e)) ∙ can.free_new
+  name_d : name_of b d ≡ Live to to_page
+  name_d = ap (λ (c : Cell). c.name) (cell-put left d (renewed Absent (cell left d))) ∙ like.like.name d ∙ can.named_d
 
-  pub detached : forest_of b ≡ detach (forest_of a) (Live cache page) None
-  detached = detached-forest a (without a d) b new cache page Absent went.sound went.forest went.vacant free_then refl
+  b_find : (n : NodeId) → n ≢ d → find b n ≡ find left n
+  b_find n ne = find-put_other left d n (renewed Absent (cell left d)) ne
 
-  pub sound_new : IsSound b
-  sound_new = detached-sound (without a d) b new cache page Absent went.sound went.vacant free_then refl
+  find_b : (n : NodeId) → n ≢ d → (parent ≡ Some n → ⊥) → find b n ≡ find a n
+  find_b n ne other = b_find n ne ∙ left_find n other
 
-  pub name_new : name_of b new ≡ Live cache page
-  name_new = fresh_name (without a d) new free_then (Live cache page) Absent
+  held_b : (n : NodeId) → n ≢ d → HasNode a n → HasNode b n
+  held_b n ne held = ap is_some (b_find n ne) ∙ like.like.held n ∙ held
 
-  held_new : HasNode b new
-  held_new = ap is_some (fresh_found (without a d) new free_then (Live cache page) Absent)
+  held_d : HasNode b d
+  held_d = ap is_some (find-put left d (renewed Absent (cell left d)))
 
-  find_new : (n : NodeId) → n ≢ d → n ≢ new → find b n ≡ find a n
-  find_new n n_d n_new = find-new_other (without a d) new n (Live cache page) Absent n_new ∙ find-without_other a d n n_d
+  name_s : name_of b s ≡ Live from from_page
+  name_s = ap (λ (c : Cell). c.name) (cell_by left b s (b_find s can.apart)) ∙ like.like.name s ∙ can.named_s
 
-  gone_new : find b d ≡ None
-  gone_new = find-new_other (without a d) new d (Live cache page) Absent d_new ∙ find-without a d
+  tree_s : (cell b s).tree ≡ tree_of history None
+  tree_s = ap (λ (c : Cell). c.tree) (cell_by left b s (b_find s can.apart)) ∙ left_tree ∙ can.tree
 
-  bare : node (forest_of b) (name_of b new) ≡ childless None Root
-  bare =
-      ap (node (forest_of b)) name_new
-      ∙ ap (λ (f : Forest OwnState). node f (Live cache page)) (page-forest (without a d) went.sound.kept new free_then cache page went.vacant Absent)
-      ∙ node-put (forest_of (without a d)) (Live cache page) (childless None Root)
+  bare : node (forest_of b) (name_of b d) ≡ childless None Root
+  unfolding detach
+  bare = ap (node (forest_of b)) name_d ∙ ap (λ g. node g (Live to to_page)) detached.forest ∙ node-put _ (Live to to_page) (childless None Root)
 
-  pub room_new : b.room.nodes ≡ a.room.nodes
-  unfolding with_new without
-  room_new = omega arith
+  can_link : CanLink b d s
+  can_link = record {
+    sound = detached.sound;
+    held_d = held_d;
+    held_s = held_b s can.apart can.held_s;
+    bare = bare;
+    live = ap is_live name_s;
+    apart = λ e. can.apart (sym e);
+  }
 
-  sizes_new : SameCaches a b
-  sizes_new = sizes_then a (without a d) b
-      went.sizes
-      (sizes_by (without a d) b (Live cache page) (Some new) (tables_new (without a d) new (Live cache page) Absent))
+  room_b : b.room.nodes ≡ a.room.nodes
+  room_b = room_put left d (renewed Absent (cell left d)) ∙ ap (λ r. r.nodes) like.room
 
   -- It is linked to the source
 
-  s_new : s ≢ new
-  s_new = not_free a s new can.held_s can.free_new
+  is_page : (q : NodeId) (x : NodeName) → HasNode a q → name_of a q ≡ x → IsNode (forest_of a) x
+  is_page q x held named = subst (IsNode (forest_of a)) named (IsNode-forest_of a can.sound.kept.named q held)
 
-  pub left_s : IsLeft a b s
-  left_s = left_by_find a b s (find_new s can.apart s_new)
+  pages : ArePages (forest_of a) (Live to to_page) (Live from from_page)
+  pages = record {
+    destination = is_page d (Live to to_page) can.held_d can.named_d;
+    source = is_page s (Live from from_page) can.held_s can.named_s;
+    apart = λ e. can.apart (can.sound.kept.named.apart s d can.held_s can.held_d (can.named_s ∙ sym e ∙ sym can.named_d));
+    live_destination = refl;
+    live_source = refl;
+  }
 
-  held_s : HasNode b s
-  held_s = left_s.held ∙ can.held_s
+  copied : (c : Arena) → Linked (on_cell (cut_from a parent d None) d (renewed Absent)) c d s → IsCopiedBare a c to to_page from from_page
+  copied c linked = record {
+    pages = pages;
+    node = d;
+    at = can.sound.kept.listed.pages to.0 to_page.0 d can.held_d can.named_d;
+    empty = can.empty;
+    copied = record {
+      between = b;
+      detached = detached;
+      hung = (linked.forest ∙ (λ i. link (forest_of b) (name_d i) (name_s i)), linked.grown);
+      sound = linked.sound;
+    };
+  }
 
-  can_link : CanLink b new s
-  can_link = record { sound = sound_new; held_d = held_new; held_s = held_s; bare = bare; live = ap is_live left_s.name ∙ can.live; apart = λ e. s_new (sym e) }
+  roomy : (c : Arena) → Linked (on_cell (cut_from a parent d None) d (renewed Absent)) c d s → a.room.nodes ≤ c.room.nodes + 1
+  roomy c linked = omega (arith, linked.grown.nodes, linked.grown.made.0, linked.grown.made.1, room_b)
 
-  rule : link (forest_of b) (name_of b new) (name_of b s) ≡ copy_page false (forest_of a) (Live cache page) (name_of a s)
-  rule = λ i. link (detached i) (name_new i) (left_s.name i)
+  module _ (none : history ≡ None) where
+    first_linked : Linked b (set_one b s d) d s
+    first_linked = links-first b d s can_link (tree_s ∙ ap (λ o. tree_of o None) none)
 
-  tree_s : (cell b s).tree ≡ (cell a s).tree
-  tree_s = ap (λ c. c.tree) (cell_by a b s (find_new s can.apart s_new))
+    -- as its first child
+    pub leaf_first : LeafCopied a (set_one (on_cell (cut_from a parent d None) d (renewed Absent)) s d) (cons_option parent (d ∷ s ∷ [])) to to_page from from_page
+    leaf_first = record {
+      bare = copied (set_one b s d) first_linked;
+      room = roomy (set_one b s d) first_linked;
+      same = λ n out.
+          let n_d : n ≢ d = λ e. out (in_option parent (d ∷ s ∷ []) n (inl e)) in
+          let n_s : n ≢ s = λ e. out (in_option parent (d ∷ s ∷ []) n (inr (inl e))) in
+          find-put_other (with_tree b s (d ∷ [])) d n _ n_d ∙ find-put_other b s n _ n_s ∙ find_b n n_d (λ e. out (first_in parent (d ∷ s ∷ []) n e));
+    }
 
-  -- a number that was free is free still
-  still_free : (w : NodeId) → find a w ≡ None → w ≢ new → find b w ≡ None
-  still_free w free_w w_new = find_new w (λ e. not_free a d w can.held_d free_w (sym e)) w_new ∙ free_w
+  module _ (h w : NodeId) (is : history ≡ Some h) (free : find a w ≡ None) (room : 1 ≤ a.room.nodes) where
+    w_d : w ≢ d
+    w_d e = not_free a d w can.held_d free (sym e)
 
-  pub first_linked : (cell a s).tree ≡ [] → Linked (with_new (without a d) new (Live cache page) Absent) (set_one (with_new (without a d) new (Live cache page) Absent) s new) new s
-  first_linked none = links-first b new s can_link (tree_s ∙ none)
+    -- no parent is there either
+    w_parent : parent ≡ Some w → ⊥
+    w_parent e = not_free a w w (can.sound.kept.parents d w can.held_d (ap (λ l. l.parent) can.leaf.links ∙ e)) free refl
 
-  pub more_linked : (h w : NodeId) → (cell a s).tree ≡ h ∷ [] → find a w ≡ None → w ≢ new → 1 ≤ a.room.nodes
-      → Linked (with_new (without a d) new (Live cache page) Absent) (set_two (set_one (with_working (with_new (without a d) new (Live cache page) Absent) w) s w) w h new) new s
-  more_linked h w tree free_w w_new roomy = links-more b new s w h [] can_link (tree_s ∙ tree) (still_free w free_w w_new) (omega (arith, room_new))
+    free_b : find b w ≡ None
+    free_b = find_b w w_d w_parent ∙ free
 
-  -- as its first child
-  pub page_first : (cell a s).tree ≡ [] → PageCopied a (set_one b s new) d s s new new (Live cache page) (name_of a s)
-  page_first none =
-      let linked = first_linked none in
-      let r = rehung_one b s new held_s held_new in
-      let bare_new : IsBare (set_one b s new) new = record { held = r.like.held new ∙ held_new; own = r.own new ∙ fresh_own (without a d) new free_then (Live cache page) Absent } in
-      let roomy : (set_one b s new).room.nodes ≡ a.room.nodes = ap (λ k. k.nodes) r.room ∙ room_new in
-      record {
-        forest = linked.forest ∙ rule;
-        sound = linked.sound;
-        gone = find_one b s new d (λ e. can.apart (sym e)) d_new ∙ gone_new;
-        fresh = bare_new;
-        working = bare_new;
-        left = λ n n_d n_new n_w. left_then a b (set_one b s new) n (left_by_find a b n (find_new n n_d n_new)) (left_rehung b (set_one b s new) r n);
-        same = λ n n_d n_new n_w n_s n_h. find_one b s new n n_s n_new ∙ find_new n n_d n_new;
-        sizes = sizes_then a b (set_one b s new) sizes_new (sizes_same b (set_one b s new) r.like.caches);
-        room = omega arith;
-      }
+    more_linked : Linked b (set_two (set_one (with_working b w) s w) w h d) d s
+    more_linked = links-more b d s w h [] can_link (tree_s ∙ ap (λ o. tree_of o None) is) free_b (omega (arith, room_b, room))
 
-  -- beside the child that it has
-  pub page_more : (h w : NodeId) → (cell a s).tree ≡ h ∷ [] → h ≢ d → find a w ≡ None → w ≢ new → 1 ≤ a.room.nodes
-      → PageCopied a (set_two (set_one (with_working b w) s w) w h new) d s h new w (Live cache page) (name_of a s)
-  page_more h w tree h_d free_w w_new roomy =
-      let free_b = still_free w free_w w_new in
-      let linked = more_linked h w tree free_w w_new roomy in
-      let b1 : Arena = with_working b w in
-      let b2 : Arena = set_one b1 s w in
-      let c : Arena = set_two b2 w h new in
-      let hh : HasNode a h = can.sound.kept.children s h can.held_s (subst (λ ts. h ∈ ts) (sym tree) (inl refl)) in
-      let h_new : h ≢ new = not_free a h new hh can.free_new in
-      let old : (n : NodeId) → n ≢ w → find b1 n ≡ find b n = λ n n_w. find-working_other b w n n_w in
-      let still : (n : NodeId) → HasNode b n → HasNode b1 n = λ n held. ap is_some (old n (not_free b n w held free_b)) ∙ held in
-      let held_w : HasNode b1 w = ap is_some (fresh_found b w free_b (Working (b.made + 1)) Absent) in
-      let r2 = rehung_one b1 s w (still s held_s) held_w in
-      let held_h : HasNode b1 h = still h (ap is_some (find_new h h_d h_new) ∙ hh) in
-      let r3 = rehung_two b2 w h new (r2.like.held w ∙ held_w) (r2.like.held h ∙ held_h) (r2.like.held new ∙ still new held_new) in
-      let r = rehung_then b1 b2 c r2 r3 in
-      let d_w : d ≢ w = not_free a d w can.held_d free_w in
-      let new_w : new ≢ w = λ e. w_new (sym e) in
-      let made : c.room.nodes ≡ b.room.nodes - 1 = ap (λ k. k.nodes) r.room ∙ room_working b w in
-      record {
-        forest = linked.forest ∙ rule;
-        sound = linked.sound;
-        gone = find_two b2 w h new d d_w (λ e. h_d (sym e)) d_new ∙ find_one b1 s w d (λ e. can.apart (sym e)) d_w ∙ old d d_w ∙ gone_new;
-        fresh = record {
-          held = r.like.held new ∙ still new held_new;
-          own = r.own new ∙ ap (λ k. k.own) (cell_by b b1 new (old new new_w)) ∙ fresh_own (without a d) new free_then (Live cache page) Absent;
-        };
-        working = record { held = r.like.held w ∙ held_w; own = r.own w ∙ ap (λ k. k.own) (cell-new b w free_b) };
-        left = λ n n_d n_new n_w.
-            left_then a b c n (left_by_find a b n (find_new n n_d n_new)) (left_then b b1 c n (left_by_find b b1 n (old n n_w)) (left_rehung b1 c r n));
-        same = λ n n_d n_new n_w n_s n_h. find_two b2 w h new n n_w n_h n_new ∙ find_one b1 s w n n_s n_w ∙ old n n_w ∙ find_new n n_d n_new;
-        sizes = sizes_then a b c sizes_new (sizes_same b c (r.like.caches ∙ tables_working b w));
-        room = omega (arith, made, room_new);
-      }
+    -- beside the child that it has
+    pub leaf_more : LeafCopied a (set_two (set_one (with_working (on_cell (cut_from a parent d None) d (renewed Absent)) w) s w) w h d) (cons_option parent (d ∷ s ∷ w ∷ h ∷ [])) to to_page from from_page
+    leaf_more =
+        let b1 : Arena = with_working b w in
+        let b2 : Arena = with_tree b1 s (w ∷ []) in
+        let b3 : Arena = hung b2 w (Some s) in
+        let b4 : Arena = with_tree b3 w (h ∷ d ∷ []) in
+        let b5 : Arena = hung b4 d (Some w) in
+        let c : Arena = hung b5 h (Some w) in
+        let ms : List NodeId = d ∷ s ∷ w ∷ h ∷ [] in
+        record {
+          bare = copied c more_linked;
+          room = roomy c more_linked;
+          same = λ n out.
+              let n_d : n ≢ d = λ e. out (in_option parent ms n (inl e)) in
+              let n_s : n ≢ s = λ e. out (in_option parent ms n (inr (inl e))) in
+              let n_w : n ≢ w = λ e. out (in_option parent ms n (inr (inr (inl e)))) in
+              let n_h : n ≢ h = λ e. out (in_option parent ms n (inr (inr (inr (inl e))))) in
+              find-put_other b5 h n _ n_h ∙ find-put_other b4 d n _ n_d ∙ find-put_other b3 w n _ n_w
+              ∙ find-put_other b2 w n _ n_w ∙ find-put_other b1 s n _ n_s ∙ find-working_other b w n n_w
+              ∙ find_b n n_d (λ e. out (first_in parent ms n e));
+        }
+
+-- The kinds of a copy, for one page
+
+-- a working node is over its two children before it is the source's
+pub in_order : (x : Arena) (s w h d : NodeId) → s ≢ w
+    → set_two (set_one (with_working x w) s w) w h d
+    ≡ hung (hung (with_tree (hung (with_tree (with_working x w) w (h ∷ d ∷ [])) w (Some s)) s (w ∷ [])) d (Some w)) h (Some w)
+in_order x s w h d ne =
+    let made : Arena = with_working x w in
+    let two : Cell → Cell = over (h ∷ d ∷ []) in
+    let up : Cell → Cell = hanging (Some s) in
+    let one : Cell → Cell = over (w ∷ []) in
+    ap (λ (y : Arena). hung (hung y d (Some w)) h (Some w))
+    (change_both (on_cell made s one) w up two (λ c. refl)
+    ∙ ap (λ (y : Arena). on_cell y w up) (on_swap made s w one two ne)
+    ∙ on_swap (on_cell made w two) s w one up ne)

@@ -9,6 +9,7 @@ use Rattle.vm_ids.specs.Forest.Settling.{pass_page}
 use Rattle.vm_ids.specs.declared.numbers.NodeId.{NodeId}
 use Rattle.local_cache.specs.declared.own_state.OwnState.{OwnState}
 use Rattle.local_cache.specs.Arena.{Arena, Cell, HasNode, cell, hung, with_own, with_tree, without}
+use Rattle.local_cache.specs.OnCells.{on_cell}
 use Rattle.local_cache.specs.Own.{own_of}
 use Rattle.local_cache.specs.Reading.{forest_of, hang_by, name_of}
 use Rattle.local_cache.specs.Sound.{IsSound}
@@ -19,8 +20,8 @@ use Rattle.tree_merge.specs.declared.released.Released.{Released}
 use Rattle.tree_merge.specs.Releasing.{HasGivenWay, given, released_to}
 use Rattle.tree_merge.specs.Staying.{HasNoChild, IsBelow, placed}
 use Rattle.tree_merge.specs.TreeLists.{exchanged, exchanged_under}
-use Rattle.tree_merge.proofs.CopiedPages.Changes.{change_change}
-use Rattle.tree_merge.proofs.Merge.Cells.{alter, altered_again, altered_gone}
+use Rattle.history_tree.proofs.OnCells.{on_swap, on_twice}
+use Rattle.tree_merge.proofs.CopiedPages.Changes.{without_put}
 use Rattle.tree_merge.proofs.Merge.Page.{Passed, passed}
 use Rattle.tree_merge.proofs.Merge.Step.{cut_root, given_forest, given_gone, given_owns, given_released, passed_below, passed_none, passed_root}
 use Rattle.tree_merge.proofs.Place.Heir.{give_way-Freed, no_parent-placed, tree-placed}
@@ -53,26 +54,26 @@ module _ (a : Arena) (w y : NodeId) (y_w : y ≢ w) (s : OwnState) where
 
   -- the same before anything is written to w
   abbrev loose_first : Arena
-  loose_first = alter (alter a y (on None)) y owning
+  loose_first = on_cell (on_cell a y (on None)) y owning
 
-  loose_is : loose ≡ alter loose_first w (over y None)
+  loose_is : loose ≡ on_cell loose_first w (over y None)
   loose_is =
-      ap (λ (x : Arena). alter x y owning) (change_change a w y w_y (over y None) (on None))
-      ∙ change_change (alter a y (on None)) w y w_y (over y None) owning
+      ap (λ (x : Arena). on_cell x y owning) (on_swap a w y (over y None) (on None) w_y)
+      ∙ on_swap (on_cell a y (on None)) w y (over y None) owning w_y
 
   -- where y is written last, it doesn't matter that it was cut off
-  hung_last : (x : Arena) (up : Option NodeId) → alter (alter (alter x y (on None)) y owning) y (on up) ≡ alter (alter x y owning) y (on up)
+  hung_last : (x : Arena) (up : Option NodeId) → on_cell (on_cell (on_cell x y (on None)) y owning) y (on up) ≡ on_cell (on_cell x y owning) y (on up)
   hung_last x up =
-      ap (λ (z : Arena). alter z y (on up)) (altered_again x y (on None) owning)
-      ∙ altered_again x y (λ c. owning (on None c)) (on up)
-      ∙ sym (altered_again x y owning (on up))
+      ap (λ (z : Arena). on_cell z y (on up)) (on_twice x y (on None) owning)
+      ∙ on_twice x y (λ c. owning (on None c)) (on up)
+      ∙ sym (on_twice x y owning (on up))
 
   -- w has no parent
   once_root : without loose w ≡ without (hung (with_own a y s) y None) w
   once_root =
       ap (λ (x : Arena). without x w) loose_is
-      ∙ altered_gone loose_first w (over y None) refl
-      ∙ ap (λ (x : Arena). without x w) (altered_again a y (on None) owning ∙ sym (altered_again a y owning (on None)))
+      ∙ without_put loose_first w (over y None (cell loose_first w)) refl
+      ∙ ap (λ (x : Arena). without x w) (on_twice a y (on None) owning ∙ sym (on_twice a y owning (on None)))
 
   -- w hangs on p by a tree link
   module _ (p : NodeId) (p_y : p ≢ y) (p_w : p ≢ w) where
@@ -85,23 +86,27 @@ module _ (a : Arena) (w y : NodeId) (y_w : y ≢ w) (s : OwnState) where
     abbrev put_under : Arena
     put_under = hung (with_tree loose p (exchanged w (Some y) (cell loose p).tree)) y (Some p)
 
-    put_under_is : put_under ≡ alter (alter (alter loose_first p (over w (Some y))) y (on (Some p))) w (over y None)
-    put_under_is =
-        ap (λ (x : Arena). alter (alter x p (over w (Some y))) y (on (Some p))) loose_is
-        ∙ ap (λ (x : Arena). alter x y (on (Some p))) (change_change loose_first w p w_p (over y None) (over w (Some y)))
-        ∙ change_change (alter loose_first p (over w (Some y))) w y w_y (over y None) (on (Some p))
+    -- the same before anything is written to w
+    abbrev hung_first : Arena
+    hung_first = on_cell (on_cell loose_first p (over w (Some y))) y (on (Some p))
 
-    tree_first : alter loose_first p (over w (Some y)) ≡ alter (alter (alter a p (over w (Some y))) y (on None)) y owning
+    put_under_is : put_under ≡ on_cell hung_first w (over y None)
+    put_under_is =
+        ap (λ (x : Arena). on_cell (on_cell x p (over w (Some y))) y (on (Some p))) loose_is
+        ∙ ap (λ (x : Arena). on_cell x y (on (Some p))) (on_swap loose_first w p (over y None) (over w (Some y)) w_p)
+        ∙ on_swap (on_cell loose_first p (over w (Some y))) w y (over y None) (on (Some p)) w_y
+
+    tree_first : on_cell loose_first p (over w (Some y)) ≡ on_cell (on_cell (on_cell a p (over w (Some y))) y (on None)) y owning
     tree_first =
-        change_change (alter a y (on None)) y p y_p owning (over w (Some y))
-        ∙ ap (λ (x : Arena). alter x y owning) (change_change a y p y_p (on None) (over w (Some y)))
+        on_swap (on_cell a y (on None)) y p owning (over w (Some y)) y_p
+        ∙ ap (λ (x : Arena). on_cell x y owning) (on_swap a y p (on None) (over w (Some y)) y_p)
 
     once_tree : without (hung put_under w None) w ≡ without (hung (with_own (with_tree a p (exchanged w (Some y) (cell a p).tree)) y s) y (Some p)) w
     once_tree =
-        altered_gone put_under w (on None) refl
+        without_put put_under w (on None (cell put_under w)) refl
         ∙ ap (λ (x : Arena). without x w) put_under_is
-        ∙ altered_gone (alter (alter loose_first p (over w (Some y))) y (on (Some p))) w (over y None) refl
-        ∙ ap (λ (x : Arena). without x w) (ap (λ (x : Arena). alter x y (on (Some p))) tree_first ∙ hung_last (alter a p (over w (Some y))) (Some p))
+        ∙ without_put hung_first w (over y None (cell hung_first w)) refl
+        ∙ ap (λ (x : Arena). without x w) (ap (λ (x : Arena). on_cell x y (on (Some p))) tree_first ∙ hung_last (on_cell a p (over w (Some y))) (Some p))
 
 -- What is needed
 

@@ -1,5 +1,5 @@
 -- A page was detached for a copy: its node and that of its source.
-use Rattle.std.proofs.Common.{◌≡◌, ◌≢◌, ◌+◌, ◌≤◌, ◌⊎◌, Some, None, IsSome, sym, ap, ◌∙◌, subst, inl, inr, arith}
+use Rattle.std.proofs.Common.{◌≡◌, ◌≢◌, ◌+◌, ◌≤◌, ◌⊎◌, Some, None, sym, ap, ◌∙◌, subst, inl, inr, arith}
 use Rattle.vm_ids.specs.declared.node_name.NodeName.{NodeName}
 use Rattle.vm_ids.specs.declared.node_name.NodeName.TheVariants.{Live, Working}
 use Rattle.vm_ids.specs.declared.numbers.CacheId.{CacheId}
@@ -17,11 +17,10 @@ use Rattle.vm_ids.proofs.Forest.Made.{detach-made}
 use Rattle.vm_ids.proofs.Forest.NodesAfter.{node-put}
 use Rattle.vm_ids.proofs.Forest.OnePage.{detach-shaped_but, next_free}
 use Rattle.local_cache.specs.declared.own_state.OwnState.{OwnState}
-use Rattle.local_cache.specs.Arena.{Arena, HasNode, node_at}
+use Rattle.local_cache.specs.Arena.{Arena, node_at}
 use Rattle.local_cache.specs.Reading.{forest_of, name_of}
 use Rattle.local_cache.specs.Sound.{IsSound}
 use Rattle.local_cache.proofs.Changes.SameNodes.{forest_of-made}
-use Rattle.local_cache.proofs.Whole.LivePages.{page_there}
 
 -- two nodes whose names differ
 apart_by_name : (a : Arena) (n m : NodeId) (x y : NodeName) → name_of a n ≡ x → name_of a m ≡ y → x ≢ y → n ≢ m
@@ -31,15 +30,6 @@ apart_by_name a n m x y is_x is_y ne e = ne (sym is_x ∙ ap (name_of a) e ∙ i
 
 module _ (a b : Arena) (consistent : IsConsistent (forest_of a)) (to from : CacheId) (to_page from_page : PageNo) (pages : ArePages (forest_of a) (Live to to_page) (Live from from_page))
     (forest_is : forest_of b ≡ detach (forest_of a) (Live to to_page) None) (sound : IsSound b) where
-  pub pages_after : ArePages (forest_of b) (Live to to_page) (Live from from_page)
-  pages_after = subst (λ g. ArePages g (Live to to_page) (Live from from_page)) (sym forest_is) (detached_pages (forest_of a) consistent (Live to to_page) (Live from from_page) pages)
-
-  pub destination_there : IsSome (node_at b to.0 to_page.0)
-  destination_there = page_there b sound to to_page pages_after.destination
-
-  pub source_there : IsSome (node_at b from.0 from_page.0)
-  source_there = page_there b sound from from_page pages_after.source
-
   pub made_after : b.made ≤ a.made + 1
   made_after = omega (arith, detach-made (forest_of a) (Live to to_page) None, forest_of-made a, forest_of-made b, ap (λ (g : Forest OwnState). g.made) forest_is)
 
@@ -51,9 +41,6 @@ module _ (a b : Arena) (consistent : IsConsistent (forest_of a)) (to from : Cach
   module _ (d s : NodeId) (at_d : node_at b to.0 to_page.0 ≡ Some d) (at_s : node_at b from.0 from_page.0 ≡ Some s) where
     pub fresh_name : name_of b d ≡ Live to to_page
     fresh_name = (sound.kept.listed.nodes to.0 to_page.0 d at_d).1
-
-    pub origin_held : HasNode b s
-    origin_held = (sound.kept.listed.nodes from.0 from_page.0 s at_s).0
 
     pub origin_name : name_of b s ≡ Live from from_page
     origin_name = (sound.kept.listed.nodes from.0 from_page.0 s at_s).1

@@ -1,12 +1,14 @@
--- A step that did one page.
-use Rattle.std.proofs.Common.{ℕ, leb, refl, inr}
+-- A step that did one page alone, or many at once.
+use Rattle.std.proofs.Common.{◌≡◌, ℕ, false, leb, refl, sym, ap, ◌∙◌, inl, inr, arith}
 use Rattle.vm_ids.specs.declared.command.Extent.{Extent}
 use Rattle.vm_ids.specs.declared.command.Span.{Span}
-use Rattle.vm_ids.specs.Forest.Commands.{small_copy}
+use Rattle.vm_ids.specs.Forest.Commands.{copy_pages, small_copy}
 use Rattle.local_cache.specs.Arena.{Arena}
+use Rattle.local_cache.specs.Reading.{forest_of}
 use Rattle.tree_merge.specs.declared.released.Released.{Released}
-use Rattle.tree_merge.specs.Copying.{page_after}
-use Rattle.tree_merge.specs.Stepping.{IsCopiedAlone, IsCopyStep, IsRetireStep, IsRetiredAlone}
+use Rattle.tree_merge.specs.declared.released.Released.TheVariants.{Nothing}
+use Rattle.tree_merge.specs.Copying.{page_after, span_pairs_after}
+use Rattle.tree_merge.specs.Stepping.{IsCopiedAlone, IsCopiedAtOnce, IsCopyStep, IsRetireStep, IsRetiredAlone}
 use Rattle.tree_merge.proofs.PagesAlone.Copied.{copied_room, copied_rule, copied_sizes}
 use Rattle.tree_merge.proofs.PagesAlone.Retired.{alone_room, alone_sizes}
 
@@ -27,4 +29,14 @@ copied_one a b span done r one = record {
   sizes = copied_sizes a b span.to (page_after span.to_page done) span.from (page_after span.from_page done) (leb span.pages small_copy) r one;
   room = copied_room a b span.to (page_after span.to_page done) span.from (page_after span.from_page done) (leb span.pages small_copy) r one;
   how = inr (refl, one);
+}
+
+-- and one that copied many at once
+pub copied_all : (a b : Arena) (span : Span) (done count : ℕ) → leb span.pages small_copy ≡ false → IsCopiedAtOnce a b span done count → IsCopyStep a b span done (record { pages = count; released = Nothing })
+copied_all a b span done count large all = record {
+  forest = all.forest ∙ ap (λ t. copy_pages t (span_pairs_after span done count) (forest_of a)) (sym large);
+  sound = all.sound;
+  sizes = all.sizes;
+  room = omega (arith, all.room);
+  how = inl (refl, large, all);
 }

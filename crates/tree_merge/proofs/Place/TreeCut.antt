@@ -54,9 +54,6 @@ module _ (a : Arena) (sound : IsSound a) (n p : NodeId) (hn : HasNode a n) (up :
   hp : HasNode a p
   hp = tree_parent a sound n p hn up by_tree
 
-  ts : List NodeId
-  ts = exchanged n None (cell a p).tree
-
   abbrev b : Arena
   b = with_tree a p (exchanged n None (cell a p).tree)
 

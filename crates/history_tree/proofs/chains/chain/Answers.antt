@@ -24,13 +24,13 @@ pub loop-items-smaller : goal.loop-items-smaller
 loop-items-smaller c =
     let a = c.args.caches.now in
     let bare : is_none (page_of (cell a c.loop-items.at).own) ≡ true = ap (λ s. is_none (page_of s)) (sym c.own_state.ensures) ∙ sym c.is_absent.ensures.page ∙ c.loop-items-test.true in
-    shorter a c.requires.sound c.requires.shaped c.loop-items.at c.loop-items.invariant.held c.unwrap-at.result bare (ap (λ l. l.parent) (sym c.links.ensures) ∙ c.unwrap-at.ensures)
+    shorter a c.requires.sound c.requires.shaped c.loop-items.at c.loop-items.invariant.held c.unwrap-at.result bare (sym c.parent.ensures ∙ c.unwrap-at.ensures)
 
 pub loop-items-preserved : goal.loop-items-preserved
 loop-items-preserved c =
     let a = c.args.caches.now in
     let bare : is_none (page_of (cell a c.loop-items.at).own) ≡ true = ap (λ s. is_none (page_of s)) (sym c.own_state.ensures) ∙ sym c.is_absent.ensures.page ∙ c.loop-items-test.true in
-    let up : (cell a c.loop-items.at).links.parent ≡ _ = ap (λ l. l.parent) (sym c.links.ensures) ∙ c.unwrap-at.ensures in
+    let up : (cell a c.loop-items.at).links.parent ≡ _ = sym c.parent.ensures ∙ c.unwrap-at.ensures in
     let ok : is_ok c.push.result ≡ true = ap is_ok c.in_ok-push.was in
     let items = ◌∙◌ {A = List ChainItem} c.push.ensures.items (pushed _ c.loop-items.items.items c.item_of.result (item_for (forest_of a) (name_of a c.loop-items.at)) ok c.item_of.ensures) in
     record {
@@ -42,7 +42,7 @@ pub unwrap-at-requires : goal.unwrap-at-requires
 unwrap-at-requires c =
     let a = c.args.caches.now in
     let bare : is_none (page_of (cell a c.loop-items.at).own) ≡ true = ap (λ s. is_none (page_of s)) (sym c.own_state.ensures) ∙ sym c.is_absent.ensures.page ∙ c.loop-items-test.true in
-    subst IsSome (ap (λ l. l.parent) (sym c.links.ensures)) (has_parent a c.requires.sound c.requires.shaped c.loop-items.at c.loop-items.invariant.held bare)
+    subst IsSome (sym c.parent.ensures) (has_parent a c.requires.sound c.requires.shaped c.loop-items.at c.loop-items.invariant.held bare)
 
 pub returns : goal.returns
 returns c =

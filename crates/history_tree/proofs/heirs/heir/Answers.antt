@@ -18,11 +18,11 @@ returns-then-is_absent-clause-held c = let r = c.requires in child_held c.args.c
 pub returns-else-is_absent-clause-heir : goal.returns-else-is_absent-clause-heir
 returns-else-is_absent-clause-heir c =
     let r = c.requires in
-    ap (λ l. option_map (name_of c.args.caches.now) l.first) c.links-stub.ensures
+    ap (option_map (name_of c.args.caches.now)) c.first_stub.ensures
     ∙ sym (heir_past c.args.caches.now r.sound c.args.node r.node r.live c.in-Some.child c.in-Some.ensures
     (ap (λ s. is_none (page_of s)) (sym c.own_state.ensures) ∙ sym c.is_absent.ensures.page ∙ c.if-is_absent.false))
 
 pub returns-in-None-clause-heir : goal.returns-in-None-clause-heir
 returns-in-None-clause-heir c =
     let r = c.requires in
-    ap (λ l. option_map (name_of c.args.caches.now) l.first) c.links-stub.ensures ∙ sym (heir_stub c.args.caches.now r.sound c.args.node r.node c.in-None.ensures)
+    ap (option_map (name_of c.args.caches.now)) c.first_stub-in-None.ensures ∙ sym (heir_stub c.args.caches.now r.sound c.args.node r.node c.in-None.ensures)

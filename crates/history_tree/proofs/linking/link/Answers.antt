@@ -1,9 +1,9 @@
 use Rattle.std.proofs.Common.{◌≡◌, ◌≤◌, List, [], ◌∷◌, Some, None, sym, ap, subst, ◌∙◌, slice_get, refl, inl}
 use Rattle.vm_ids.specs.declared.numbers.NodeId.{NodeId}
-use Rattle.local_cache.specs.Arena.{Arena, HasNode, cell, find, with_working}
+use Rattle.local_cache.specs.Arena.{Arena, HasNode, cell}
 use Rattle.local_cache.specs.Reading.{forest_of}
 use Rattle.local_cache.specs.Sound.{IsSound, ◌∈◌}
-use Rattle.history_tree.specs.Hanging.{set_one, set_two, IsGrown}
+use Rattle.history_tree.specs.Hanging.{IsGrown, IsPutBetween}
 use Rattle.history_tree.proofs.Hang.{CanLink, Linked, links-first, links-more}
 use Rattle.history_tree.proofs.linking.link.Goals as goal
 
@@ -33,20 +33,20 @@ returns-in-None-clause-sound c =
     let can : CanLink c.args.caches.now c.args.d c.args.s = record { sound = r.sound; held_d = r.d; held_s = r.s; bare = r.bare; live = r.live; apart = r.apart } in
     subst IsSound (sym c.hang_one.ensures.changed) (links-first c.args.caches.now c.args.d c.args.s can (none_there _ c.in-None.ensures)).sound
 
-more : (a b : Arena) (d s w h : NodeId) → CanLink a d s → Some h ≡ slice_get (cell a s).tree 0 → find a w ≡ None → 1 ≤ a.room.nodes → b ≡ set_two (set_one (with_working a w) s w) w h d → Linked a b d s
-more a b d s w h can e free roomy is = let r = rest_of (cell a s).tree h e in subst (λ x. Linked a x d s) (sym is) (links-more a d s w h r.0 can r.1 free roomy)
+more : (a b : Arena) (d s h : NodeId) → CanLink a d s → Some h ≡ slice_get (cell a s).tree 0 → 1 ≤ a.room.nodes → IsPutBetween a b d s h → Linked a b d s
+more a b d s h can e roomy put = let r = rest_of (cell a s).tree h e in subst (λ x. Linked a x d s) (sym put.is) (links-more a d s put.working h r.0 can r.1 put.fresh roomy)
 
 pub returns-in-Some-clause-forest : goal.returns-in-Some-clause-forest
 returns-in-Some-clause-forest c =
     let r = c.requires in
     let can : CanLink c.args.caches.now c.args.d c.args.s = record { sound = r.sound; held_d = r.d; held_s = r.s; bare = r.bare; live = r.live; apart = r.apart } in
-    (more c.args.caches.now _ c.args.d c.args.s _ c.in-Some.h can c.in-Some.ensures c.put_between.ensures.fresh r.room c.put_between.ensures.changed).forest
+    (more c.args.caches.now _ c.args.d c.args.s c.in-Some.h can c.in-Some.ensures r.room c.put_between.ensures).forest
 
 pub returns-in-Some-clause-sound : goal.returns-in-Some-clause-sound
 returns-in-Some-clause-sound c =
     let r = c.requires in
     let can : CanLink c.args.caches.now c.args.d c.args.s = record { sound = r.sound; held_d = r.d; held_s = r.s; bare = r.bare; live = r.live; apart = r.apart } in
-    (more c.args.caches.now _ c.args.d c.args.s _ c.in-Some.h can c.in-Some.ensures c.put_between.ensures.fresh r.room c.put_between.ensures.changed).sound
+    (more c.args.caches.now _ c.args.d c.args.s c.in-Some.h can c.in-Some.ensures r.room c.put_between.ensures).sound
 
 pub returns-in-None-clause-grown : goal.returns-in-None-clause-grown
 returns-in-None-clause-grown c =
@@ -58,4 +58,4 @@ pub returns-in-Some-clause-grown : goal.returns-in-Some-clause-grown
 returns-in-Some-clause-grown c =
     let r = c.requires in
     let can : CanLink c.args.caches.now c.args.d c.args.s = record { sound = r.sound; held_d = r.d; held_s = r.s; bare = r.bare; live = r.live; apart = r.apart } in
-    (more c.args.caches.now _ c.args.d c.args.s _ c.in-Some.h can c.in-Some.ensures c.put_between.ensures.fresh r.room c.put_between.ensures.changed).grown
+    (more c.args.caches.now _ c.args.d c.args.s c.in-Some.h can c.in-Some.ensures r.room c.put_between.ensures).grown

@@ -1,36 +1,55 @@
-use Rattle.std.proofs.Common.{◌+◌, ◌-◌, ◌<◌, arith}
-use Rattle.tree_merge.proofs.AlikeNodes.{fewer}
-use Rattle.tree_merge.proofs.CopiedPages.AtOnce.{destination_there, source_there}
-use Rattle.move_pages.proofs.MovedPages.AtOnce.{can_move, pages_apart}
+use Rattle.std.proofs.Common.{◌≡◌, ap, ◌∙◌}
+use Rattle.local_cache.specs.declared.own_state.OwnState.TheVariants.{Zero}
+use Rattle.local_cache.specs.Arena.{Arena, NodesStay, cell}
+use Rattle.local_cache.specs.NodeCells.{renewed}
+use Rattle.local_cache.specs.OnCells.{on_cells}
+use Rattle.tree_merge.specs.Copying.{renewed_many}
+use Rattle.move_pages.proofs.MovedPages.AtOnce.{all_moved, destinations_still, first_held, nodes_apart, nodes_held, parents_held, sources_still}
 use Rattle.move_pages.proofs.moving_many.move_alike.Goals as goal
 
-pub node_of-node-requires : goal.node_of-node-requires
-node_of-node-requires c =
-    let span = c.args.span in
-    let some : 0 < span.pages - c.args.done = omega (arith, c.requires.done) in
-    destination_there c.args.caches.now c.requires.sound span.to span.from (span.to_page.0 + c.args.done) (span.from_page.0 + c.args.done) (span.pages - c.args.done) c.requires.can some
+pub leave_many-requires-clause-held : goal.leave_many-requires-clause-held
+leave_many-requires-clause-held c = let can = c.requires.can in nodes_held c.args.caches.now c.args.node c.args.source can.0 c.args.count can.1 can.2
 
-pub node_of-source-requires : goal.node_of-source-requires
-node_of-source-requires c =
-    let span = c.args.span in
-    let some : 0 < span.pages - c.args.done = omega (arith, c.requires.done) in
-    source_there c.args.caches.now c.requires.sound span.to span.from (span.to_page.0 + c.args.done) (span.from_page.0 + c.args.done) (span.pages - c.args.done) c.requires.can some
+pub leave_many-requires-clause-parents : goal.leave_many-requires-clause-parents
+leave_many-requires-clause-parents c = let can = c.requires.can in parents_held c.args.caches.now c.args.node c.args.source can.0 c.args.count can.1 can.2
 
-pub move_many-requires-clause-apart : goal.move_many-requires-clause-apart
-move_many-requires-clause-apart c =
-    pages_apart c.args.caches.now c.requires.sound c.args.span c.args.done c.requires.can c.lone_nodes-count.result (omega (arith, c.lone_nodes-count.ensures.most, c.min-alike.ensures))
+pub leave_many-requires-clause-node : goal.leave_many-requires-clause-node
+leave_many-requires-clause-node c = let can = c.requires.can in first_held c.args.caches.now c.args.node c.args.source can.0 c.args.count can.1 can.2 c.requires.some
 
-pub returns-in-Some-clause-moved : goal.returns-in-Some-clause-moved
-returns-in-Some-clause-moved c = λ some.
-    let d = c.node_of-node.result in
-    let s = c.node_of-source.result in
-    let count = c.lone_nodes-count.result in
-    record {
-      old = d;
-      source = s;
-      fresh = c.in-Some.field-0;
-      can = can_move c.args.caches.now c.requires.sound c.args.span c.args.done c.requires.can d s c.node_of-node.ensures c.node_of-source.ensures count c.lone_nodes-count.ensures.lone
-          (fewer c.args.caches.now s c.stretch.result count (omega (arith, c.lone_nodes-count.ensures.most, c.min-alike.ensures)) c.stretch.ensures.alike)
-          c.requires.consistent (omega (arith, c.lone_nodes-count.ensures.most, c.min-alike.ensures)) c.in-Some.field-0 c.in-Some.ensures.new;
-      is = c.in-Some.ensures.changed;
-    }
+pub renew_many-requires-clause-held : goal.renew_many-requires-clause-held
+renew_many-requires-clause-held c = λ k less.
+    let can = c.requires.can in
+    c.leave_many.ensures.stays _ (nodes_held c.args.caches.now c.args.node c.args.source can.0 c.args.count can.1 can.2 k less)
+
+pub exchange_names-requires-clause-nodes : goal.exchange_names-requires-clause-nodes
+exchange_names-requires-clause-nodes c =
+    let a = c.args.caches.now in
+    let d = c.args.node in
+    let can = c.requires.can in
+    let stays : NodesStay a c.renew_many.new.self = λ n held. c.renew_many.ensures.stays n (c.leave_many.ensures.stays n held) in
+    let is : c.renew_many.new.self ≡ renewed_many a (cell a d).links.parent d Zero c.args.count =
+    c.renew_many.ensures.changed ∙ ap (λ (x : Arena). on_cells x d (λ _. renewed Zero) c.args.count) c.leave_many.ensures.changed in
+    (can.0.to, can.0.to_page, destinations_still a d c.args.source can.0 c.args.count can.1 can.2 c.renew_many.new.self is stays)
+
+pub exchange_names-requires-clause-others : goal.exchange_names-requires-clause-others
+exchange_names-requires-clause-others c =
+    let a = c.args.caches.now in
+    let d = c.args.node in
+    let can = c.requires.can in
+    let stays : NodesStay a c.renew_many.new.self = λ n held. c.renew_many.ensures.stays n (c.leave_many.ensures.stays n held) in
+    let is : c.renew_many.new.self ≡ renewed_many a (cell a d).links.parent d Zero c.args.count =
+    c.renew_many.ensures.changed ∙ ap (λ (x : Arena). on_cells x d (λ _. renewed Zero) c.args.count) c.leave_many.ensures.changed in
+    (can.0.from, can.0.from_page, sources_still a d c.args.source can.0 c.args.count can.1 can.2 c.renew_many.new.self is stays)
+
+pub exchange_names-requires-clause-apart : goal.exchange_names-requires-clause-apart
+exchange_names-requires-clause-apart c =
+    let can = c.requires.can in
+    nodes_apart c.args.caches.now c.args.node c.args.source can.0 c.args.count can.1 can.2
+
+pub returns : goal.returns
+returns c = λ span same can.
+    let a = c.args.caches.now in
+    let d = c.args.node in
+    let is : c.renew_many.new.self ≡ renewed_many a (cell a d).links.parent d Zero c.args.count =
+    c.renew_many.ensures.changed ∙ ap (λ (x : Arena). on_cells x d (λ _. renewed Zero) c.args.count) c.leave_many.ensures.changed in
+    all_moved a d c.args.source span c.args.count same can c.renew_many.new.self _ is c.exchange_names.ensures.changed

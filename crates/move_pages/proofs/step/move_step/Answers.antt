@@ -1,45 +1,247 @@
-use Rattle.std.proofs.Common.{◌≡◌, ◌+◌, sym, subst, arith}
+use Rattle.std.proofs.Common.{◌+◌, ◌-◌, sym, ap, ◌∙◌, subst, refl, inl, inr, arith}
 use Rattle.vm_ids.specs.Forest.Commands.{page_name}
 use Rattle.vm_ids.specs.Forest.Laws.Linking.{ArePages}
+use Rattle.vm_ids.specs.Forest.Shape.{IsConsistent}
 use Rattle.vm_ids.proofs.Forest.Pairs.{move_now}
 use Rattle.local_cache.specs.declared.own_state.OwnState.TheVariants.{Zero}
-use Rattle.local_cache.specs.Reading.{forest_of}
-use Rattle.move_pages.proofs.MovedPages.AtOnce.{moved_at_once}
+use Rattle.local_cache.specs.Arena.{Arena, HasNode}
+use Rattle.local_cache.specs.Reading.{forest_of, name_of}
+use Rattle.local_cache.specs.Sound.{IsSound}
+use Rattle.tree_merge.specs.Copying.{page_after}
+use Rattle.tree_merge.proofs.CopiedPages.AtOnce.{destination_there, source_there}
+use Rattle.move_pages.specs.Moved.{IsMovedAlone}
+use Rattle.move_pages.specs.Moving.{AreMoved, CanMoveMany, part_of}
+use Rattle.move_pages.proofs.MovedPages.AtOnce.{can_move}
 use Rattle.move_pages.proofs.step.move_step.Goals as goal
 
--- None were moved at once: the caches are as they were.
-pub move_one-released-requires-clause-pages : goal.move_one-released-requires-clause-pages
-move_one-released-requires-clause-pages c =
+pub node_of-node-requires : goal.node_of-node-requires
+node_of-node-requires c =
+    let s = c.args.span in
+    let r = c.requires in
+    destination_there c.args.caches.now r.sound s.to s.from (s.to_page.0 + c.args.done) (s.from_page.0 + c.args.done) (s.pages - c.args.done) r.can (omega (arith, r.done))
+
+pub node_of-source-requires : goal.node_of-source-requires
+node_of-source-requires c =
+    let s = c.args.span in
+    let r = c.requires in
+    source_there c.args.caches.now r.sound s.to s.from (s.to_page.0 + c.args.done) (s.from_page.0 + c.args.done) (s.pages - c.args.done) r.can (omega (arith, r.done))
+
+pub moved_at_once-pages-requires-clause-node : goal.moved_at_once-pages-requires-clause-node
+moved_at_once-pages-requires-clause-node c =
+    (c.requires.sound.kept.listed.nodes c.args.span.to.0 (c.args.span.to_page.0 + c.args.done) c.node_of-node.result c.node_of-node.ensures).0
+
+pub moved_at_once-pages-requires-clause-source : goal.moved_at_once-pages-requires-clause-source
+moved_at_once-pages-requires-clause-source c =
+    (c.requires.sound.kept.listed.nodes c.args.span.from.0 (c.args.span.from_page.0 + c.args.done) c.node_of-source.result c.node_of-source.ensures).0
+
+-- Many are moved at once.
+
+pub move_alike-requires-clause-can : goal.move_alike-requires-clause-can
+move_alike-requires-clause-can c =
+    let s = c.args.span in
+    let k = c.args.done in
+    let many = c.moved_at_once-pages in
+    let part = part_of s k many.result in
+    let can = can_move c.args.caches.now c.requires.sound s k c.requires.can c.node_of-node.result c.node_of-source.result c.node_of-node.ensures c.node_of-source.ensures many.result
+    (many.ensures.leaves (omega (arith, c.if-pages-gt1.true))) (many.ensures.alike (omega (arith, c.if-pages-gt1.true))) c.requires.consistent many.ensures.most in
+    (part, refl, subst (λ (x : Arena). CanMoveMany x c.node_of-node.result c.node_of-source.result part) (sym many.ensures.same) can)
+
+pub returns-then-pages-gt1-clause-forest : goal.returns-then-pages-gt1-clause-forest
+returns-then-pages-gt1-clause-forest c =
+    let s = c.args.span in
+    let k = c.args.done in
+    let many = c.moved_at_once-pages in
+    let part = part_of s k many.result in
+    let can = can_move c.args.caches.now c.requires.sound s k c.requires.can c.node_of-node.result c.node_of-source.result c.node_of-node.ensures c.node_of-source.ensures many.result
+    (many.ensures.leaves (omega (arith, c.if-pages-gt1.true))) (many.ensures.alike (omega (arith, c.if-pages-gt1.true))) c.requires.consistent many.ensures.most in
+    let all = subst (λ (x : Arena). AreMoved x c.move_alike.new.caches part) many.ensures.same
+    (c.move_alike.ensures part refl (subst (λ (x : Arena). CanMoveMany x c.node_of-node.result c.node_of-source.result part) (sym many.ensures.same) can)) in
+    all.forest
+
+pub returns-then-pages-gt1-clause-sound : goal.returns-then-pages-gt1-clause-sound
+returns-then-pages-gt1-clause-sound c =
+    let s = c.args.span in
+    let k = c.args.done in
+    let many = c.moved_at_once-pages in
+    let part = part_of s k many.result in
+    let can = can_move c.args.caches.now c.requires.sound s k c.requires.can c.node_of-node.result c.node_of-source.result c.node_of-node.ensures c.node_of-source.ensures many.result
+    (many.ensures.leaves (omega (arith, c.if-pages-gt1.true))) (many.ensures.alike (omega (arith, c.if-pages-gt1.true))) c.requires.consistent many.ensures.most in
+    let all = subst (λ (x : Arena). AreMoved x c.move_alike.new.caches part) many.ensures.same
+    (c.move_alike.ensures part refl (subst (λ (x : Arena). CanMoveMany x c.node_of-node.result c.node_of-source.result part) (sym many.ensures.same) can)) in
+    all.sound
+
+pub returns-then-pages-gt1-clause-consistent : goal.returns-then-pages-gt1-clause-consistent
+returns-then-pages-gt1-clause-consistent c =
+    let s = c.args.span in
+    let k = c.args.done in
+    let many = c.moved_at_once-pages in
+    let part = part_of s k many.result in
+    let can = can_move c.args.caches.now c.requires.sound s k c.requires.can c.node_of-node.result c.node_of-source.result c.node_of-node.ensures c.node_of-source.ensures many.result
+    (many.ensures.leaves (omega (arith, c.if-pages-gt1.true))) (many.ensures.alike (omega (arith, c.if-pages-gt1.true))) c.requires.consistent many.ensures.most in
+    let all = subst (λ (x : Arena). AreMoved x c.move_alike.new.caches part) many.ensures.same
+    (c.move_alike.ensures part refl (subst (λ (x : Arena). CanMoveMany x c.node_of-node.result c.node_of-source.result part) (sym many.ensures.same) can)) in
+    all.consistent
+
+pub returns-then-pages-gt1-clause-moved : goal.returns-then-pages-gt1-clause-moved
+returns-then-pages-gt1-clause-moved c =
+    let s = c.args.span in
+    let k = c.args.done in
+    let many = c.moved_at_once-pages in
+    let part = part_of s k many.result in
+    let can = can_move c.args.caches.now c.requires.sound s k c.requires.can c.node_of-node.result c.node_of-source.result c.node_of-node.ensures c.node_of-source.ensures many.result
+    (many.ensures.leaves (omega (arith, c.if-pages-gt1.true))) (many.ensures.alike (omega (arith, c.if-pages-gt1.true))) c.requires.consistent many.ensures.most in
+    let all = subst (λ (x : Arena). AreMoved x c.move_alike.new.caches part) many.ensures.same
+    (c.move_alike.ensures part refl (subst (λ (x : Arena). CanMoveMany x c.node_of-node.result c.node_of-source.result part) (sym many.ensures.same) can)) in
+    inl (all, refl)
+
+pub returns-then-pages-gt1-clause-sizes : goal.returns-then-pages-gt1-clause-sizes
+returns-then-pages-gt1-clause-sizes c =
+    let s = c.args.span in
+    let k = c.args.done in
+    let many = c.moved_at_once-pages in
+    let part = part_of s k many.result in
+    let can = can_move c.args.caches.now c.requires.sound s k c.requires.can c.node_of-node.result c.node_of-source.result c.node_of-node.ensures c.node_of-source.ensures many.result
+    (many.ensures.leaves (omega (arith, c.if-pages-gt1.true))) (many.ensures.alike (omega (arith, c.if-pages-gt1.true))) c.requires.consistent many.ensures.most in
+    let all = subst (λ (x : Arena). AreMoved x c.move_alike.new.caches part) many.ensures.same
+    (c.move_alike.ensures part refl (subst (λ (x : Arena). CanMoveMany x c.node_of-node.result c.node_of-source.result part) (sym many.ensures.same) can)) in
+    all.sizes
+
+pub returns-then-pages-gt1-clause-room : goal.returns-then-pages-gt1-clause-room
+returns-then-pages-gt1-clause-room c =
+    let s = c.args.span in
+    let k = c.args.done in
+    let many = c.moved_at_once-pages in
+    let part = part_of s k many.result in
+    let can = can_move c.args.caches.now c.requires.sound s k c.requires.can c.node_of-node.result c.node_of-source.result c.node_of-node.ensures c.node_of-source.ensures many.result
+    (many.ensures.leaves (omega (arith, c.if-pages-gt1.true))) (many.ensures.alike (omega (arith, c.if-pages-gt1.true))) c.requires.consistent many.ensures.most in
+    let all = subst (λ (x : Arena). AreMoved x c.move_alike.new.caches part) many.ensures.same
+    (c.move_alike.ensures part refl (subst (λ (x : Arena). CanMoveMany x c.node_of-node.result c.node_of-source.result part) (sym many.ensures.same) can)) in
+    all.room
+
+-- One is moved alone.
+
+pub move_node-released-requires-clause-sound : goal.move_node-released-requires-clause-sound
+move_node-released-requires-clause-sound c = subst IsSound (sym c.moved_at_once-pages.ensures.same) c.requires.sound
+
+pub move_node-released-requires-clause-consistent : goal.move_node-released-requires-clause-consistent
+move_node-released-requires-clause-consistent c = subst (λ (x : Arena). IsConsistent (forest_of x)) (sym c.moved_at_once-pages.ensures.same) c.requires.consistent
+
+pub move_node-released-requires-clause-node : goal.move_node-released-requires-clause-node
+move_node-released-requires-clause-node c =
+    subst (λ (x : Arena). HasNode x c.node_of-node.result) (sym c.moved_at_once-pages.ensures.same)
+    (c.requires.sound.kept.listed.nodes c.args.span.to.0 (c.args.span.to_page.0 + c.args.done) c.node_of-node.result c.node_of-node.ensures).0
+
+pub move_node-released-requires-clause-source : goal.move_node-released-requires-clause-source
+move_node-released-requires-clause-source c =
+    subst (λ (x : Arena). HasNode x c.node_of-source.result) (sym c.moved_at_once-pages.ensures.same)
+    (c.requires.sound.kept.listed.nodes c.args.span.from.0 (c.args.span.from_page.0 + c.args.done) c.node_of-source.result c.node_of-source.ensures).0
+
+pub move_node-released-requires-clause-pages : goal.move_node-released-requires-clause-pages
+move_node-released-requires-clause-pages c =
     let s = c.args.span in
     let k = c.args.done in
     let a = c.args.caches.now in
-    let same : c.move_alike-many.new.caches ≡ a = c.move_alike-many.ensures.none (omega (arith, c.if-many-gt0.false)) in
-    subst (λ x. ArePages (forest_of x) (page_name s.to (s.to_page.0 + k)) (page_name s.from (s.from_page.0 + k))) (sym same)
-    (move_now Zero (forest_of a) s.from s.from_page.0 s.to s.to_page.0 s.pages k c.requires.done c.requires.consistent c.requires.can)
+    let d = c.node_of-node.result in
+    let o = c.node_of-source.result in
+    let named_d = (c.requires.sound.kept.listed.nodes s.to.0 (s.to_page.0 + k) d c.node_of-node.ensures).1 in
+    let named_o = (c.requires.sound.kept.listed.nodes s.from.0 (s.from_page.0 + k) o c.node_of-source.ensures).1 in
+    let pages : ArePages (forest_of a) (page_name s.to (s.to_page.0 + k)) (page_name s.from (s.from_page.0 + k)) =
+    move_now Zero (forest_of a) s.from s.from_page.0 s.to s.to_page.0 s.pages k c.requires.done c.requires.consistent c.requires.can in
+    subst (λ (x : Arena). ArePages (forest_of x) (name_of x d) (name_of x o)) (sym c.moved_at_once-pages.ensures.same)
+    (subst (ArePages (forest_of a) (name_of a d)) (sym named_o) (subst (λ x. ArePages (forest_of a) x (page_name s.from (s.from_page.0 + k))) (sym named_d) pages))
 
--- All were moved at once that were alike.
-pub returns-then-many-gt0-clause-forest : goal.returns-then-many-gt0-clause-forest
-returns-then-many-gt0-clause-forest c =
-    let many = c.move_alike-many in
-    (moved_at_once c.args.caches.now many.new.caches c.args.span c.args.done many.result (many.ensures.moved (omega (arith, c.if-many-gt0.true)))).forest
+pub move_node-released-requires-clause-room : goal.move_node-released-requires-clause-room
+move_node-released-requires-clause-room c = omega (arith, ap (λ (x : Arena). x.room.nodes) c.moved_at_once-pages.ensures.same, c.requires.room)
 
-pub returns-then-many-gt0-clause-sound : goal.returns-then-many-gt0-clause-sound
-returns-then-many-gt0-clause-sound c =
-    let many = c.move_alike-many in
-    (moved_at_once c.args.caches.now many.new.caches c.args.span c.args.done many.result (many.ensures.moved (omega (arith, c.if-many-gt0.true)))).sound
+pub move_node-released-requires-clause-made : goal.move_node-released-requires-clause-made
+move_node-released-requires-clause-made c = omega (arith, ap (λ (x : Arena). x.made) c.moved_at_once-pages.ensures.same, c.requires.made)
 
-pub returns-then-many-gt0-clause-consistent : goal.returns-then-many-gt0-clause-consistent
-returns-then-many-gt0-clause-consistent c =
-    let many = c.move_alike-many in
-    (moved_at_once c.args.caches.now many.new.caches c.args.span c.args.done many.result (many.ensures.moved (omega (arith, c.if-many-gt0.true)))).consistent
+pub returns-else-pages-gt1-clause-forest : goal.returns-else-pages-gt1-clause-forest
+returns-else-pages-gt1-clause-forest c =
+    let s = c.args.span in
+    let k = c.args.done in
+    let same = c.moved_at_once-pages.ensures.same in
+    let r = c.move_node-released in
+    let d = c.node_of-node.result in
+    let o = c.node_of-source.result in
+    let named_d = (c.requires.sound.kept.listed.nodes s.to.0 (s.to_page.0 + k) d c.node_of-node.ensures).1 in
+    let named_o = (c.requires.sound.kept.listed.nodes s.from.0 (s.from_page.0 + k) o c.node_of-source.ensures).1 in
+    let one = subst (λ (x : Arena). IsMovedAlone x r.new.caches s.from (page_after s.from_page k) s.to (page_after s.to_page k) r.result) same
+    (r.ensures s.from (page_after s.from_page k) s.to (page_after s.to_page k)
+    (ap (λ (x : Arena). name_of x d) same ∙ named_d) (ap (λ (x : Arena). name_of x o) same ∙ named_o)) in
+    one.forest
 
-pub returns-then-many-gt0-clause-sizes : goal.returns-then-many-gt0-clause-sizes
-returns-then-many-gt0-clause-sizes c =
-    let many = c.move_alike-many in
-    (moved_at_once c.args.caches.now many.new.caches c.args.span c.args.done many.result (many.ensures.moved (omega (arith, c.if-many-gt0.true)))).sizes
+pub returns-else-pages-gt1-clause-sound : goal.returns-else-pages-gt1-clause-sound
+returns-else-pages-gt1-clause-sound c =
+    let s = c.args.span in
+    let k = c.args.done in
+    let same = c.moved_at_once-pages.ensures.same in
+    let r = c.move_node-released in
+    let d = c.node_of-node.result in
+    let o = c.node_of-source.result in
+    let named_d = (c.requires.sound.kept.listed.nodes s.to.0 (s.to_page.0 + k) d c.node_of-node.ensures).1 in
+    let named_o = (c.requires.sound.kept.listed.nodes s.from.0 (s.from_page.0 + k) o c.node_of-source.ensures).1 in
+    let one = subst (λ (x : Arena). IsMovedAlone x r.new.caches s.from (page_after s.from_page k) s.to (page_after s.to_page k) r.result) same
+    (r.ensures s.from (page_after s.from_page k) s.to (page_after s.to_page k)
+    (ap (λ (x : Arena). name_of x d) same ∙ named_d) (ap (λ (x : Arena). name_of x o) same ∙ named_o)) in
+    one.sound
 
-pub returns-then-many-gt0-clause-room : goal.returns-then-many-gt0-clause-room
-returns-then-many-gt0-clause-room c =
-    let many = c.move_alike-many in
-    let room = (moved_at_once c.args.caches.now many.new.caches c.args.span c.args.done many.result (many.ensures.moved (omega (arith, c.if-many-gt0.true)))).room in
-    omega (arith, room)
+pub returns-else-pages-gt1-clause-consistent : goal.returns-else-pages-gt1-clause-consistent
+returns-else-pages-gt1-clause-consistent c =
+    let s = c.args.span in
+    let k = c.args.done in
+    let same = c.moved_at_once-pages.ensures.same in
+    let r = c.move_node-released in
+    let d = c.node_of-node.result in
+    let o = c.node_of-source.result in
+    let named_d = (c.requires.sound.kept.listed.nodes s.to.0 (s.to_page.0 + k) d c.node_of-node.ensures).1 in
+    let named_o = (c.requires.sound.kept.listed.nodes s.from.0 (s.from_page.0 + k) o c.node_of-source.ensures).1 in
+    let one = subst (λ (x : Arena). IsMovedAlone x r.new.caches s.from (page_after s.from_page k) s.to (page_after s.to_page k) r.result) same
+    (r.ensures s.from (page_after s.from_page k) s.to (page_after s.to_page k)
+    (ap (λ (x : Arena). name_of x d) same ∙ named_d) (ap (λ (x : Arena). name_of x o) same ∙ named_o)) in
+    one.consistent
+
+pub returns-else-pages-gt1-clause-moved : goal.returns-else-pages-gt1-clause-moved
+returns-else-pages-gt1-clause-moved c =
+    let s = c.args.span in
+    let k = c.args.done in
+    let same = c.moved_at_once-pages.ensures.same in
+    let r = c.move_node-released in
+    let d = c.node_of-node.result in
+    let o = c.node_of-source.result in
+    let named_d = (c.requires.sound.kept.listed.nodes s.to.0 (s.to_page.0 + k) d c.node_of-node.ensures).1 in
+    let named_o = (c.requires.sound.kept.listed.nodes s.from.0 (s.from_page.0 + k) o c.node_of-source.ensures).1 in
+    let one = subst (λ (x : Arena). IsMovedAlone x r.new.caches s.from (page_after s.from_page k) s.to (page_after s.to_page k) r.result) same
+    (r.ensures s.from (page_after s.from_page k) s.to (page_after s.to_page k)
+    (ap (λ (x : Arena). name_of x d) same ∙ named_d) (ap (λ (x : Arena). name_of x o) same ∙ named_o)) in
+    inr (refl, one.moved)
+
+pub returns-else-pages-gt1-clause-sizes : goal.returns-else-pages-gt1-clause-sizes
+returns-else-pages-gt1-clause-sizes c =
+    let s = c.args.span in
+    let k = c.args.done in
+    let same = c.moved_at_once-pages.ensures.same in
+    let r = c.move_node-released in
+    let d = c.node_of-node.result in
+    let o = c.node_of-source.result in
+    let named_d = (c.requires.sound.kept.listed.nodes s.to.0 (s.to_page.0 + k) d c.node_of-node.ensures).1 in
+    let named_o = (c.requires.sound.kept.listed.nodes s.from.0 (s.from_page.0 + k) o c.node_of-source.ensures).1 in
+    let one = subst (λ (x : Arena). IsMovedAlone x r.new.caches s.from (page_after s.from_page k) s.to (page_after s.to_page k) r.result) same
+    (r.ensures s.from (page_after s.from_page k) s.to (page_after s.to_page k)
+    (ap (λ (x : Arena). name_of x d) same ∙ named_d) (ap (λ (x : Arena). name_of x o) same ∙ named_o)) in
+    one.sizes
+
+pub returns-else-pages-gt1-clause-room : goal.returns-else-pages-gt1-clause-room
+returns-else-pages-gt1-clause-room c =
+    let s = c.args.span in
+    let k = c.args.done in
+    let same = c.moved_at_once-pages.ensures.same in
+    let r = c.move_node-released in
+    let d = c.node_of-node.result in
+    let o = c.node_of-source.result in
+    let named_d = (c.requires.sound.kept.listed.nodes s.to.0 (s.to_page.0 + k) d c.node_of-node.ensures).1 in
+    let named_o = (c.requires.sound.kept.listed.nodes s.from.0 (s.from_page.0 + k) o c.node_of-source.ensures).1 in
+    let one = subst (λ (x : Arena). IsMovedAlone x r.new.caches s.from (page_after s.from_page k) s.to (page_after s.to_page k) r.result) same
+    (r.ensures s.from (page_after s.from_page k) s.to (page_after s.to_page k)
+    (ap (λ (x : Arena). name_of x d) same ∙ named_d) (ap (λ (x : Arena). name_of x o) same ∙ named_o)) in
+    one.room

@@ -50,7 +50,7 @@ moves c =
           let number : s.from_page.0 + (k + i) ≡ s.from_page.0 + k + i = omega arith in
           subst (λ p. IsUnpinned before a (page_name s.from p)) number (c.requires.sources _ (is_source s (k + i) (omega (arith, low, step.ensures.few)))) in
           moves_still s.from (s.from_page.0 + k) s.to (s.to_page.0 + k) step.result.pages before a b after c.requires.tied
-          (at_once_follows before a b s k step.result.pages c.requires.tied c.requires.temporary out all.0) same c.follow.ensures.tables
+          (at_once_follows before a b s k step.result.pages c.requires.sound c.requires.tied c.requires.consistent c.requires.temporary out all.0) same c.follow.ensures.tables
       | inr one ↦
           let to = page_name s.to (s.to_page.0 + k) in
           let from = page_name s.from (s.from_page.0 + k) in

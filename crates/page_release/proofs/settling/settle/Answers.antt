@@ -8,7 +8,7 @@ use Rattle.residency.specs.StoreForest.{store_forest}
 use Rattle.residency.specs.World.{world}
 use Rattle.residency.specs.declared.store.Store.{Store}
 use Rattle.page_release.proofs.TiedStores.Kept.{kept_both, kept_none, unpinned_kept}
-use Rattle.page_release.proofs.CommandSteps.Steps.{end_forest, end_frames, end_nodes, step_consistent, step_fewer, step_forest, step_frames, step_nodes, step_room}
+use Rattle.page_release.proofs.CommandSteps.Steps.{end_forest, end_frames, end_nodes}
 use Rattle.page_release.proofs.settling.settle.Goals as goal
 
 pub loop-init : goal.loop-init
@@ -26,7 +26,7 @@ loop-init c = record {
 }
 
 pub loop-smaller : goal.loop-smaller
-loop-smaller c = step_fewer c.loop.store c.loop.caches c.settle_step.new.store c.settle_step.new.caches c.loop.invariant.kept.sound c.loop.invariant.consistent (c.settle_step.ensures.step c.loop-test.true)
+loop-smaller c = (c.settle_some.ensures.steps c.loop-test.true).fewer
 
 pub loop-preserved : goal.loop-preserved
 loop-preserved c =
@@ -35,20 +35,20 @@ loop-preserved c =
     let a = c.args.caches.now in
     let t = c.loop.store in
     let b = c.loop.caches in
-    let u = c.settle_step.new.store in
-    let d = c.settle_step.new.caches in
-    let e = c.settle_step.ensures in
-    let is = e.step c.loop-test.true in
+    let u = c.settle_some.new.store in
+    let d = c.settle_some.new.caches in
+    let e = c.settle_some.ensures in
+    let steps = e.steps c.loop-test.true in
     record {
-      nodes = step_nodes t b u d i.kept.sound i.consistent is ∙ i.nodes;
-      forest = λ told size fit. step_forest t b u d i.kept.sound i.consistent is told size (i.kept.gives_back told size fit).tied ∙ i.forest told size fit;
-      frames = step_frames t b u d i.kept.sound i.consistent is ∙ i.frames;
+      nodes = steps.nodes ∙ i.nodes;
+      forest = λ told size fit. steps.forest told size (i.kept.gives_back told size fit).tied ∙ i.forest told size fit;
+      frames = steps.frames ∙ i.frames;
       kept = kept_both s a t b u d c.requires.tied i.kept e.kept;
-      consistent = step_consistent t b u d i.kept.sound i.consistent is;
+      consistent = steps.consistent;
       unpinned = λ k. unpinned_kept [] t b u d i.kept.tied e.kept (Working k) (i.unpinned k);
-      made = is.merged.gone.made ∙ i.made;
-      copies = is.merged.gone.copies ∙ i.copies;
-      room = omega (arith, i.room, step_room t b u d i.kept.sound i.consistent is);
+      made = steps.counters.0 ∙ i.made;
+      copies = steps.counters.1 ∙ i.copies;
+      room = omega (arith, i.room, steps.room);
       fewer = omega (arith, i.fewer, e.fewer);
     }
 
@@ -57,8 +57,8 @@ returns-clause-rule c =
     let i = c.loop.invariant in
     let t = c.loop.store in
     let b = c.loop.caches in
-    let u = c.settle_step.new.store in
-    let e = c.settle_step.ensures.idle c.loop-test.false in
+    let u = c.settle_some.new.store in
+    let e = c.settle_some.ensures.idle c.loop-test.false in
     record {
       nodes = ap forest_of e.1 ∙ sym (end_nodes t b i.kept.sound e.0) ∙ i.nodes;
       forest = λ told size fit.
@@ -68,13 +68,13 @@ returns-clause-rule c =
     }
 
 pub returns-clause-kept : goal.returns-clause-kept
-returns-clause-kept c = kept_both c.args.store.now c.args.caches.now c.loop.store c.loop.caches c.settle_step.new.store c.settle_step.new.caches c.requires.tied c.loop.invariant.kept c.settle_step.ensures.kept
+returns-clause-kept c = kept_both c.args.store.now c.args.caches.now c.loop.store c.loop.caches c.settle_some.new.store c.settle_some.new.caches c.requires.tied c.loop.invariant.kept c.settle_some.ensures.kept
 
 pub returns-clause-bounded : goal.returns-clause-bounded
 returns-clause-bounded c =
     let i = c.loop.invariant in
-    let e = c.settle_step.ensures.idle c.loop-test.false in
+    let e = c.settle_some.ensures.idle c.loop-test.false in
     subst (λ k. IsBounded (forest_of k)) (sym e.1) (settled_is_bounded (forest_of c.loop.caches) i.consistent.shaped e.0)
 
 pub returns-clause-fewer : goal.returns-clause-fewer
-returns-clause-fewer c = omega (arith, c.loop.invariant.fewer, c.settle_step.ensures.fewer)
+returns-clause-fewer c = omega (arith, c.loop.invariant.fewer, c.settle_some.ensures.fewer)

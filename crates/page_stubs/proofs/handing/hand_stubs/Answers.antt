@@ -1,10 +1,13 @@
-use Rattle.std.proofs.Common.{sym, ap, ◌∙◌, subst, arith}
+use Rattle.std.proofs.Common.{◌≡◌, [], false, not, is_some, Option, Some, None, sym, ap, ◌∙◌, refl, subst, arith}
+use Rattle.std.proofs.lemmas.Bool.{false≢true}
+use Rattle.vm_ids.specs.declared.numbers.NodeId.{NodeId}
 use Rattle.local_cache.specs.Reading.{stubs_of, name_of, forest_of}
 use Rattle.local_cache.specs.Changes.{Relinked}
 use Rattle.local_cache.specs.Sound.{IsSound}
 use Rattle.page_stubs.specs.Threading.{IsHeldIf}
 use Rattle.page_stubs.proofs.Lists.Room.{both_fit, count_is, room-joined}
 use Rattle.page_stubs.proofs.Lists.Joining.{joins, last_held, own_last, own_count, given_count}
+use Rattle.page_stubs.proofs.Lists.NoStubs.{no_stubs, none_handed, nothing_joined}
 use Rattle.page_stubs.proofs.Rules.Handing.{hands, once_stubs}
 use Rattle.page_stubs.proofs.handing.hand_stubs.Goals as goal
 
@@ -54,3 +57,22 @@ returns-clause-links c =
 
 pub returns-clause-room : goal.returns-clause-room
 returns-clause-room c = ap (λ b. b.room) c.join.ensures ∙ room-joined _ c.args.from c.args.to ∙ c.reparent.ensures.room
+
+none_of : (o : Option NodeId) → is_some o ≡ false → o ≡ None
+none_of None e = refl
+none_of (Some n) e = absurd (false≢true (sym e))
+
+-- there is no stub to hand over
+pub returns-then-is_none-clause-forest : goal.returns-then-is_none-clause-forest
+returns-then-is_none-clause-forest c =
+    let r = c.requires in
+    let a = c.args.caches.now in
+    let from = c.args.from in
+    let to = c.args.to in
+    let first = none_of c.first_stub.result (c.is_none.ensures ∙ ap not c.if-is_none.true) in
+    let given = r.sound.kept.threaded from r.from in
+    let own = r.sound.kept.threaded to r.to in
+    let none : stubs_of a from ≡ [] = no_stubs a from (stubs_of a from) given (sym c.first_stub.ensures ∙ first) in
+    let join = joins a a from to r.apart r.from r.to (stubs_of a from) (stubs_of a to) given own (none_handed a (stubs_of a from) to none) in
+    sym (ap forest_of (nothing_joined a from to r.from r.to given own none))
+    ∙ (hands a _ r.sound from to r.from r.to r.apart r.clear join).forest

@@ -23,37 +23,37 @@ pub replace-requires-clause-before : goal.replace-requires-clause-before
 replace-requires-clause-before c =
     let r = c.requires in
     let a = c.args.caches.now in
-    (neighbours_held a r.sound c.args.w c.args.y c.unwrap-p.result r.w r.y r.root r.bare r.clear (ap (λ l. l.parent) (sym c.links.ensures) ∙ c.unwrap-p.ensures) (by_stub a _ _ (stub_read a r.sound c.args.w r.w r.stub))).0
+    (neighbours_held a r.sound c.args.w c.args.y c.unwrap-p.result r.w r.y r.root r.bare r.clear (sym c.parent.ensures ∙ c.unwrap-p.ensures) (by_stub a _ _ (stub_read a r.sound c.args.w r.w r.stub))).0
 
 pub replace-requires-clause-behind : goal.replace-requires-clause-behind
 replace-requires-clause-behind c =
     let r = c.requires in
     let a = c.args.caches.now in
-    (neighbours_held a r.sound c.args.w c.args.y c.unwrap-p.result r.w r.y r.root r.bare r.clear (ap (λ l. l.parent) (sym c.links.ensures) ∙ c.unwrap-p.ensures) (by_stub a _ _ (stub_read a r.sound c.args.w r.w r.stub))).1
+    (neighbours_held a r.sound c.args.w c.args.y c.unwrap-p.result r.w r.y r.root r.bare r.clear (sym c.parent.ensures ∙ c.unwrap-p.ensures) (by_stub a _ _ (stub_read a r.sound c.args.w r.w r.stub))).1
 
 pub unwrap-p-requires : goal.unwrap-p-requires
 unwrap-p-requires c =
     let r = c.requires in
     let a = c.args.caches.now in
-    subst IsSome (ap (λ l. l.parent) (sym c.links.ensures)) (has_parent a (cell a c.args.w).links.parent _ (stub_read a r.sound c.args.w r.w r.stub))
+    subst IsSome (sym c.parent.ensures) (has_parent a (cell a c.args.w).links.parent _ (stub_read a r.sound c.args.w r.w r.stub))
 
 pub returns-clause-forest : goal.returns-clause-forest
 returns-clause-forest c =
     let r = c.requires in
     let a = c.args.caches.now in
-    ap forest_of c.replace.ensures ∙ (places a r.sound c.args.w c.args.y c.unwrap-p.result r.w r.y r.root r.bare r.clear (ap (λ l. l.parent) (sym c.links.ensures) ∙ c.unwrap-p.ensures) (by_stub a _ _ (stub_read a r.sound c.args.w r.w r.stub))).forest
+    ap forest_of c.replace.ensures ∙ (places a r.sound c.args.w c.args.y c.unwrap-p.result r.w r.y r.root r.bare r.clear (sym c.parent.ensures ∙ c.unwrap-p.ensures) (by_stub a _ _ (stub_read a r.sound c.args.w r.w r.stub))).forest
 
 pub returns-clause-sound : goal.returns-clause-sound
 returns-clause-sound c =
     let r = c.requires in
     let a = c.args.caches.now in
-    subst IsSound (sym c.replace.ensures) (places a r.sound c.args.w c.args.y c.unwrap-p.result r.w r.y r.root r.bare r.clear (ap (λ l. l.parent) (sym c.links.ensures) ∙ c.unwrap-p.ensures) (by_stub a _ _ (stub_read a r.sound c.args.w r.w r.stub))).sound
+    subst IsSound (sym c.replace.ensures) (places a r.sound c.args.w c.args.y c.unwrap-p.result r.w r.y r.root r.bare r.clear (sym c.parent.ensures ∙ c.unwrap-p.ensures) (by_stub a _ _ (stub_read a r.sound c.args.w r.w r.stub))).sound
 
 pub returns-clause-links : goal.returns-clause-links
 returns-clause-links c =
     let r = c.requires in
     let a = c.args.caches.now in
-    subst (Relinked a) (sym c.replace.ensures) (places a r.sound c.args.w c.args.y c.unwrap-p.result r.w r.y r.root r.bare r.clear (ap (λ l. l.parent) (sym c.links.ensures) ∙ c.unwrap-p.ensures) (by_stub a _ _ (stub_read a r.sound c.args.w r.w r.stub))).links
+    subst (Relinked a) (sym c.replace.ensures) (places a r.sound c.args.w c.args.y c.unwrap-p.result r.w r.y r.root r.bare r.clear (sym c.parent.ensures ∙ c.unwrap-p.ensures) (by_stub a _ _ (stub_read a r.sound c.args.w r.w r.stub))).links
 
 pub returns-clause-room : goal.returns-clause-room
 returns-clause-room c = ap (λ b. b.room) c.replace.ensures ∙ room-replaced c.args.caches.now c.args.w c.args.y c.unwrap-p.result

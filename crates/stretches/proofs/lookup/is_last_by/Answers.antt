@@ -1,18 +1,10 @@
-use Rattle.std.proofs.Common.{◌≡◌, ◌+◌, ℕ, get_or, sym, ap, subst, ◌∙◌, arith}
+use Rattle.std.proofs.Common.{◌≡◌, ◌+◌, ℕ, get_or, sym, ap, ◌∙◌, arith}
 use Rattle.std.proofs.lemmas.Bool.{ltb-true}
 use Rattle.stretches.specs.Leaves.{entries}
 use Rattle.stretches.specs.Spots.{index}
-use Rattle.stretches.specs.declared.stretch.Stretch.{Stretch}
-use Rattle.stretches.specs.Stretch.{IsFit, is_in}
 use Rattle.stretches.proofs.Leaves.Held.{held_within}
-use Rattle.stretches.proofs.Reading.Numbers.{any_default}
-use Rattle.stretches.proofs.Reading.Order.{behind_between, behind_has, fit_at}
+use Rattle.stretches.proofs.Reading.Order.{behind_between, behind_has}
 use Rattle.stretches.proofs.lookup.is_last_by.Goals as goal
-
-pub has-requires : goal.has-requires
-has-requires g c =
-    let l = c.args.stretches.now in
-    subst (IsFit g.V.Says) (sym c.get-stretch.ensures) (fit_at g.V.Says 0 (entries l) c.requires.order (index l c.args.spot) c.get-stretch.result (held_within l c.args.spot c.requires.held))
 
 pub returns-then-stretch-number : goal.returns-then-stretch-number
 returns-then-stretch-number g c = λ less.
@@ -26,7 +18,4 @@ returns-then-stretch-number g c = λ less.
 pub returns-in-None : goal.returns-in-None
 returns-in-None g c = λ yes.
     let l = c.args.stretches.now in
-    let at = index l c.args.spot in
-    let within = held_within l c.args.spot c.requires.held in
-    behind_has g.V.Says (entries l) c.requires.order c.args.number at
-    (record { within = within; has = λ d. ap (λ (r : Stretch _). is_in r c.args.number) (any_default _ at d _ within ∙ sym c.get-stretch.ensures) ∙ sym c.has.ensures ∙ yes })
+    behind_has g.V.Says (entries l) c.requires.order c.args.number (index l c.args.spot) (c.has_at.ensures.0 yes)

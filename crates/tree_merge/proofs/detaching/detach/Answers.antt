@@ -1,47 +1,43 @@
-use Rattle.std.proofs.Common.{◌≡◌, ◌≤◌, Option, Some, None, IsSome, refl, arith}
+use Rattle.std.proofs.Common.{◌≡◌, Some, sym, ap, ◌∙◌, subst}
 use Rattle.vm_ids.specs.declared.numbers.NodeId.{NodeId}
+use Rattle.vm_ids.specs.Forest.Nodes.{is_live}
 use Rattle.local_cache.specs.Arena.{Arena, node_at}
+use Rattle.vm_ids.specs.declared.node_name.NodeName.TheVariants.{Live}
+use Rattle.vm_ids.specs.declared.numbers.CacheId.{CacheId}
+use Rattle.vm_ids.specs.declared.numbers.PageNo.{PageNo}
+use Rattle.local_cache.specs.declared.own_state.OwnState.{OwnState}
 use Rattle.tree_merge.specs.declared.released.Released.{Released}
-use Rattle.tree_merge.specs.Releasing.{IsRetired}
-use Rattle.tree_merge.proofs.Leaving.Detached.{retired_room, detached-forest, detached-sound}
-use Rattle.tree_merge.proofs.PagesAlone.Retired.{retired_alone}
+use Rattle.tree_merge.specs.Releasing.{IsDetached, IsRetired}
+use Rattle.tree_merge.specs.Stepping.{IsDetachedAlone}
+use Rattle.tree_merge.proofs.Leaving.Detached.{page_held, page_name}
 use Rattle.tree_merge.proofs.detaching.detach.Goals as goal
 
-room : (a b : Arena) (o : Option NodeId) (released : Released) → IsSome o → ((n : NodeId) → o ≡ Some n → IsRetired a b n released) → 1 ≤ a.room.nodes → 1 ≤ b.room.nodes
-room a b None released h r more = absurd (cc h)
-room a b (Some n) released h r more = omega (arith, retired_room a b n released (r n refl))
+detached : (a b : Arena) (cache : CacheId) (page : PageNo) (s : OwnState) (r : Released) → IsDetachedAlone a b cache page s r → (n : NodeId) → node_at a cache.0 page.0 ≡ Some n → IsDetached a b n (Live cache page) s r
+detached a b cache page s r alone n is =
+    let two : Some alone.retired.node ≡ Some n = sym alone.retired.at ∙ is in
+    let same : alone.retired.node ≡ n = cc two in
+    record {
+      between = alone.between;
+      fresh = alone.fresh;
+      retired = subst (λ k. IsRetired a alone.between k r) same alone.retired.retired;
+      free = alone.free;
+      is = alone.is;
+    }
 
-pub fresh-requires-clause-room : goal.fresh-requires-clause-room
-fresh-requires-clause-room c = room c.args.caches.now _ (node_at c.args.caches.now c.args.cache.0 c.args.page.0) _ c.requires.node c.retire-released.ensures.retired c.requires.room
+pub renew_node-requires-clause-held : goal.renew_node-requires-clause-held
+renew_node-requires-clause-held c = page_held c.args.caches.now c.requires.sound c.args.cache c.args.page _ c.node_of-node.ensures
 
-pub returns-clause-forest : goal.returns-clause-forest
-returns-clause-forest c =
-    let e = c.retire-released.ensures in
-    detached-forest c.args.caches.now _ _ _ c.args.cache c.args.page c.args.state e.sound e.forest e.vacant c.fresh.ensures.new c.fresh.ensures.changed
-
-pub returns-clause-sound : goal.returns-clause-sound
-returns-clause-sound c =
-    let e = c.retire-released.ensures in
-    detached-sound _ _ _ c.args.cache c.args.page c.args.state e.sound e.vacant c.fresh.ensures.new c.fresh.ensures.changed
-
-pub returns-clause-detached : goal.returns-clause-detached
-returns-clause-detached c = λ n is. record {
-  between = c.retire-released.new.caches;
-  fresh = c.fresh.result;
-  retired = c.retire-released.ensures.retired n is;
-  free = c.fresh.ensures.new;
-  is = c.fresh.ensures.changed;
-}
+pub renew_node-requires-clause-live : goal.renew_node-requires-clause-live
+renew_node-requires-clause-live c = ap is_live (page_name c.args.caches.now c.requires.sound c.args.cache c.args.page _ c.node_of-node.ensures)
 
 pub returns-clause-alone : goal.returns-clause-alone
-returns-clause-alone c =
-    let e = c.retire-released.ensures in
-    record {
-      forest = returns-clause-forest c;
-      sound = returns-clause-sound c;
-      between = c.retire-released.new.caches;
-      retired = retired_alone c.args.caches.now _ c.args.cache c.args.page _ c.requires.node e.forest e.sound e.retired e.released e.vacant;
-      fresh = c.fresh.result;
-      free = c.fresh.ensures.new;
-      is = c.fresh.ensures.changed;
-    }
+returns-clause-alone c = c.renew_node.ensures.alone c.args.cache c.args.page (page_name c.args.caches.now c.requires.sound c.args.cache c.args.page _ c.node_of-node.ensures)
+
+pub returns-clause-forest : goal.returns-clause-forest
+returns-clause-forest c = (returns-clause-alone c).forest
+
+pub returns-clause-sound : goal.returns-clause-sound
+returns-clause-sound c = (returns-clause-alone c).sound
+
+pub returns-clause-detached : goal.returns-clause-detached
+returns-clause-detached c = detached c.args.caches.now _ c.args.cache c.args.page c.args.state _ (returns-clause-alone c)

@@ -1,72 +1,75 @@
-use Rattle.std.proofs.Common.{sym, ◌∙◌, subst, arith}
-use Rattle.vm_ids.specs.declared.node_name.NodeName.TheVariants.{Live}
-use Rattle.vm_ids.specs.Forest.Rules.{link, stub}
-use Rattle.local_cache.specs.Reading.{forest_of}
-use Rattle.local_cache.proofs.Whole.LivePages.{page_there}
+use Rattle.std.proofs.Common.{sym, subst, arith}
+use Rattle.local_cache.specs.Reading.{name_of}
 use Rattle.tree_merge.specs.Stepping.{IsHung}
-use Rattle.tree_merge.proofs.PagesAlone.Copied.{detached_room}
-use Rattle.tree_merge.proofs.PagesAlone.Detached.{destination_there, fresh_apart, fresh_bare, fresh_name, made_after, origin_name, source_there}
+use Rattle.tree_merge.proofs.PagesAlone.Hung.{hung_alone, renewed_apart, renewed_bare, renewed_held, renewed_made, renewed_room, renewed_sound, source_held, source_live}
 use Rattle.tree_merge.proofs.stepping.copy_alone.Goals as goal
 
-pub detach-released-requires-clause-node : goal.detach-released-requires-clause-node
-detach-released-requires-clause-node c = page_there c.args.caches.now c.requires.sound c.args.to c.args.to_page c.requires.pages.destination
+pub add_stub-requires-clause-sound : goal.add_stub-requires-clause-sound
+add_stub-requires-clause-sound c =
+    renewed_sound c.args.caches.now c.renew_node-released.new.caches c.requires.sound c.requires.consistent c.args.node c.args.source c.requires.source c.renew_node-released.result.1 c.renew_node-released.result.0 c.requires.pages c.renew_node-released.ensures.alone c.renew_node-released.ensures.page
 
-pub node_of-fresh-requires : goal.node_of-fresh-requires
-node_of-fresh-requires c = destination_there c.args.caches.now c.detach-released.new.caches c.requires.consistent c.args.to c.args.from c.args.to_page c.args.from_page c.requires.pages c.detach-released.ensures.forest c.detach-released.ensures.sound
+pub add_stub-requires-clause-d : goal.add_stub-requires-clause-d
+add_stub-requires-clause-d c =
+    renewed_held c.args.caches.now c.renew_node-released.new.caches c.requires.sound c.requires.consistent c.args.node c.args.source c.requires.source c.renew_node-released.result.1 c.renew_node-released.result.0 c.requires.pages c.renew_node-released.ensures.alone c.renew_node-released.ensures.page
 
-pub node_of-origin-requires : goal.node_of-origin-requires
-node_of-origin-requires c = source_there c.args.caches.now c.detach-released.new.caches c.requires.consistent c.args.to c.args.from c.args.to_page c.args.from_page c.requires.pages c.detach-released.ensures.forest c.detach-released.ensures.sound
+pub add_stub-requires-clause-s : goal.add_stub-requires-clause-s
+add_stub-requires-clause-s c =
+    source_held c.args.caches.now c.renew_node-released.new.caches c.requires.sound c.requires.consistent c.args.node c.args.source c.requires.source c.renew_node-released.result.1 c.renew_node-released.result.0 c.requires.pages c.renew_node-released.ensures.alone c.renew_node-released.ensures.page
 
 pub add_stub-requires-clause-bare : goal.add_stub-requires-clause-bare
-add_stub-requires-clause-bare c = fresh_bare c.args.caches.now c.detach-released.new.caches c.requires.consistent c.args.to c.args.from c.args.to_page c.args.from_page c.requires.pages c.detach-released.ensures.forest c.detach-released.ensures.sound c.node_of-fresh.result c.node_of-origin.result c.node_of-fresh.ensures c.node_of-origin.ensures
+add_stub-requires-clause-bare c =
+    renewed_bare c.args.caches.now c.renew_node-released.new.caches c.requires.sound c.requires.consistent c.args.node c.args.source c.requires.source c.renew_node-released.result.1 c.renew_node-released.result.0 c.requires.pages c.renew_node-released.ensures.alone c.renew_node-released.ensures.page
 
 pub add_stub-requires-clause-apart : goal.add_stub-requires-clause-apart
-add_stub-requires-clause-apart c = fresh_apart c.args.caches.now c.detach-released.new.caches c.requires.consistent c.args.to c.args.from c.args.to_page c.args.from_page c.requires.pages c.detach-released.ensures.forest c.detach-released.ensures.sound c.node_of-fresh.result c.node_of-origin.result c.node_of-fresh.ensures c.node_of-origin.ensures
+add_stub-requires-clause-apart c =
+    renewed_apart c.args.caches.now c.renew_node-released.new.caches c.requires.sound c.requires.consistent c.args.node c.args.source c.requires.source c.renew_node-released.result.1 c.renew_node-released.result.0 c.requires.pages c.renew_node-released.ensures.alone c.renew_node-released.ensures.page
+
+pub link-requires-clause-sound : goal.link-requires-clause-sound
+link-requires-clause-sound c =
+    renewed_sound c.args.caches.now c.renew_node-released.new.caches c.requires.sound c.requires.consistent c.args.node c.args.source c.requires.source c.renew_node-released.result.1 c.renew_node-released.result.0 c.requires.pages c.renew_node-released.ensures.alone c.renew_node-released.ensures.page
+
+pub link-requires-clause-d : goal.link-requires-clause-d
+link-requires-clause-d c =
+    renewed_held c.args.caches.now c.renew_node-released.new.caches c.requires.sound c.requires.consistent c.args.node c.args.source c.requires.source c.renew_node-released.result.1 c.renew_node-released.result.0 c.requires.pages c.renew_node-released.ensures.alone c.renew_node-released.ensures.page
+
+pub link-requires-clause-s : goal.link-requires-clause-s
+link-requires-clause-s c =
+    source_held c.args.caches.now c.renew_node-released.new.caches c.requires.sound c.requires.consistent c.args.node c.args.source c.requires.source c.renew_node-released.result.1 c.renew_node-released.result.0 c.requires.pages c.renew_node-released.ensures.alone c.renew_node-released.ensures.page
 
 pub link-requires-clause-bare : goal.link-requires-clause-bare
-link-requires-clause-bare c = fresh_bare c.args.caches.now c.detach-released.new.caches c.requires.consistent c.args.to c.args.from c.args.to_page c.args.from_page c.requires.pages c.detach-released.ensures.forest c.detach-released.ensures.sound c.node_of-fresh.result c.node_of-origin.result c.node_of-fresh.ensures c.node_of-origin.ensures
+link-requires-clause-bare c =
+    renewed_bare c.args.caches.now c.renew_node-released.new.caches c.requires.sound c.requires.consistent c.args.node c.args.source c.requires.source c.renew_node-released.result.1 c.renew_node-released.result.0 c.requires.pages c.renew_node-released.ensures.alone c.renew_node-released.ensures.page
 
 pub link-requires-clause-apart : goal.link-requires-clause-apart
-link-requires-clause-apart c = fresh_apart c.args.caches.now c.detach-released.new.caches c.requires.consistent c.args.to c.args.from c.args.to_page c.args.from_page c.requires.pages c.detach-released.ensures.forest c.detach-released.ensures.sound c.node_of-fresh.result c.node_of-origin.result c.node_of-fresh.ensures c.node_of-origin.ensures
+link-requires-clause-apart c =
+    renewed_apart c.args.caches.now c.renew_node-released.new.caches c.requires.sound c.requires.consistent c.args.node c.args.source c.requires.source c.renew_node-released.result.1 c.renew_node-released.result.0 c.requires.pages c.renew_node-released.ensures.alone c.renew_node-released.ensures.page
+
+pub link-requires-clause-live : goal.link-requires-clause-live
+link-requires-clause-live c =
+    source_live c.args.caches.now c.renew_node-released.new.caches c.requires.sound c.requires.consistent c.args.node c.args.source c.requires.source c.renew_node-released.result.1 c.renew_node-released.result.0 c.requires.pages c.renew_node-released.ensures.alone c.renew_node-released.ensures.page
 
 pub link-requires-clause-room : goal.link-requires-clause-room
-link-requires-clause-room c = omega (arith, detached_room c.args.caches.now c.detach-released.new.caches c.args.to c.args.to_page _ c.detach-released.result c.detach-released.ensures.alone, c.requires.room)
+link-requires-clause-room c =
+    let room = renewed_room c.args.caches.now c.renew_node-released.new.caches c.requires.sound c.requires.consistent c.args.node c.args.source c.requires.source c.renew_node-released.result.1 c.renew_node-released.result.0 c.requires.pages c.renew_node-released.ensures.alone c.renew_node-released.ensures.page in
+    omega (arith, room, c.requires.room)
 
 pub link-requires-clause-made : goal.link-requires-clause-made
 link-requires-clause-made c =
-    let most = made_after c.args.caches.now c.detach-released.new.caches c.requires.consistent c.args.to c.args.from c.args.to_page c.args.from_page c.requires.pages c.detach-released.ensures.forest c.detach-released.ensures.sound in
+    let most = renewed_made c.args.caches.now c.renew_node-released.new.caches c.requires.sound c.requires.consistent c.args.node c.args.source c.requires.source c.renew_node-released.result.1 c.renew_node-released.result.0 c.requires.pages c.renew_node-released.ensures.alone c.renew_node-released.ensures.page in
     omega (arith, most, c.requires.made)
 
 pub returns-then-is_small : goal.returns-then-is_small
 returns-then-is_small c =
-    let a = c.args.caches.now in
-    let b = c.detach-released.new.caches in
-    let e = c.detach-released.ensures in
-    let x = Live c.args.to c.args.to_page in
-    let y = Live c.args.from c.args.from_page in
-    let n = fresh_name a b c.requires.consistent c.args.to c.args.from c.args.to_page c.args.from_page c.requires.pages e.forest e.sound c.node_of-fresh.result c.node_of-origin.result c.node_of-fresh.ensures c.node_of-origin.ensures in
-    let m = origin_name a b c.requires.consistent c.args.to c.args.from c.args.to_page c.args.from_page c.requires.pages e.forest e.sound c.node_of-fresh.result c.node_of-origin.result c.node_of-fresh.ensures c.node_of-origin.ensures in
-    record {
-      between = b;
-      detached = e.alone;
-      hung = subst (λ s. IsHung s b c.add_stub.new.caches x y) (sym c.if-is_small.true)
-          (c.add_stub.ensures.forest ∙ (λ i. stub (forest_of b) (n i) (m i)), c.add_stub.ensures.links, c.add_stub.ensures.room);
-      sound = c.add_stub.ensures.sound;
-    }
+    let b = c.renew_node-released.new.caches in
+    let s = c.add_stub.ensures in
+    hung_alone c.args.caches.now c.renew_node-released.new.caches c.requires.sound c.requires.consistent c.args.node c.args.source c.requires.source c.renew_node-released.result.1 c.renew_node-released.result.0 c.requires.pages c.renew_node-released.ensures.alone c.renew_node-released.ensures.page
+    c.args.is_small c.add_stub.new.caches
+    (subst (λ t. IsHung t b c.add_stub.new.caches (name_of b c.renew_node-released.result.1) (name_of b c.args.source)) (sym c.if-is_small.true) (s.forest, s.links, s.room)) s.sound
 
 pub returns-else-is_small : goal.returns-else-is_small
 returns-else-is_small c =
-    let a = c.args.caches.now in
-    let b = c.detach-released.new.caches in
-    let e = c.detach-released.ensures in
-    let x = Live c.args.to c.args.to_page in
-    let y = Live c.args.from c.args.from_page in
-    let n = fresh_name a b c.requires.consistent c.args.to c.args.from c.args.to_page c.args.from_page c.requires.pages e.forest e.sound c.node_of-fresh.result c.node_of-origin.result c.node_of-fresh.ensures c.node_of-origin.ensures in
-    let m = origin_name a b c.requires.consistent c.args.to c.args.from c.args.to_page c.args.from_page c.requires.pages e.forest e.sound c.node_of-fresh.result c.node_of-origin.result c.node_of-fresh.ensures c.node_of-origin.ensures in
-    record {
-      between = b;
-      detached = e.alone;
-      hung = subst (λ s. IsHung s b c.link.new.caches x y) (sym c.if-is_small.false)
-          (c.link.ensures.forest ∙ (λ i. link (forest_of b) (n i) (m i)), c.link.ensures.grown);
-      sound = c.link.ensures.sound;
-    }
+    let b = c.renew_node-released.new.caches in
+    let l = c.link.ensures in
+    hung_alone c.args.caches.now c.renew_node-released.new.caches c.requires.sound c.requires.consistent c.args.node c.args.source c.requires.source c.renew_node-released.result.1 c.renew_node-released.result.0 c.requires.pages c.renew_node-released.ensures.alone c.renew_node-released.ensures.page
+    c.args.is_small c.link.new.caches
+    (subst (λ t. IsHung t b c.link.new.caches (name_of b c.renew_node-released.result.1) (name_of b c.args.source)) (sym c.if-is_small.false) (l.forest, l.grown)) l.sound

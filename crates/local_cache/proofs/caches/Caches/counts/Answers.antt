@@ -13,7 +13,7 @@ named c = subst AreNamesApart (sym c.self.view_is) c.requires
 pub returns-clause-counts : goal.returns-clause-counts
 returns-clause-counts c =
     (λ i. record { live = c.live.result; working = c.working.result; copies = c.copies.ensures i })
-    ∙ counts_by c.self.inside.nodes c.self.inside.list (named c) c.live.ensures.paged c.live.result c.working.result c.live.ensures.live c.working.ensures.working
+    ∙ counts_by c.self.inside.nodes c.self.inside.list (named c) c.self.invariant.placed.paged c.live.result c.working.result c.live.ensures c.working.ensures.working
     ∙ ap (λ (a : Arena). counts_of (forest_of a)) c.self.view_is
 
 pub returns-clause-few : goal.returns-clause-few

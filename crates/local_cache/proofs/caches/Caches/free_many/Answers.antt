@@ -1,4 +1,4 @@
-use Rattle.local_cache.proofs.ArenaBy.SeenMany.{all_held, free_many_call}
+use Rattle.local_cache.proofs.ArenaBy.Seen.{all_held, free_many_call}
 use Rattle.local_cache.proofs.caches.Caches.free_many.Goals as goal
 
 pub free_many-requires : goal.free_many-requires

@@ -1,46 +1,49 @@
-use Rattle.std.proofs.Common.{◌≡◌, ◌-◌, sym, subst, inl, inr, arith}
-use Rattle.std.specs.Prelude.{MatchOption}
-use Rattle.std.proofs.lemmas.Bool.{cases_eq}
-use Rattle.local_cache.specs.declared.own_state.OwnState.{OwnState}
-use Rattle.local_cache.specs.ArenaBy.{arena_by}
-use Rattle.local_cache.specs.Many.{with_new_many, without_many}
-use Rattle.local_cache.specs.NodeCells.{own_of_plain}
-use Rattle.local_cache.proofs.ArenaBy.Many.{named_short}
-use Rattle.local_cache.proofs.ArenaBy.SeenMany.{all_named, held_made, renew_made}
-use Rattle.local_cache.proofs.Nodes.Many.{held_new_many}
+use Rattle.std.proofs.Common.{◌≡◌, refl, sym, subst, ◌∙◌}
+use Rattle.local_cache.specs.Arena.{Arena, NodesStay}
+use Rattle.local_cache.specs.NodeCells.{renewed}
+use Rattle.local_cache.proofs.ArenaBy.OneOfMany.{one_cell, one_held}
+use Rattle.local_cache.proofs.ArenaBy.Seen.{all_held, cell_call, cells_call, held_seen}
+use Rattle.local_cache.proofs.Nodes.Many.{stay_cells}
 use Rattle.local_cache.proofs.caches.Caches.renew_many.Goals as goal
 
-pub renew_many-requires-clause-named : goal.renew_many-requires-clause-named
-renew_many-requires-clause-named c = all_named c.self.inside.nodes c.self.inside.list c.args.self.now c.self.view_is c.args.node c.args.count c.args.cache c.args.page c.requires.named
+pub change-requires-clause-held : goal.change-requires-clause-held
+change-requires-clause-held c =
+    held_seen c.self.inside.nodes c.self.inside.list c.args.self.now c.self.view_is c.args.node
+    (one_held c.args.self.now c.args.node c.args.count c.if-count-eq1.true c.requires.held)
 
-pub renew_many-requires-clause-short : goal.renew_many-requires-clause-short
-renew_many-requires-clause-short c = elim (cases_eq c.args.count 0) [
-  | inl none ↦ omega (arith, none)
-  | inr some ↦
-      let last = c.args.count - 1 in
-      omega (arith, some, named_short c.self.inside.nodes c.self.inside.list c.self.invariant.placed c.args.node c.args.cache c.args.page c.args.count (renew_many-requires-clause-named c) last (omega (arith, some)))
-]
+pub change_each-requires-clause-held : goal.change_each-requires-clause-held
+change_each-requires-clause-held c = all_held c.self.inside.nodes c.self.inside.list c.args.self.now c.self.view_is c.args.node c.args.count c.requires.held
+
+pub change_each-requires-clause-plain : goal.change_each-requires-clause-plain
+change_each-requires-clause-plain c = c.requires.plain c.if-count-eq1.false
 
 pub invariant_of-self : goal.invariant_of-self
 invariant_of-self c =
-    (renew_made c.self.inside.nodes c.self.inside.list c.args.self.now c.self.view_is c.self.invariant c.renew_many.new.self c.args.cache c.args.page (own_of_plain c.plain-own.result) c.args.count
-    c.renew_many.result c.renew_many.ensures.new c.args.node c.requires.named c.renew_many.ensures.changed).right
+    (cell_call c.self.inside.nodes c.self.inside.list c.args.self.now c.self.view_is c.self.invariant c.change.new.self c.args.node (renewed c.args.state) (λ d. refl)
+    (one_held c.args.self.now c.args.node c.args.count c.if-count-eq1.true c.requires.held) c.change.ensures).right
 
-pub returns-clause-new : goal.returns-clause-new
-returns-clause-new c =
-    (renew_made c.self.inside.nodes c.self.inside.list c.args.self.now c.self.view_is c.self.invariant c.renew_many.new.self c.args.cache c.args.page (own_of_plain c.plain-own.result) c.args.count
-    c.renew_many.result c.renew_many.ensures.new c.args.node c.requires.named c.renew_many.ensures.changed).none
+pub invariant_of-self-else-count-eq1 : goal.invariant_of-self-else-count-eq1
+invariant_of-self-else-count-eq1 c =
+    (cells_call c.self.inside.nodes c.self.inside.list c.args.self.now c.self.view_is c.self.invariant c.change_each.new.self c.args.node (λ k. renewed c.args.state) c.args.count (λ k d. refl)
+    c.requires.held c.change_each.ensures).right
 
-pub returns-clause-changed : goal.returns-clause-changed
-returns-clause-changed c =
-    let now = arena_by c.renew_many.new.self c.self.inside.list in
-    subst (λ (s : OwnState). MatchOption c.renew_many.result (now ≡ c.args.self.now) (λ n. now ≡ with_new_many (without_many c.args.self.now c.args.node c.args.count) n c.args.cache c.args.page s c.args.count))
-    (sym c.plain-own.ensures)
-    (renew_made c.self.inside.nodes c.self.inside.list c.args.self.now c.self.view_is c.self.invariant c.renew_many.new.self c.args.cache c.args.page (own_of_plain c.plain-own.result) c.args.count
-    c.renew_many.result c.renew_many.ensures.new c.args.node c.requires.named c.renew_many.ensures.changed).is
+pub returns-then-count-eq1-clause-changed : goal.returns-then-count-eq1-clause-changed
+returns-then-count-eq1-clause-changed c =
+    (cell_call c.self.inside.nodes c.self.inside.list c.args.self.now c.self.view_is c.self.invariant c.change.new.self c.args.node (renewed c.args.state) (λ d. refl)
+    (one_held c.args.self.now c.args.node c.args.count c.if-count-eq1.true c.requires.held) c.change.ensures).is
+    ∙ one_cell c.args.self.now c.args.node (renewed c.args.state) (λ k. renewed c.args.state) c.args.count c.if-count-eq1.true refl
 
-pub returns-clause-held : goal.returns-clause-held
-returns-clause-held c =
-    let gone = without_many c.args.self.now c.args.node c.args.count in
-    held_made (arena_by c.renew_many.new.self c.self.inside.list) c.args.self.now (λ n. with_new_many gone n c.args.cache c.args.page c.args.state c.args.count) c.args.count
-    (λ n. held_new_many gone n c.args.cache c.args.page c.args.state c.args.count) c.renew_many.result (returns-clause-changed c)
+pub returns-then-count-eq1-clause-stays : goal.returns-then-count-eq1-clause-stays
+returns-then-count-eq1-clause-stays c =
+    subst (λ (b : Arena). NodesStay c.args.self.now b) (sym (returns-then-count-eq1-clause-changed c))
+    (stay_cells c.args.self.now c.args.node (λ k. renewed c.args.state) c.args.count)
+
+pub returns-else-count-eq1-clause-changed : goal.returns-else-count-eq1-clause-changed
+returns-else-count-eq1-clause-changed c =
+    (cells_call c.self.inside.nodes c.self.inside.list c.args.self.now c.self.view_is c.self.invariant c.change_each.new.self c.args.node (λ k. renewed c.args.state) c.args.count (λ k d. refl)
+    c.requires.held c.change_each.ensures).is
+
+pub returns-else-count-eq1-clause-stays : goal.returns-else-count-eq1-clause-stays
+returns-else-count-eq1-clause-stays c =
+    subst (λ (b : Arena). NodesStay c.args.self.now b) (sym (returns-else-count-eq1-clause-changed c))
+    (stay_cells c.args.self.now c.args.node (λ k. renewed c.args.state) c.args.count)

@@ -1,15 +1,24 @@
-use Rattle.local_cache.proofs.ArenaBy.Seen.{held_seen, tree_call}
+use Rattle.std.proofs.Common.{◌≡◌, List, refl, ap, ◌∙◌}
+use Rattle.vm_ids.specs.declared.numbers.NodeId.{NodeId}
+use Rattle.local_cache.specs.Arena.{with_tree}
+use Rattle.local_cache.specs.NodeCells.{over, tree_of}
+use Rattle.local_cache.proofs.ArenaBy.Seen.{cell_call, held_seen}
 use Rattle.local_cache.proofs.Nodes.Cells.{stays-put}
 use Rattle.local_cache.proofs.caches.Caches.set_tree_children.Goals as goal
 
-pub set_tree_children-requires-clause-held : goal.set_tree_children-requires-clause-held
-set_tree_children-requires-clause-held c = held_seen c.self.inside.nodes c.self.inside.list c.args.self.now c.self.view_is c.args.node c.requires.held
+pub change-requires-clause-held : goal.change-requires-clause-held
+change-requires-clause-held c = held_seen c.self.inside.nodes c.self.inside.list c.args.self.now c.self.view_is c.args.node c.requires.held
 
 pub invariant_of-self : goal.invariant_of-self
-invariant_of-self c = (tree_call c.self.inside.nodes c.self.inside.list c.args.self.now c.self.view_is c.self.invariant c.set_tree_children.new.self c.args.node c.requires.held c.args.children.now c.set_tree_children.ensures).right
+invariant_of-self c =
+    (cell_call c.self.inside.nodes c.self.inside.list c.args.self.now c.self.view_is c.self.invariant c.change.new.self c.args.node
+    (over (tree_of c.of-change.result.older c.of-change.result.newer)) (λ d. refl) c.requires.held c.change.ensures).right
 
 pub returns-clause-changed : goal.returns-clause-changed
-returns-clause-changed c = (tree_call c.self.inside.nodes c.self.inside.list c.args.self.now c.self.view_is c.self.invariant c.set_tree_children.new.self c.args.node c.requires.held c.args.children.now c.set_tree_children.ensures).is
+returns-clause-changed c =
+    (cell_call c.self.inside.nodes c.self.inside.list c.args.self.now c.self.view_is c.self.invariant c.change.new.self c.args.node
+    (over (tree_of c.of-change.result.older c.of-change.result.newer)) (λ d. refl) c.requires.held c.change.ensures).is
+    ∙ ap (λ (children : List NodeId). with_tree c.args.self.now c.args.node children) c.of-change.ensures
 
 pub returns-clause-stays : goal.returns-clause-stays
 returns-clause-stays c = stays-put c.args.self.now _ c.args.node _ (returns-clause-changed c)

@@ -1,6 +1,6 @@
-use Rattle.std.proofs.Common.{subst, sym}
+use Rattle.std.proofs.Common.{sym, subst}
 use Rattle.local_cache.specs.Arena.{Arena, NodesStay}
-use Rattle.local_cache.proofs.ArenaBy.SeenMany.{all_held, to_working_many_call}
+use Rattle.local_cache.proofs.ArenaBy.Seen.{all_held, to_working_many_call}
 use Rattle.local_cache.proofs.Nodes.Many.{stay_as_working}
 use Rattle.local_cache.proofs.caches.Caches.to_working_many.Goals as goal
 

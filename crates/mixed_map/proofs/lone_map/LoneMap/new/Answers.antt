@@ -1,6 +1,4 @@
-use Rattle.std.proofs.Common.{ap, refl, ◌∙◌, arith, ℕ, nat_cmp}
-use Rattle.std.specs.FinMap.{len-empty}
-use Rattle.std.specs.FinMap as map
+use Rattle.std.proofs.Common.{ap, refl, arith}
 use Rattle.linear_index.specs.Entered.{Entered}
 use Rattle.mixed_map.proofs.Filling.{filled_none, seen}
 use Rattle.mixed_map.proofs.Keeping.{none_kept}
@@ -13,4 +11,4 @@ invariant_of-result g c =
 pub returns : goal.returns
 returns g c =
     let none = ap (λ (e : Entered). e.places) c.new.ensures in
-    seen _ _ _ 0 0 0 (filled_none c.new-2.result.items c.new.result.places none) (ap map.len none ∙ len-empty nat_cmp ℕ) refl
+    seen _ _ _ _ 0 0 (filled_none c.new-2.result.items c.new.result.places none) none refl

@@ -1,7 +1,7 @@
 use Rattle.std.proofs.Common.{◌≡◌, Option, Some, None, sym, ap, ◌∙◌}
 use Rattle.std.specs.FinMap as map
 use Rattle.stretches.specs.Stretches.{said}
-use Rattle.mixed_map.proofs.Telling.{get_seen, not_told, or_told, said_seen}
+use Rattle.mixed_map.proofs.Telling.{cell_alone, get_seen, or_told, said_seen}
 use Rattle.mixed_map.proofs.mixed_map.MixedMap.get.Goals as goal
 
 pub returns-in_err-value-in-None : goal.returns-in_err-value-in-None
@@ -12,11 +12,8 @@ returns-in_err-value-in-None g c =
 
 pub returns-in-Some : goal.returns-in-Some
 returns-in-Some g c =
-    let there = sym c.in-Some.ensures in
-    let none = not_told g.V.Says g.S.Alone.told c.self.inside.lone c.self.inside.stretches c.self.invariant c.args.number (λ e. (let never = sym there ∙ e in absurd (cc))) in (
-      get_seen g.V.Says g.S.Alone.told c.self.inside.lone c.self.inside.stretches c.args.self.now c.self.view_is c.args.number ∙ ap (λ (o : Option _). or_told g.V.Says g.S.Alone.told o (map.get c.self.inside.lone.entries c.args.number)) none ∙ there,
-      sym (said_seen g.V.Says g.S.Alone.told c.self.inside.lone c.self.inside.stretches c.args.self.now c.self.view_is c.args.number) ∙ none,
-    )
+    let alone = cell_alone g.V.Says g.S.Alone.told c.self.inside.lone c.self.inside.stretches c.args.self.now c.self.view_is c.self.invariant c.args.number _ (sym c.in-Some.ensures) in
+    (alone.0, sym (said_seen g.V.Says g.S.Alone.told c.self.inside.lone c.self.inside.stretches c.args.self.now c.self.view_is c.args.number) ∙ alone.1)
 
 pub returns-in_ok-value-in-None : goal.returns-in_ok-value-in-None
 returns-in_ok-value-in-None g c =

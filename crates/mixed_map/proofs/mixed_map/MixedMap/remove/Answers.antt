@@ -1,33 +1,33 @@
-use Rattle.std.proofs.Common.{◌-◌, Option, refl, sym, ap, subst, ◌∙◌, arith}
+use Rattle.std.proofs.Common.{◌≡◌, ◌+◌, Option, refl, sym, ap, subst, ◌∙◌, arith}
 use Rattle.std.specs.FinMap as map
-use Rattle.std.specs.Prelude.{IsSome}
 use Rattle.stretches.specs.Stretches.{said}
 use Rattle.mixed_map.specs.Lone.{Lone}
-use Rattle.mixed_map.specs.Mixed.{IsMixed, Mixed, with_told}
-use Rattle.mixed_map.proofs.Telling.{get_seen, is_told, mixed_changed, none_less, not_told, or_told, told_remove}
+use Rattle.mixed_map.specs.Mixed.{IsMixed, Mixed}
+use Rattle.mixed_map.proofs.Telling.{cell_alone, mixed_changed, none_left, none_less, seen, the_mixed, told_remove}
 use Rattle.mixed_map.proofs.mixed_map.MixedMap.remove.Goals as goal
+
+pub take-requires : goal.take-requires
+take-requires g c = ap (λ (v : Mixed _ _). map.get v.slots c.args.place.number) c.self.view_is ∙ c.requires
 
 pub invariant_of-self : goal.invariant_of-self
 invariant_of-self g c =
-    subst (λ (l : Lone _). IsMixed g.V.Says l c.self.inside.stretches) (sym c.in-Some.ensures.taken)
-    (mixed_changed g.V.Says g.S.Alone.told c.self.inside.lone (record { entries = map.remove c.self.inside.lone.entries c.args.number; count = c.self.inside.lone.count - 1; room = c.self.inside.lone.room }) c.self.inside.stretches c.self.invariant
-    (λ q v e was. none_less g.V.Says g.S.Alone.told c.self.inside.lone.entries c.args.number q was) refl (omega (arith, c.self.invariant.few)))
+    let less = sym (ap (λ (l : Lone _). map.len l.slots) c.take.ensures.taken) in
+    subst (λ (l : Lone _). IsMixed g.V.Says l c.self.inside.stretches) (sym c.take.ensures.taken)
+    (mixed_changed g.V.Says g.S.Alone.told c.self.inside.lone (record { entries = map.remove c.self.inside.lone.entries c.args.place.number; slots = map.remove c.self.inside.lone.slots c.args.place.number; room = c.self.inside.lone.room }) c.self.inside.stretches c.self.invariant
+    (λ q v e was. none_less g.V.Says g.S.Alone.told c.self.inside.lone.entries c.args.place.number q was)
+    (λ q. none_left g.V.Says g.S.Alone.told c.self.inside.lone c.args.place.number q c.self.invariant.placed) refl (omega (arith, less, c.take.ensures.count, c.self.invariant.few)))
 
-pub cut-requires : goal.cut-requires
-cut-requires g c =
-    is_told g.V.Says g.S.Alone.told (said g.V.Says c.self.inside.stretches.list c.args.number) (map.get c.self.inside.lone.entries c.args.number)
-    (subst IsSome (get_seen g.V.Says g.S.Alone.told c.self.inside.lone c.self.inside.stretches c.args.self.now c.self.view_is c.args.number) c.requires) (sym c.in-None.ensures.entry)
+pub returns-clause-entry : goal.returns-clause-entry
+returns-clause-entry g c = (cell_alone g.V.Says g.S.Alone.told c.self.inside.lone c.self.inside.stretches c.args.self.now c.self.view_is c.self.invariant c.args.place.number _ c.take.ensures.entry).0
 
-pub returns-in-Some-clause-entry : goal.returns-in-Some-clause-entry
-returns-in-Some-clause-entry g c =
-    let there = sym c.in-Some.ensures.entry in
-    let none = not_told g.V.Says g.S.Alone.told c.self.inside.lone c.self.inside.stretches c.self.invariant c.args.number (λ e. (let never = sym there ∙ e in absurd (cc))) in
-    get_seen g.V.Says g.S.Alone.told c.self.inside.lone c.self.inside.stretches c.args.self.now c.self.view_is c.args.number ∙ ap (λ (o : Option _). or_told g.V.Says g.S.Alone.told o (map.get c.self.inside.lone.entries c.args.number)) none ∙ there
-
-pub returns-in-Some-clause-cells : goal.returns-in-Some-clause-cells
-returns-in-Some-clause-cells g c =
-    let there = sym c.in-Some.ensures.entry in
-    let none = not_told g.V.Says g.S.Alone.told c.self.inside.lone c.self.inside.stretches c.self.invariant c.args.number (λ e. (let never = sym there ∙ e in absurd (cc))) in
-    ap (λ (l : Lone _). with_told g.V.Says g.S.Alone.told l.entries c.self.inside.stretches.list) c.in-Some.ensures.taken
-    ∙ told_remove g.V.Says g.S.Alone.told c.self.inside.lone.entries c.self.inside.stretches.list c.args.number none
-    ∙ ap (λ (v : Mixed _ _). map.remove v.cells c.args.number) c.self.view_is
+pub returns-clause-removed : goal.returns-clause-removed
+returns-clause-removed g c =
+    let none = (cell_alone g.V.Says g.S.Alone.told c.self.inside.lone c.self.inside.stretches c.args.self.now c.self.view_is c.self.invariant c.args.place.number _ c.take.ensures.entry).1 in
+    seen g.V.Says g.S.Alone.told _ _ _ _ _ _ _ _ _ _
+    (ap (λ (l : Lone _). (the_mixed g.V.Says g.S.Alone.told l c.self.inside.stretches).cells) c.take.ensures.taken
+    ∙ told_remove g.V.Says g.S.Alone.told c.self.inside.lone.entries c.self.inside.stretches.list c.args.place.number none
+    ∙ ap (λ (v : Mixed _ _). map.remove v.cells c.args.place.number) c.self.view_is)
+    (ap (λ (l : Lone _). l.slots) c.take.ensures.taken ∙ ap (λ (v : Mixed _ _). map.remove v.slots c.args.place.number) c.self.view_is)
+    (ap (λ (v : Mixed _ _). v.list) c.self.view_is)
+    refl
+    (ap (λ (l : Lone _). l.room) c.take.ensures.taken ∙ ap (λ (v : Mixed _ _). v.room) c.self.view_is)

@@ -18,3 +18,8 @@ returns-clause-cells g c =
     told_less g.V.Says g.S.Alone.told c.self.inside.lone.entries c.self.inside.stretches.list c.remove_part.result c.remove_part.new.self.list c.remove_part.ensures.less
     (λ q h. c.self.invariant.apart q _ (c.remove_part.ensures.from.said q h)) n
     ∙ ap (λ (v : Mixed _ _). cond (is_in c.remove_part.result n) None (map.get v.cells n)) c.self.view_is)
+
+pub returns-clause-apart : goal.returns-clause-apart
+returns-clause-apart g c n h =
+    sym (ap (λ (v : Mixed _ _). map.get v.slots n) c.self.view_is)
+    ∙ c.self.invariant.placed n (c.self.invariant.apart n _ (c.remove_part.ensures.from.said n h))

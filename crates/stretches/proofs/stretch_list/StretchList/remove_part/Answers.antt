@@ -1,21 +1,13 @@
-use Rattle.std.proofs.Common.{◌≡◌, ◌+◌, ◌<◌, ℕ, ◌∙◌, ap, subst, sym, arith, cond, get_or, List, None}
+use Rattle.std.proofs.Common.{◌+◌, ◌∙◌, ap, subst, sym, arith, cond, List, None}
 use Rattle.stretches.specs.declared.stretch.Stretch.{Stretch}
-use Rattle.stretches.specs.Places.{HasAt, IsPart}
 use Rattle.stretches.specs.Leaves.{entries}
 use Rattle.stretches.specs.Stretch.{is_in}
-use Rattle.stretches.specs.Stretches.{AreInOrder, IsStretchFrom, IsStretchWith, Stretches, number_count, said}
+use Rattle.stretches.specs.Stretches.{AreInOrder, IsStretchWith, Stretches, number_count, said}
 use Rattle.stretches.proofs.Cells.{fewer_cells}
 use Rattle.stretches.proofs.Changes.Removal.{count_removed, order_removed, said_removed}
-use Rattle.stretches.proofs.Reading.Numbers.{within}
 use Rattle.stretches.proofs.Reading.Sayings.{stretch_at_place}
+use Rattle.stretches.proofs.Reading.Together.{part_has}
 use Rattle.stretches.proofs.stretch_list.StretchList.remove_part.Goals as goal
-
--- a part has its first number
-has_first : {V : Type 0} (rs : List (Stretch V)) (first count at : ℕ) → 0 < count → IsPart rs first count at → HasAt rs first at
-has_first rs first count at some part = record {
-  within = part.within;
-  has = λ d. within (get_or rs at d) first (omega (arith, part.first d)) (omega (arith, part.first d, part.count d));
-}
 
 pub invariant_of-self : goal.invariant_of-self
 invariant_of-self g c =
@@ -28,7 +20,7 @@ returns-clause-whole g c = ap (λ (r : Stretch _). r.count) c.remove.ensures.ent
 pub returns-clause-from : goal.returns-clause-from
 returns-clause-from g c =
     let alone = c.isolate-at.ensures in
-    let has = has_first _ c.args.first c.args.count _ c.requires.some alone.part in
+    let has = part_has _ c.args.first c.args.count _ c.requires.some alone.part in
     let with = stretch_at_place g.V.Says _ alone.order _ _ c.remove.result has in
     let is = subst (λ (r : Stretch _). IsStretchWith g.V.Says (entries c.isolate-at.new.stretches) c.args.first r) (sym c.remove.ensures.entry) with in
     record {

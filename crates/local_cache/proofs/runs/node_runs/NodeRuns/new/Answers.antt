@@ -1,13 +1,9 @@
-use Rattle.std.proofs.Common.{refl, arith}
-use Rattle.stretches.specs.Rising.{rising}
-use Rattle.local_cache.proofs.NodeRuns.{empty_get, empty_right, no_node}
+use Rattle.std.proofs.Common.{refl, ap}
+use Rattle.local_cache.specs.NodeTable.{Table}
+use Rattle.local_cache.proofs.NodesKept.{empty_right}
 use Rattle.local_cache.proofs.runs.node_runs.NodeRuns.new.Goals as goal
 
 pub invariant_of-result : goal.invariant_of-result
-invariant_of-result c = empty_right c.new.result c.new.ensures _ refl refl (omega arith) refl refl
-
-pub returns-clause-nodes : goal.returns-clause-nodes
-returns-clause-nodes c n = no_node c.new.result c.new.ensures n.0
-
-pub returns-clause-pages : goal.returns-clause-pages
-returns-clause-pages c k = empty_get rising c.new.result.pages.list c.new.ensures.pages k
+invariant_of-result c =
+    empty_right c.new.result c.new-2.result (record { nodes = 0; live = 0; made = 0; fresh = 0; working = 0 })
+    (ap (λ (t : Table). t.cells) c.new.ensures) (ap (λ (t : Table). t.count) c.new.ensures) c.new-2.ensures.pages c.new-2.ensures.count refl

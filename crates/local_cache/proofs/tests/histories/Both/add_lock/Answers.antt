@@ -1,5 +1,0 @@
-use Rattle.local_cache.proofs.Known.Same.{known-locks}
-use Rattle.local_cache.proofs.tests.histories.Both.add_lock.Goals as goal
-
-pub compare-requires : goal.compare-requires
-compare-requires g c = known-locks _ _ _ _ c.requires _ _ _ c.add_lock.ensures.changed
