@@ -15,7 +15,7 @@ use Rattle.local_cache.specs.Sound.{IsSound}
 use Rattle.local_cache.proofs.NewCache.Whole.{none_len, none_whole, pages_with, whole_begun}
 use Rattle.local_cache.proofs.Forest.Reading.{IsNode-forest_of}
 use Rattle.local_cache.proofs.Whole.LivePages.{page_there}
-use Rattle.move_pages.proofs.Tried.{begun, page_is}
+use Rattle.histories.proofs.FirstPages.{begun, page_is}
 use Rattle.histories.proofs.moves.a_moved_page_keeps_its_node.Goals as goal
 
 abbrev page_number : NodeName → ℕ

@@ -9,7 +9,7 @@ use Rattle.local_cache.specs.declared.own_state.OwnState.TheVariants.{Zero}
 use Rattle.local_cache.specs.Arena.{Arena, HasPages, Room}
 use Rattle.local_cache.specs.Reading.{forest_of}
 use Rattle.local_cache.specs.Sound.{IsSound}
-use Rattle.move_pages.proofs.Tried.{begun, page_is}
+use Rattle.histories.proofs.FirstPages.{begun, page_is}
 use Rattle.histories.proofs.moves.alike_pages_are_moved_at_once.Goals as goal
 
 -- the first two of four pages may be moved over the last two
