@@ -1,5 +1,6 @@
 pub mod Accessing
 pub mod Asking
+pub mod BackedCaches
 pub mod Backing
 pub mod Called
 pub mod Living

@@ -25,7 +25,7 @@ use Rattle.gmi_calls.specs.Backing.{AreBacked, Backs, IsReady}
 use Rattle.gmi_calls.specs.Calling.{Fits}
 use Rattle.gmi_calls.specs.Reaching.{Pushed}
 use Rattle.gmi_calls.proofs.Asking.{denied_is, granted_is}
-use Rattle.gmi_calls.proofs.Backing.{named_is}
+use Rattle.gmi_calls.proofs.BackedCaches.{named_is}
 use Rattle.gmi_calls.proofs.Rising.{one_call, rise_then}
 
 -- The cache that is pushed

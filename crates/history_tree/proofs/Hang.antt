@@ -6,7 +6,8 @@ use Rattle.vm_ids.specs.Forest.Names.{same}
 use Rattle.vm_ids.specs.Forest.NameMap.{NameMap, insert, get}
 use Rattle.vm_ids.proofs.Forest.NameMap.{get-insert, same_map}
 use Rattle.vm_ids.proofs.Forest.NodesAfter.{node-put, node-put_other}
-use Rattle.vm_ids.proofs.Forest.Linking.{node-count_working, node-none, link-Links}
+use Rattle.vm_ids.proofs.Forest.LinkingOver.{node-count_working, node-none}
+use Rattle.vm_ids.proofs.Forest.Linking.{link-Links}
 use Rattle.vm_ids.specs.Forest.Changes as forest
 use Rattle.vm_ids.specs.Forest.Rules as rules
 use Rattle.vm_ids.specs.Forest.NameLists as names

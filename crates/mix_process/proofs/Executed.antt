@@ -1,8 +1,7 @@
 -- A process is made of a segment.
-use Rattle.std.proofs.Common.{◌≡◌, ℕ, ◌+◌, ◌^◌, ◌≤◌, ◌<◌, true, false, cond, Vec, Global, List, [], ◌∷◌, ◌++◌, length, map, set, take, drop, replicate, Option, Some, None, refl, sym, ap, subst, ◌∙◌, arith}
-use Rattle.std.specs.Prelude.{Ok, Err, Result, is_some, option_map, slice_get}
+use Rattle.std.proofs.Common.{◌≡◌, ℕ, ◌+◌, ◌^◌, ◌≤◌, ◌<◌, true, false, Vec, Global, List, [], ◌∷◌, ◌++◌, length, map, set, take, drop, replicate, Option, Some, None, refl, sym, ap, subst, ◌∙◌, arith}
+use Rattle.std.specs.Prelude.{Ok, Err, Result, option_map, slice_get}
 use Rattle.std.specs.FinMap.{get}
-use Rattle.std.proofs.lemmas.Bool.Decides.{nat_tests}
 use Rattle.std.proofs.lemmas.List.{length-append, length-map}
 use Rattle.std.proofs.lemmas.List.Sums.{sum_by_push}
 use Rattle.vm_ids.specs.Counting.{MapperCounts, counts_sum}
@@ -18,21 +17,20 @@ use Rattle.vm_ids.specs.declared.reply.Reply.TheVariants as replies
 use Rattle.vm_ids.specs.declared.reply.Trouble.{Trouble}
 use Rattle.vm_ids.specs.declared.reply.Trouble.TheVariants as troubles
 use Rattle.vm_model.specs.Answering.{Answer, answer_by}
-use Rattle.vm_model.specs.Machine.{Actor, Cache, Machine, Page, cache_of}
+use Rattle.vm_model.specs.Machine.{Cache, Machine, Page, cache_of}
 use Rattle.vm_port.specs.declared.traits.mapper.Mapper.{Ghosts as GhostsOfMapper}
-use Rattle.gmi_calls.specs.Untold.{UntoldStep}
 use Rattle.gmi_calls.specs.declared.gmi.Gmi.{Ghosts as GhostsOfGmi}
 use Rattle.gmi_calls.proofs.Rising.{rise_then}
 use Rattle.mix_process.specs.Adding.{AreKept, fresh_page, put_at}
 use Rattle.mix_process.specs.Answering.{is_too_large, process_from, with_image}
 use Rattle.mix_process.specs.Calling.{MixCall}
-use Rattle.mix_process.specs.Loaded.{IsLoaded, MayLoad, load_budget, loaded, usage_to_load}
+use Rattle.mix_process.specs.Loaded.{IsLoaded, MayLoad, loaded, usage_to_load}
 use Rattle.mix_process.specs.Outcome.{RaisedBy, Usage, usage_for, usage_of}
 use Rattle.mix_process.specs.ProcessMachine as model
 use Rattle.mix_process.specs.ProcessMachine.{ProcessMachine, image_of}
 use Rattle.mix_process.specs.Seen.{cache_pages, process_seen, processes_seen, state_of}
-use Rattle.mix_process.specs.Starting.{Checks, HoldsIn, IsLastAlive, IsMadeOrTakenBack, IsOpened, IsStarted, IsTakenBack, LacksImage, open_budget, start_budget, usage_to_start}
-use Rattle.mix_process.specs.Stepping.{StepAt, StepOver, each_of, each_page, forget, no_bytes}
+use Rattle.mix_process.specs.Starting.{Checks, HoldsIn, IsLastAlive, IsMadeOrTakenBack, IsOpened, IsStarted, IsTakenBack, LacksImage, usage_to_start}
+use Rattle.mix_process.specs.Stepping.{StepAt, StepOver, each_of, each_page, no_bytes}
 use Rattle.mix_process.specs.Tying.{AreSynchronised, CanCall}
 use Rattle.mix_process.specs.Use.{IsLack, IsWithin, usage_sum}
 use Rattle.mix_process.specs.declared.area.Area.TheVariants.{Text}
@@ -47,37 +45,9 @@ use Rattle.mix_process.proofs.Imaging.{image_seen_for, image_there, map_snoc}
 use Rattle.mix_process.proofs.Inheriting.{set_last}
 use Rattle.mix_process.proofs.Seeing.{pages_there}
 use Rattle.mix_process.proofs.Single.{refused_called}
-use Rattle.mix_process.proofs.Untold.{alike_self, as_untold, filled_up, seen_filled, zeros}
+use Rattle.mix_process.proofs.Untold.{as_untold, filled_up, seen_filled, zeros}
 use Rattle.mix_process.proofs.Using.{lack_still}
-
-abbrev alive_one : Option Actor → ℕ
-alive_one a = cond (is_some a) 1 0
-
-fit_sizes : (text data_pages stack : ℕ) → is_too_large text data_pages stack ≡ false → (text ≤ 1024) × (data_pages ≤ 65536) × (stack ≤ 1024)
-fit_sizes text data_pages stack e = (grind (arith, nat_tests), grind (arith, nat_tests), grind (arith, nat_tests))
-
--- what the parts of an exec may raise leaves room for the rest
-made_sum : (a b c d : ℕ) → a ≤ 2 ^ 61 → b ≤ a + open_budget → c ≤ b + start_budget → d ≤ c + load_budget → d ≤ 2 ^ 61 + 2 ^ 30
-made_sum a b c d f g h i = omega (arith, f, g, h, i)
-
--- a step of states filled with zeros, for these segments
-step_with : (h : Segments) (told now : Option Segments) (s next : ProcessMachine) (u v : Usage) (command : MixCommand) (a : Answer) (rises : MapperCounts) → s ≡ each_page no_bytes (filled_up s) → next ≡ each_page no_bytes (filled_up next)
-    → StepOver h (record { processes = filled_up s; usage = u; segments = told }) command a rises (record { processes = filled_up next; usage = v; segments = now })
-    → UntoldStep forget (λ h whole x after. StepOver h whole command x rises after) (record { processes = s; usage = u; segments = told }) a (record { processes = next; usage = v; segments = now })
-step_with h told now s next u v command a rises is is_next leads = record {
-  whole = record { processes = filled_up s; usage = u; segments = told };
-  whole_next = record { processes = filled_up next; usage = v; segments = now };
-  segments = h;
-  whole_answer = a;
-  is = λ i. record { processes = is i; usage = u; segments = told };
-  is_next = λ i. record { processes = is_next i; usage = v; segments = now };
-  alike = alike_self a;
-  leads = leads;
-}
-
--- What is told of a mapper
-told_holds : (told : Option Held) (h : Segments) (seg : ℕ) (pages : List Page) → segments_of told ≡ Some h → HoldsIn (segments_of told) seg (Some pages) → get h.pages seg ≡ Some pages
-told_holds told h seg pages e holds = subst (λ (o : Option Segments). HoldsIn o seg (Some pages)) e holds
+use Rattle.mix_process.proofs.ExecSteps.{alive_one, fit_sizes, made_sum, step_with, told_holds}
 
 module _ {Manager X Chooser : Type 0} (M : GhostsOfMapper X) (G : GhostsOfGmi Manager X Chooser) (old : Mix Manager) (before : X) (can : CanCall G old (M.held before) (M.page_bytes before)) (seg : SegId) (text data_pages stack : ℕ) where
   abbrev m : Machine

@@ -43,5 +43,6 @@ pub mod Counts
 pub mod Inheriting
 pub mod Forking
 pub mod Executing
+pub mod ExecSteps
 pub mod Executed
 pub mod PlainRows

@@ -1,5 +1,6 @@
 -- A page comes to a frame, or leaves it.
 pub mod Brought
+pub mod GivenUp
 pub mod Claimed
 pub mod Evicted
 pub mod Filled

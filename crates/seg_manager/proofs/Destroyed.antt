@@ -14,7 +14,7 @@ use Rattle.vm_model.proofs.Parts.ListParts.{at_some, numbered_set, numbered_set_
 use Rattle.vm_model.proofs.Parts.Naming.{segment_cache}
 use Rattle.vm_model.proofs.Parts.Pairs.{each_by}
 use Rattle.gmi_calls.specs.Backing.{AreBacked}
-use Rattle.gmi_calls.proofs.Backing.{named_is}
+use Rattle.gmi_calls.proofs.BackedCaches.{named_is}
 use Rattle.seg_manager.specs.ReferenceMachine.{ReferenceMachine, goes, is_open, let_go, stored_from, used}
 use Rattle.seg_manager.specs.Seen.{is_kept, openings_in, references_seen, stored_beside, whole_of}
 use Rattle.seg_manager.specs.Tying.{AreTied, is_unreferenced}

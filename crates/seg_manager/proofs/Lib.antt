@@ -1,4 +1,5 @@
 pub mod Named
+pub mod RingSteps
 pub mod Rings
 pub mod Placed
 pub mod Linking
@@ -27,11 +28,13 @@ pub mod Acquiring
 pub mod Opened
 pub mod Anew
 pub mod Tried
+pub mod Unopened
 pub mod Beginning
 pub mod Starting
 pub mod Lifting
 pub mod Temping
 pub mod Dropping
+pub mod LeavingRows
 pub mod Parting
 pub mod Temporary
 pub mod Staying

@@ -11,6 +11,7 @@ pub mod Handing
 pub mod NamesAfter
 pub mod Owning
 pub mod Writing
+pub mod LinkingOver
 pub mod Linking
 pub mod Cutting
 pub mod TakingPlace
@@ -27,6 +28,7 @@ pub mod Paths
 pub mod Counters
 pub mod Agreeing
 pub mod Laws
+pub mod OneDetached
 pub mod OnePage
 pub mod Made
 pub mod Lengths

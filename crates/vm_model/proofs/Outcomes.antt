@@ -2,4 +2,5 @@
 pub mod Rows
 pub mod Sizes
 pub mod Kept
+pub mod Lying
 pub mod Laid

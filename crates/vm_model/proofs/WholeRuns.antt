@@ -5,3 +5,4 @@ pub mod Growing
 pub mod Runs
 pub mod Played
 pub mod Transit
+pub mod Barred

@@ -13,7 +13,8 @@ use Rattle.residency.specs.Causes.{Later}
 use Rattle.residency.specs.Pushing.{TellsOn}
 use Rattle.residency.specs.World.{IsMadeFree, IsStoreRight, PagesStay, PinnedStays, Still, World, is_bound}
 use Rattle.residency.proofs.Worlds.After.{pin_right, pin_set, written_right}
-use Rattle.residency.proofs.Moves.Brought.{given_page, place_other}
+use Rattle.residency.proofs.Moves.GivenUp.{given_page}
+use Rattle.residency.proofs.Moves.Brought.{place_other}
 use Rattle.residency.proofs.Worlds.Composed.{still_then}
 use Rattle.residency.proofs.Worlds.Homes.{IsHome, home, page_here}
 use Rattle.residency.proofs.Worlds.Nodes.{same}

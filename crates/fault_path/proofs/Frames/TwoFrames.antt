@@ -30,7 +30,7 @@ use Rattle.local_cache.specs.Sound.{IsSound}
 use Rattle.local_cache.proofs.Changes.SameNodes.{like_then}
 use Rattle.residency.specs.StoreForest.{store_forest}
 use Rattle.residency.specs.World.{IsTaken, PinnedStays, Still, World, frame_page, home_page, own_page, page_by, zero_page}
-use Rattle.residency.proofs.Moves.Brought.{given_up, given_up_still}
+use Rattle.residency.proofs.Moves.GivenUp.{given_up, given_up_still}
 use Rattle.residency.proofs.Worlds.Composed.{stays_then, still, still_then}
 use Rattle.residency.proofs.Forests.StillForest.{still_copies, still_like, still_made, still_room}
 use Rattle.fault_path.specs.Answers.{IsForestRight}

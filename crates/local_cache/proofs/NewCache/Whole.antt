@@ -11,7 +11,7 @@ use Rattle.vm_ids.specs.Forest.Nodes.Hang.{Root}
 use Rattle.vm_ids.specs.Forest.Shape.{IsConsistent}
 use Rattle.vm_ids.specs.Forest.Commands.{firsts, make, page_name, page_names}
 use Rattle.vm_ids.specs.Forest.Laws.Commands.{AreFresh}
-use Rattle.vm_ids.proofs.Forest.Laws.Commands.{make_keeps_consistency, no_forest_is_consistent}
+use Rattle.vm_ids.proofs.Forest.Laws.Copying.{make_keeps_consistency, no_forest_is_consistent}
 use Rattle.vm_ids.proofs.Forest.Laws.Ranges.{ranges_hold_pages_once, ranges_hold_their_pages}
 use Rattle.vm_ids.proofs.Forest.NodesAfter.{IsNode-put, put-IsNode}
 use Rattle.local_cache.specs.declared.own_state.OwnState.{OwnState}

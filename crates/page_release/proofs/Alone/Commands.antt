@@ -9,7 +9,8 @@ use Rattle.vm_ids.specs.Forest.PageMap.{map_entries, map_pages}
 use Rattle.vm_ids.specs.Forest.Settling.{settle}
 use Rattle.vm_ids.specs.Forest.Commands.{copy, copy_pages, destroy, firsts, move_, move_pages, replace_pages, retire_all, seconds, small_copy}
 use Rattle.vm_ids.specs.Forest.Laws.Commands.{ArePagesOnce, CanCopy}
-use Rattle.vm_ids.proofs.Forest.Laws.Commands.{copy_pages-facts, retire_all-facts}
+use Rattle.vm_ids.proofs.Forest.Laws.Copying.{copy_pages-facts}
+use Rattle.vm_ids.proofs.Forest.Laws.Commands.{retire_all-facts}
 use Rattle.vm_ids.proofs.Forest.Laws.PageMap.{copy_goes_with_pages, destroy_goes_with_pages, move_goes_with_pages, replace_pages-map, settle_goes_with_pages}
 use Rattle.vm_ids.proofs.Forest.Laws.Settling.{settle_keeps_consistency}
 use Rattle.vm_ids.proofs.Forest.LostPages.{as_it_was, not_lost}

@@ -11,7 +11,8 @@ use Rattle.vm_ids.specs.Forest.Settling.{settle}
 use Rattle.vm_ids.specs.Forest.Commands.{copy, destroy, firsts, move_, move_pages, replace_pages, seconds}
 use Rattle.vm_ids.specs.Forest.Laws.Commands.{ArePagesOnce, CanCopy, is_in, source_of}
 use Rattle.vm_ids.proofs.Forest.Names.{same_apart}
-use Rattle.vm_ids.proofs.Forest.Laws.Commands.{copy_copies, destroy_destroys, first_pages, later_can, later_pages, still_can, still_pages}
+use Rattle.vm_ids.proofs.Forest.Laws.Copying.{copy_copies, first_pages, later_can, still_can, still_pages}
+use Rattle.vm_ids.proofs.Forest.Laws.Commands.{destroy_destroys, later_pages}
 use Rattle.vm_ids.proofs.Forest.Laws.Settling.{settle_keeps_live_values}
 use Rattle.vm_ids.proofs.Forest.Moving.{move_page_stays}
 use Rattle.vm_ids.proofs.Forest.OnePage.{detach-consistent, detach-value, move_page-consistent, move_page-value}

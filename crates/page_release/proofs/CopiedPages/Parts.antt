@@ -9,7 +9,7 @@ use Rattle.vm_ids.specs.Forest.NameMap.{len}
 use Rattle.vm_ids.specs.Forest.Nodes.{Forest, IsNode}
 use Rattle.vm_ids.specs.Forest.Rules.{copy_page}
 use Rattle.vm_ids.specs.Forest.Shape.{IsConsistent}
-use Rattle.vm_ids.proofs.Forest.Laws.Commands.{later_can, still_can}
+use Rattle.vm_ids.proofs.Forest.Laws.Copying.{later_can, still_can}
 use Rattle.vm_ids.proofs.Forest.Lengths.{copy_page_len, copy_page_stays}
 use Rattle.vm_ids.proofs.Forest.Made.{copy_page-made}
 use Rattle.vm_ids.proofs.Forest.OnePage.{copy_page-consistent}

@@ -11,7 +11,7 @@ use Rattle.vm_ids.specs.Forest.NameMap.{len}
 use Rattle.vm_ids.specs.Forest.Nodes.{Forest, IsNode}
 use Rattle.vm_ids.specs.Forest.Rules.{move_page}
 use Rattle.vm_ids.specs.Forest.Shape.{IsConsistent}
-use Rattle.vm_ids.proofs.Forest.Laws.Commands.{still_can}
+use Rattle.vm_ids.proofs.Forest.Laws.Copying.{still_can}
 use Rattle.vm_ids.proofs.Forest.Made.{move_page-made}
 use Rattle.vm_ids.proofs.Forest.Moving.{move_page_len, move_page_stays}
 use Rattle.vm_ids.proofs.Forest.OnePage.{move_page-consistent}

@@ -13,7 +13,7 @@ use Rattle.vm_ids.specs.Forest.Rules.{detach, retire}
 use Rattle.vm_ids.proofs.Forest.Columns.{left_stubs}
 use Rattle.vm_ids.proofs.Forest.Cutting.{cut-stubs, cut-tree}
 use Rattle.vm_ids.proofs.Forest.Detaching.{swapped_other}
-use Rattle.vm_ids.proofs.Forest.Linking.{node-count_working}
+use Rattle.vm_ids.proofs.Forest.LinkingOver.{node-count_working}
 use Rattle.vm_ids.proofs.Forest.NodesAfter.{node-free_other, node-put_other}
 use Rattle.vm_ids.proofs.Forest.Renaming.{node-rename}
 use Rattle.tree_merge.proofs.Leaving.Retired.{retire_none, retire_some}

@@ -9,7 +9,8 @@ use Rattle.vm_ids.specs.Forest.NameMap.{len}
 use Rattle.vm_ids.specs.Forest.Nodes.{Forest, IsNode}
 use Rattle.vm_ids.specs.Forest.Rules.{retire}
 use Rattle.vm_ids.specs.Forest.Shape.{IsConsistent}
-use Rattle.vm_ids.proofs.Forest.Laws.Commands.{later_pages, still_pages}
+use Rattle.vm_ids.proofs.Forest.Laws.Copying.{still_pages}
+use Rattle.vm_ids.proofs.Forest.Laws.Commands.{later_pages}
 use Rattle.vm_ids.proofs.Forest.Lengths.{retire_len}
 use Rattle.vm_ids.proofs.Forest.Made.{retire-made}
 use Rattle.vm_ids.proofs.Forest.OnePage.{retire-consistent, retired}

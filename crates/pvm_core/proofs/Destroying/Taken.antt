@@ -29,7 +29,7 @@ use Rattle.vm_model.specs.Outcome.{HasWholePages, OutcomeAt, blank, blank_cache}
 use Rattle.vm_model.specs.Outcome as outcome
 use Rattle.vm_model.specs.PageForest.{PageForest}
 use Rattle.vm_model.specs.Laws.{IsFollowed}
-use Rattle.vm_model.proofs.Forests.Following.{destroyed_followed}
+use Rattle.vm_model.proofs.Forests.CachesFollowed.{destroyed_followed}
 use Rattle.contexts.specs.Actors.{Actors}
 use Rattle.contexts.proofs.Placing.{placed_actors}
 use Rattle.pvm_core.specs.Locks.{AreHeld}

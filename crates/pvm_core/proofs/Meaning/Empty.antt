@@ -8,7 +8,7 @@ use Rattle.std.proofs.lemmas.List.Elements.{All-nil, All-same}
 use Rattle.vm_ids.specs.Held.{Held}
 use Rattle.vm_ids.specs.Forest.Nodes.{no_forest}
 use Rattle.vm_ids.specs.Forest.Shape.{IsBounded, IsConsistent}
-use Rattle.vm_ids.proofs.Forest.Laws.Commands.{no_forest_is_bounded, no_forest_is_consistent}
+use Rattle.vm_ids.proofs.Forest.Laws.Copying.{no_forest_is_bounded, no_forest_is_consistent}
 use Rattle.vm_ids.proofs.Forest.NameMap.{get-empty}
 use Rattle.vm_ids.proofs.Forest.PageMap.{same_forest}
 use Rattle.vm_ids.proofs.Places.{count-replicate_none}

@@ -22,7 +22,7 @@ use Rattle.local_cache.proofs.Tables.Sizes.{sizes_same}
 use Rattle.local_cache.proofs.Whole.LivePages.{whole_same}
 use Rattle.vm_ids.specs.Forest.Commands.{make}
 use Rattle.vm_ids.specs.Forest.Shape.{IsBounded}
-use Rattle.vm_ids.proofs.Forest.Laws.Commands.{make_keeps_bound}
+use Rattle.vm_ids.proofs.Forest.Laws.Copying.{make_keeps_bound}
 use Rattle.vm_model.specs.Machine.{Machine}
 use Rattle.vm_model.specs.Outcome.{HasWholePages}
 use Rattle.vm_model.specs.PageForest.{PageForest}

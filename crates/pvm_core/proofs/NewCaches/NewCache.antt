@@ -21,7 +21,7 @@ use Rattle.vm_model.specs.Outcome.{HasWholePages, IsWhole, OutcomeAt, blank, bla
 use Rattle.vm_model.specs.PageForest.{PageForest, nodes_of, told}
 use Rattle.vm_model.specs.Laws.{IsFollowed}
 use Rattle.vm_model.specs.Run.{AnswerIs}
-use Rattle.vm_model.proofs.Forests.Following.{made_followed}
+use Rattle.vm_model.proofs.Forests.CachesFollowed.{made_followed}
 use Rattle.vm_model.proofs.Parts.ListParts.{numbered_pushed}
 use Rattle.pvm_core.specs.Manager.{Manager, caches_shown, forest_of, machine_by, machine_of, state_at}
 use Rattle.pvm_core.proofs.Answering.Answered.{no_segments}

@@ -11,7 +11,7 @@ use Rattle.vm_model.specs.Machine.{Cache, Machine, cache_of}
 use Rattle.vm_model.specs.Outcome.{HasWholePages, IsWhole, blank, blank_cache}
 use Rattle.vm_model.specs.PageForest.{PageForest, nodes_of}
 use Rattle.vm_model.specs.Laws.{IsFollowed}
-use Rattle.vm_model.proofs.Forests.Following.{made_followed}
+use Rattle.vm_model.proofs.Forests.CachesFollowed.{made_followed}
 use Rattle.vm_model.proofs.Parts.ListParts.{numbered_pushed}
 use Rattle.pvm_core.specs.Manager.{Manager, caches_shown, forest_of, machine_of}
 use Rattle.pvm_core.proofs.Meaning.Determined.{IsShaped, followed_is}

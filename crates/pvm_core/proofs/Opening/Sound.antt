@@ -11,7 +11,7 @@ use Rattle.vm_ids.specs.declared.numbers.NodeId.{NodeId}
 use Rattle.vm_ids.specs.declared.numbers.SegId.{SegId}
 use Rattle.vm_ids.specs.Forest.Commands.{make}
 use Rattle.vm_ids.specs.Forest.Shape.{IsBounded}
-use Rattle.vm_ids.proofs.Forest.Laws.Commands.{make_keeps_bound}
+use Rattle.vm_ids.proofs.Forest.Laws.Copying.{make_keeps_bound}
 use Rattle.local_cache.specs.declared.own_state.OwnState.TheVariants.{OnSegment}
 use Rattle.local_cache.specs.Arena.{Arena, CellsStay, IsMade, Table, entry_for, new_table, page_count, table_at}
 use Rattle.local_cache.specs.Reading as arena

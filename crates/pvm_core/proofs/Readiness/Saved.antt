@@ -18,7 +18,7 @@ use Rattle.segment_ops.specs.Saving.{AreSaved, SavesEnd}
 use Rattle.vm_model.specs.Laws.{IsFollowed}
 use Rattle.vm_model.specs.Machine.{Machine}
 use Rattle.vm_model.specs.Outcome.{HasWholePages}
-use Rattle.vm_model.proofs.Forests.Following.{saves_followed}
+use Rattle.vm_model.proofs.Forests.CachesFollowed.{saves_followed}
 use Rattle.contexts.specs.Actors.{Actors}
 use Rattle.pvm_core.specs.Manager.{IsManagerSound, IsValid, caches_shown, forest_of, machine_of}
 use Rattle.pvm_core.specs.Reaching.{Reach}

@@ -19,9 +19,9 @@ use Rattle.vm_ids.specs.Forest.Rules.{heir}
 use Rattle.vm_ids.specs.Forest.Shape.{IsConsistent}
 use Rattle.vm_ids.proofs.Forest.Agreeing.{value_none}
 use Rattle.vm_ids.proofs.Forest.BareThin.{bare-consistent}
-use Rattle.vm_ids.proofs.Forest.Laws.Commands.{make_gives_pages}
+use Rattle.vm_ids.proofs.Forest.Laws.Copying.{make_gives_pages}
 use Rattle.vm_ids.proofs.Forest.Laws.Ranges.{ranges_hold_pages_once, ranges_hold_their_pages}
-use Rattle.vm_ids.proofs.Forest.Linking.{node-none}
+use Rattle.vm_ids.proofs.Forest.LinkingOver.{node-none}
 use Rattle.vm_ids.proofs.Forest.Names.{same_apart}
 use Rattle.global_map.specs.Pairs.{frame_of}
 use Rattle.local_cache.specs.declared.home.Home.{Home}

@@ -28,7 +28,7 @@ use Rattle.local_cache.proofs.Forest.ReadingBy.{bare-by, forest_by-copies, fores
 use Rattle.local_cache.proofs.Nodes.OwnStates.{id_apart, id_cases}
 use Rattle.residency.specs.StoreForest.{store_forest}
 use Rattle.residency.specs.World.{IsStoreRight, World, own_page}
-use Rattle.residency.proofs.Moves.Brought.{given_page}
+use Rattle.residency.proofs.Moves.GivenUp.{given_page}
 use Rattle.residency.proofs.Worlds.Homes.{IsHome, page_here}
 use Rattle.residency.proofs.Worlds.Telling.{tells}
 

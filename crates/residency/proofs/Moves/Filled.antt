@@ -18,7 +18,8 @@ use Rattle.residency.specs.Causes.{Later, PullFailed, Traffic, dirtied, dirty_co
 use Rattle.residency.specs.Filling.{Fills}
 use Rattle.residency.specs.World.{World, IsStoreRight, IsTaken, StillBut, brought_in, is_pulled}
 use Rattle.residency.proofs.Worlds.Composed.{others_but}
-use Rattle.residency.proofs.Moves.Brought.{brought, brought_dirty, brought_others, given_up, given_up_others, given_up_still}
+use Rattle.residency.proofs.Moves.GivenUp.{given_up, given_up_others, given_up_still}
+use Rattle.residency.proofs.Moves.Brought.{brought, brought_dirty, brought_others}
 
 module _ (w : World) (f : FrameId) (n : NodeId) (bytes : List ℕ) (last : Option (List ℕ)) (before now : MapperCounts) (own : OwnState)
     (right : IsStoreRight w) (taken : IsTaken w f.0) (is : own_of w.caches n ≡ own) (later : Later before now) where

@@ -11,7 +11,7 @@ use Rattle.vm_ids.proofs.Places.{bit, bit_true, count-replicate_none, other_numb
 use Rattle.std.proofs.lemmas.List.Sums.{passes_at_first}
 use Rattle.frame_pool.specs.Pool.{is_pinned, with_bytes}
 use Rattle.global_map.specs.Pairs.{bound_times, frame_of, is_node, node_of}
-use Rattle.residency.proofs.Moves.Brought.{given_page}
+use Rattle.residency.proofs.Moves.GivenUp.{given_page}
 use Rattle.slot_pool.specs.Slots as swap
 use Rattle.local_cache.specs.declared.own_state.OwnState.{OwnState}
 use Rattle.local_cache.specs.declared.own_state.OwnState.TheVariants.{Absent, Zero, Resident, Slot, OnSegment}

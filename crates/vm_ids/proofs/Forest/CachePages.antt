@@ -8,7 +8,8 @@ use Rattle.vm_ids.specs.Forest.Rules.{retire}
 use Rattle.vm_ids.specs.Forest.Shape.{IsConsistent}
 use Rattle.vm_ids.specs.Forest.Commands.{page_name, page_names, retire_all}
 use Rattle.vm_ids.specs.Forest.Laws.Commands.{ArePagesOnce}
-use Rattle.vm_ids.proofs.Forest.Laws.Commands.{later_pages, still_pages}
+use Rattle.vm_ids.proofs.Forest.Laws.Copying.{still_pages}
+use Rattle.vm_ids.proofs.Forest.Laws.Commands.{later_pages}
 use Rattle.vm_ids.proofs.Forest.OnePage.{retired}
 
 -- the names from one page on, and the first of them

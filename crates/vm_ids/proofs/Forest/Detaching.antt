@@ -19,7 +19,7 @@ use Rattle.vm_ids.proofs.Forest.NameLists.{in_append, append_in, Once-append}
 use Rattle.vm_ids.proofs.Forest.Fitting.{IsNode-IsValue, parent_cases}
 use Rattle.vm_ids.proofs.Forest.Values.{values_kept}
 use Rattle.vm_ids.specs.Forest.Values.IsValue.{itself, above}
-use Rattle.vm_ids.proofs.Forest.Linking.{node-none, node-count_working}
+use Rattle.vm_ids.proofs.Forest.LinkingOver.{node-none, node-count_working}
 use Rattle.vm_ids.proofs.Forest.Cutting.{linked_by_columns}
 use Rattle.vm_ids.proofs.Forest.SettleStep.{gone}
 use Rattle.vm_ids.proofs.Forest.Settling.{cut-names}

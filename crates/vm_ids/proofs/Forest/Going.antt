@@ -18,12 +18,14 @@ use Rattle.vm_ids.specs.Forest.Laws.Linking.{ArePages}
 use Rattle.vm_ids.proofs.Forest.Names.{name_cases}
 use Rattle.vm_ids.proofs.Forest.NodesAfter.{put-IsNode}
 use Rattle.vm_ids.proofs.Forest.Fitting.{IsNode-own}
-use Rattle.vm_ids.proofs.Forest.Linking.{node-none}
+use Rattle.vm_ids.proofs.Forest.LinkingOver.{node-none}
 use Rattle.vm_ids.proofs.Forest.Detaching.{swapped_a, swapped_b, swapped_other}
-use Rattle.vm_ids.proofs.Forest.OnePage.{next_free, gone, retired, retire-consistent, detach-shaped_but, detach-consistent, copy_page-consistent, copy_page-value, move_page-consistent}
+use Rattle.vm_ids.proofs.Forest.OneDetached.{next_free}
+use Rattle.vm_ids.proofs.Forest.OnePage.{gone, retired, retire-consistent, detach-shaped_but, detach-consistent, copy_page-consistent, copy_page-value, move_page-consistent}
 use Rattle.vm_ids.proofs.Forest.SettleStep.{none_in}
 use Rattle.vm_ids.proofs.Forest.Laws.Settling.{step_keeps_consistency, settle_keeps_consistency, settle_settles}
-use Rattle.vm_ids.proofs.Forest.Laws.Commands.{first_pages, later_can, later_pages, still_can, still_pages}
+use Rattle.vm_ids.proofs.Forest.Laws.Copying.{first_pages, later_can, still_can, still_pages}
+use Rattle.vm_ids.proofs.Forest.Laws.Commands.{later_pages}
 use Rattle.vm_ids.proofs.Forest.Moving.{move_page_stays}
 use Rattle.vm_ids.proofs.Forest.Paths.{IsNode-value}
 use Rattle.vm_ids.specs.Forest.Reading.{value_of}

@@ -4,6 +4,7 @@ pub mod Owning
 pub mod Writing
 pub mod Linking
 pub mod Settling
+pub mod Copying
 pub mod Commands
 pub mod Forgetting
 pub mod Ranges

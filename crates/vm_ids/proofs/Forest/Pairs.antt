@@ -10,7 +10,7 @@ use Rattle.vm_ids.specs.Forest.Shape.{IsConsistent}
 use Rattle.vm_ids.specs.Forest.Commands.{copy, copy_pages, move_pages, page_name, page_pairs, small_copy, span_pairs}
 use Rattle.vm_ids.specs.Forest.Laws.Commands.{CanCopy}
 use Rattle.vm_ids.specs.Forest.Laws.Linking.{ArePages}
-use Rattle.vm_ids.proofs.Forest.Laws.Commands.{first_pages, later_can, still_can}
+use Rattle.vm_ids.proofs.Forest.Laws.Copying.{first_pages, later_can, still_can}
 use Rattle.vm_ids.proofs.Forest.Lengths.{copy_page_stays}
 use Rattle.vm_ids.proofs.Forest.Moving.{move_page_stays}
 

@@ -42,7 +42,8 @@ use Rattle.vm_model.proofs.Parts.ListParts.{numbered_pushed}
 use Rattle.vm_model.proofs.Machines.Sound.{numbered-all}
 use Rattle.vm_model.proofs.Outcomes.Laid.{laid_machines_are_mapped}
 use Rattle.vm_model.proofs.Outcomes.Rows.{each_unless, each_some, each_ok}
-use Rattle.vm_model.proofs.Forests.Following.{IsAllowed, copied_followed, copied_machine, destroyed_followed, invalidated_followed, invalidated_there, made_followed, moved_followed, moved_machine, saves_followed, source_left, stays, stored_followed, zero_left}
+use Rattle.vm_model.proofs.Forests.CachesFollowed.{destroyed_followed, made_followed, saves_followed, stays}
+use Rattle.vm_model.proofs.Forests.Following.{IsAllowed, copied_followed, copied_machine, invalidated_followed, invalidated_there, moved_followed, moved_machine, source_left, stored_followed, zero_left}
 use Rattle.vm_model.proofs.Forests.Locked.{passed_locked, region_locked}
 
 -- the forest follows the row

@@ -14,9 +14,9 @@ use Rattle.vm_model.specs.Regions.{region_with}
 use Rattle.vm_model.specs.Following.{pages_locked, pages_under}
 use Rattle.vm_model.specs.Outcome.{IsPageUnder}
 use Rattle.vm_model.specs.Laws.{IsFollowed, IsLaid, LiesIn}
-use Rattle.vm_model.proofs.Forests.Following.{by_values, node_there, there_within}
+use Rattle.vm_model.proofs.Forests.CachesFollowed.{by_values, node_there, there_within}
 use Rattle.vm_model.proofs.Forests.Plain.{id_of}
-use Rattle.vm_model.proofs.Outcomes.Laid.{region_lies}
+use Rattle.vm_model.proofs.Outcomes.Lying.{region_lies}
 
 module _ (m : Machine) (f : PageForest) (F : IsFollowed m f) where
   -- the first pages under a region have nodes

@@ -23,7 +23,7 @@ use Rattle.vm_ids.proofs.Forest.Bound.{key-IsNode, split_length}
 use Rattle.vm_ids.proofs.Forest.Counters.{put-counters}
 use Rattle.vm_ids.proofs.Forest.Laws.Ranges.{ranges_hold_their_pages, ranges_hold_pages_once, pages_have_their_names}
 use Rattle.vm_ids.proofs.Forest.Laws.Reading.{paths_by_cases}
-use Rattle.vm_ids.proofs.Forest.Laws.Commands.{no_forest_is_consistent, make_keeps_consistency}
+use Rattle.vm_ids.proofs.Forest.Laws.Copying.{no_forest_is_consistent, make_keeps_consistency}
 use Rattle.vm_model.specs.Machine.{Machine, Cache, Page, cache_of, live_pages, pages_in}
 use Rattle.vm_model.proofs.Parts.Lists.{numbered_place}
 use Rattle.vm_model.specs.PageForest.{PageForest, told, nodes_of, nodes_from, plain_forest}

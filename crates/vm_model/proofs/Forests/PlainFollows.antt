@@ -11,13 +11,13 @@ use Rattle.vm_ids.specs.Forest.Nodes.{no_forest}
 use Rattle.vm_ids.specs.Forest.Reading.{value_within, value_of}
 use Rattle.vm_ids.specs.Forest.Commands.{page_name}
 use Rattle.vm_ids.specs.Forest.Laws.Commands.{given}
-use Rattle.vm_ids.proofs.Forest.Laws.Commands.{no_forest_is_consistent, make_gives_pages}
+use Rattle.vm_ids.proofs.Forest.Laws.Copying.{no_forest_is_consistent, make_gives_pages}
 use Rattle.vm_model.specs.Machine.{Machine, Cache, Page}
 use Rattle.vm_model.specs.PageForest.{told, nodes_of, nodes_from, page_in, plain_forest}
 use Rattle.vm_model.specs.Laws.{PlainForestFollows}
 use Rattle.vm_model.proofs.Parts.ListParts.{at_zero, at_some, zero_or}
 use Rattle.vm_model.proofs.Forests.Plain.{id_of, fresh, from_caches, of_cache, one_cache, plain_consistent}
-use Rattle.vm_model.proofs.Forests.Following.{by_values, given_none, given_page, or_none}
+use Rattle.vm_model.proofs.Forests.CachesFollowed.{by_values, given_none, given_page, or_none}
 
 given_append : {A : Type 0} (xs ys : List (NodeName × A)) (y : NodeName) → given (xs ++ ys) y ≡ option_or (given xs y) (given ys y)
 given_append [] ys y = refl

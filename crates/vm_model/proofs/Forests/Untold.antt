@@ -1,14 +1,10 @@
 -- Without bytes the forest follows too.
 use Rattle.std.proofs.Common.{◌≡◌, ℕ, ◌+◌, ◌-◌, ◌≤◌, true, false, List, [], ◌∷◌, ◌++◌, length, set, take, drop, map, replicate, Option, Some, None, refl, sym, ap, subst, ◌∙◌, arith, inl, inr}
-use Rattle.std.specs.Prelude.{◌||◌, nat_lt, option_map, option_and_then, slice_get, unwrap_or, IsSome, IfOk, Result, Ok, Err}
+use Rattle.std.specs.Prelude.{◌||◌, option_map, unwrap_or, IsSome, IfOk, Result, Ok, Err}
 use Rattle.std.specs.Option.{option_map_or}
-use Rattle.std.proofs.lemmas.Bool.{cases_eq}
-use Rattle.std.proofs.lemmas.Bool.Decides.{nat_tests}
 use Rattle.std.specs.FinMap.{get}
 use Rattle.std.proofs.lemmas.List.{length-append, length-map}
 use Rattle.std.proofs.lemmas.List.FromFn.{length-map-range_with_len}
-use Rattle.std.proofs.lemmas.Option.{get_or_from_slice_get, slice_get-map}
-use Rattle.std.proofs.Math.Seq.{map-set_same}
 use Rattle.vm_ids.specs.Counting.{MapperCounts}
 use Rattle.vm_ids.specs.Held.{Segments}
 use Rattle.vm_ids.specs.declared.command.Command.{Command}
@@ -27,11 +23,7 @@ use Rattle.vm_ids.specs.declared.reply.FaultAt.{FaultAt}
 use Rattle.vm_ids.specs.declared.reply.FaultAt.TheVariants as faults
 use Rattle.vm_ids.specs.declared.reply.Reply.TheVariants as replies
 use Rattle.vm_ids.specs.declared.reply.Trouble.TheVariants as troubles
-use Rattle.vm_ids.specs.Forest.Nodes.{IsNode}
-use Rattle.vm_ids.specs.Forest.Reading.{value_of}
-use Rattle.vm_ids.specs.Forest.Rules.{write}
-use Rattle.vm_ids.specs.Forest.Commands.{page_name, page_names, span_pairs, make, copy, invalidate, destroy, lock}
-use Rattle.vm_ids.proofs.Forest.Laws.Writing.{write_keeps_consistency, write_changes_its_node, write_keeps_other_values}
+use Rattle.vm_ids.specs.Forest.Commands.{page_names, span_pairs, make, copy, invalidate, destroy, lock}
 use Rattle.vm_model.specs.Machine.{Machine, Cache, Page, Region, actor_of, cache_of, numbered, pages_in, zero_page}
 use Rattle.vm_model.specs.Place.{Place, place}
 use Rattle.vm_model.specs.Regions.{region_with, with_lock}
@@ -44,60 +36,15 @@ use Rattle.vm_model.specs.Laws.{HasMappedPages, IsFollowed, IsLaid, LiesIn, Unto
 use Rattle.vm_model.proofs.Forests.Blank.{blank_gone, blank_more, blank_pages, blank_part, blank_put, blank_replicate, blank_there, no_bytes}
 use Rattle.vm_model.proofs.Forests.Followed.{some_page}
 use Rattle.vm_model.proofs.Forests.Locked.{passed_locked, region_locked}
-use Rattle.vm_model.proofs.Forests.Following.{IsAllowed, by_values, copied_followed, destroyed_followed, invalidated_followed, invalidated_there, made_followed, moved_followed, moved_machine, node_there, number_of, of_number, same_page, saves_followed, source_left, stays, zero_left}
-use Rattle.vm_model.proofs.Parts.Lists.{numbered-set, numbered_place, numbered-map}
+use Rattle.vm_model.proofs.Forests.CachesFollowed.{destroyed_followed, made_followed, saves_followed, stays}
+use Rattle.vm_model.proofs.Forests.Following.{IsAllowed, copied_followed, invalidated_followed, invalidated_there, moved_followed, moved_machine, source_left, zero_left}
+use Rattle.vm_model.proofs.Parts.Lists.{numbered-set, numbered-map}
 use Rattle.vm_model.proofs.Parts.ListParts.{numbered_pushed}
-use Rattle.vm_model.proofs.Forests.Plain.{id_of}
-use Rattle.vm_model.proofs.Outcomes.Laid.{lie_still, machines_stay_laid, laid_machines_are_mapped}
+use Rattle.vm_model.proofs.Outcomes.Lying.{lie_still}
+use Rattle.vm_model.proofs.Outcomes.Laid.{machines_stay_laid, laid_machines_are_mapped}
 use Rattle.vm_model.proofs.Machines.Taking.{from_some}
 use Rattle.vm_model.proofs.Outcomes.Rows.{each_unless, each_some, each_ok}
-
-neither : (a b x y : ℕ) → (nat_lt a b || nat_lt x y) ≡ false → (b ≤ a) × (y ≤ x)
-neither a b x y e = (grind (arith, nat_tests), grind (arith, nat_tests))
-
-not_past : (a b : ℕ) → nat_lt a b ≡ false → b ≤ a
-not_past a b e = grind (arith, nat_tests)
-
-same_some : (c d : Cache) → ◌≡◌ {A = Option Cache} (Some c) (Some d) → c ≡ d
-same_some c d e = cc
-
--- a write of bytes that aren't told
-untold_write : (m : Machine) (f : PageForest) (n page : ℕ) (g : Page → Page) → page_in m n page ≡ Some [] → IsFollowed m f → IsFollowed m (write f (page_name (id_of n) page) (option_map g))
-untold_write m f n page g here F =
-    let x = page_name (id_of n) page in
-    let change : Option Page → Option Page = option_map g in
-    let is : IsNode f x = node_there m f F (id_of n) page [] here in
-    by_values m (write f x change) (write_keeps_consistency f F.consistent x change is refl) (λ cache p. elim (cases_eq cache.0 n) [
-      | inl e ↦
-          ap (value_of (write f x change)) (of_number cache n p e)
-          ∙ elim (cases_eq p page) [
-            | inl q ↦
-                ap (λ (k : ℕ). value_of (write f x change) (page_name (id_of n) k)) q
-                ∙ write_changes_its_node f F.consistent.shaped x change is refl
-                ∙ ap (option_map change) (F.agrees.values (id_of n) page ∙ ap (option_map told) here)
-                ∙ sym (ap (λ (k : ℕ). option_map told (page_in m n k)) q ∙ ap (option_map told) here)
-            | inr d ↦
-                write_keeps_other_values f F.consistent.shaped x change is refl (page_name (id_of n) p) (λ q. d (same_page (id_of n) (id_of n) p page q))
-                ∙ F.agrees.values (id_of n) p
-          ]
-          ∙ ap (λ (k : ℕ). option_map told (page_in m k p)) (sym e)
-      | inr d ↦
-          write_keeps_other_values f F.consistent.shaped x change is refl (page_name cache p) (λ q. d (ap number_of q))
-          ∙ F.agrees.values cache p
-    ])
-
--- bytes that are written leave the machine without bytes
-blank_written : (w : Machine) (n page : ℕ) (c : Cache) (p new : Page) → cache_of w n ≡ Some c → slice_get c.pages page ≡ Some p → blank (put_cache w n (put_page page new c)) ≡ blank w
-blank_written w n page c p new there has =
-    let pages : map no_bytes (set c.pages page new) ≡ map no_bytes c.pages = map-set_same no_bytes c.pages page new [] refl in
-    let same : option_map blank_cache (Some (put_page page new c)) ≡ Some (blank_cache c) = ap (λ (ps : List Page). Some (record c { pages = ps })) pages in
-    let found = get_or_from_slice_get w.caches (n - 1) (Some c) None (numbered_place w.caches n c there).1 in
-    ap (λ (cs : List (Option Cache)). record (blank w) { caches = cs }) (map-set_same (option_map blank_cache) w.caches (n - 1) (Some (put_page page new c)) None (same ∙ sym (ap (option_map blank_cache) found)))
-
-blank_page : (w : Machine) (n page : ℕ) (c : Cache) (p : Page) → cache_of w n ≡ Some c → slice_get c.pages page ≡ Some p → page_in (blank w) n page ≡ Some []
-blank_page w n page c p there has =
-    ap (option_and_then (λ (c : Cache). slice_get c.pages page)) (blank_there w n c there)
-    ∙ slice_get-map no_bytes c.pages page ∙ ap (option_map no_bytes) has
+use Rattle.vm_model.proofs.Forests.UntoldWrites.{blank_page, blank_written, neither, not_past, same_some, untold_write}
 
 module _ (w : Machine) (f : PageForest) (F : IsFollowed (blank w) f) where
   abbrev RowUntold : Command → Answered → Type 0

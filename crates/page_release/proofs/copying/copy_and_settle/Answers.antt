@@ -1,5 +1,5 @@
 use Rattle.std.proofs.Common.{[], ◌*◌, None, false, sym, ap, ◌∙◌, subst}
-use Rattle.vm_ids.proofs.Forest.Laws.Commands.{copy_counts_saves, still_can}
+use Rattle.vm_ids.proofs.Forest.Laws.Copying.{copy_counts_saves, still_can}
 use Rattle.vm_ids.proofs.Forest.Pairs.{copied}
 use Rattle.vm_ids.specs.declared.node_name.NodeName.TheVariants.{Working}
 use Rattle.vm_ids.specs.Forest.Commands.{copy as rule_copy, firsts, page_names, span_pairs}

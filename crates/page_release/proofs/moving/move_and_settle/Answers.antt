@@ -1,6 +1,7 @@
 use Rattle.std.proofs.Common.{[], ℕ, None, arith, false, sym, ap, ◌∙◌, subst}
 use Rattle.std.specs.Prelude.{option_map, replicate}
-use Rattle.vm_ids.proofs.Forest.Laws.Commands.{move_counts_saves, still_can}
+use Rattle.vm_ids.proofs.Forest.Laws.Copying.{still_can}
+use Rattle.vm_ids.proofs.Forest.Laws.Commands.{move_counts_saves}
 use Rattle.vm_ids.specs.declared.node_name.NodeName.TheVariants.{Working}
 use Rattle.vm_ids.specs.Forest.Commands.{firsts, move_, move_pages, page_names, span_pairs}
 use Rattle.vm_ids.specs.Forest.NameLists.{◌∈◌}

@@ -20,7 +20,7 @@ use Rattle.vm_ids.proofs.Forest.PageMap.{made-map}
 use Rattle.vm_ids.proofs.Forest.Detaching.{live_most}
 use Rattle.vm_ids.proofs.Forest.Writing.{ReadsNot-no_heir}
 use Rattle.vm_ids.proofs.Forest.Saving.{saved-consistent, save_range_ends}
-use Rattle.vm_ids.proofs.Forest.Laws.Commands.{saved_stays, still_can, still_pages}
+use Rattle.vm_ids.proofs.Forest.Laws.Copying.{saved_stays, still_can, still_pages}
 use Rattle.vm_ids.proofs.Forest.Laws.PageMap.{copy_goes_with_pages, destroy_goes_with_pages, is_unsaved-map, move_goes_with_pages, replace_pages-map, settle_goes_with_pages}
 use Rattle.vm_ids.proofs.Forest.Going.{IsGoing, all_seen, copy_pages-unseen, move_pages-unseen, replace_pages-unseen, retire_all-unseen}
 use Rattle.vm_ids.proofs.Forest.LostPages.{lost_is_there, IsLost, not_lost, as_it_was, or_else, marked, marked-as_it_was, marked-or_else, marked-lost, told_again, none_lost, seen_alike}

@@ -22,7 +22,7 @@ use Rattle.vm_ids.proofs.Forest.Owning.{has_value, own-shaped, heir_gets-shaped,
 use Rattle.vm_ids.proofs.Forest.Writing.{ReadsNot, heir_gets-ReadsNot}
 use Rattle.vm_ids.proofs.Forest.Detaching.{live_most}
 use Rattle.vm_ids.proofs.Forest.Paths.{path-step, IsNode-value}
-use Rattle.vm_ids.proofs.Forest.Linking.{node-none}
+use Rattle.vm_ids.proofs.Forest.LinkingOver.{node-none}
 use Rattle.vm_ids.proofs.Forest.Counters.{own-made, own-copies, heir_gets-made, heir_gets-copies}
 use Rattle.vm_ids.proofs.Forest.Agreeing.{value_equal, same_counts, same_bound, counted_from}
 

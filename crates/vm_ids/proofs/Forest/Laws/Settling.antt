@@ -19,7 +19,7 @@ use Rattle.vm_ids.proofs.Forest.SettleStep.{settle_step-Settled}
 use Rattle.vm_ids.proofs.Forest.Settling.{settle_step-names, settled-shaped, fewer_len, no_keys, settle-Rests}
 use Rattle.vm_ids.proofs.Forest.Counters.{settle_step-counters, settle-counters}
 use Rattle.vm_ids.proofs.Forest.Agreeing.{value_equal, value_none, counted_from}
-use Rattle.vm_ids.proofs.Forest.OnePage.{by_name}
+use Rattle.vm_ids.proofs.Forest.OneDetached.{by_name}
 
 -- the first name of a sorted list that passes is the least one
 below_each : {X : Type 0} (k z : NodeName) (es : List (NodeName × X)) → T (below_all name_cmp k es) → z ∈ map (λ e. e.0) es → T (is_lt (name_cmp k z))

@@ -1,5 +1,5 @@
 -- Each law as it is proved.
-use Rattle.vm_ids.proofs.Forest.Laws.Commands.{copy_keeps_consistency, copy_copies, copy_bounds, copy_settles, copy_counts_saves}
+use Rattle.vm_ids.proofs.Forest.Laws.Copying.{copy_keeps_consistency, copy_copies, copy_bounds, copy_settles, copy_counts_saves}
 use Rattle.vm_ids.proofs.forest_laws.copying.Goals as goal
 
 pub returns-clause-copy_keeps_consistency : goal.returns-clause-copy_keeps_consistency

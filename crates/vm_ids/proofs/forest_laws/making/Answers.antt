@@ -1,5 +1,5 @@
 -- Each law as it is proved.
-use Rattle.vm_ids.proofs.Forest.Laws.Commands.{no_forest_is_consistent, no_forest_is_bounded, make_keeps_consistency, make_keeps_bound, make_gives_pages}
+use Rattle.vm_ids.proofs.Forest.Laws.Copying.{no_forest_is_consistent, no_forest_is_bounded, make_keeps_consistency, make_keeps_bound, make_gives_pages}
 use Rattle.vm_ids.proofs.forest_laws.making.Goals as goal
 
 pub returns-clause-no_forest_is_consistent : goal.returns-clause-no_forest_is_consistent

@@ -1,4 +1,5 @@
-use Rattle.vm_model.proofs.WholeRuns.Transit.{two_pages_in_transit, first_of_two_pages_fails, lines_wait, deliveries_go_by_turns, others_are_out_of_order}
+use Rattle.vm_model.proofs.WholeRuns.Barred.{lines_wait, deliveries_go_by_turns, others_are_out_of_order}
+use Rattle.vm_model.proofs.WholeRuns.Transit.{two_pages_in_transit, first_of_two_pages_fails}
 use Rattle.vm_model.proofs.laws.pages_in_transit.Goals as goal
 
 pub returns-clause-two_pages_in_transit : goal.returns-clause-two_pages_in_transit

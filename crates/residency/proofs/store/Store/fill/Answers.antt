@@ -6,7 +6,8 @@ use Rattle.residency.specs.Filling.{Fills}
 use Rattle.residency.specs.World.{World, world}
 use Rattle.residency.specs.declared.store.Store.{Store}
 use Rattle.residency.proofs.Worlds.Homes.{world_is}
-use Rattle.residency.proofs.Moves.Brought.{brought, zero_brought, zero_left}
+use Rattle.residency.proofs.Moves.GivenUp.{zero_left}
+use Rattle.residency.proofs.Moves.Brought.{brought, zero_brought}
 use Rattle.residency.proofs.Moves.Filled.{brought_fills}
 use Rattle.residency.proofs.store.Store.fill.Goals as goal
 

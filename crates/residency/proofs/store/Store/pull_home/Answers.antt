@@ -7,7 +7,8 @@ use Rattle.residency.specs.Filling.{Fills}
 use Rattle.residency.specs.World.{World, is_clean, world}
 use Rattle.residency.specs.declared.store.Store.{Store}
 use Rattle.residency.proofs.Worlds.Homes.{world_is}
-use Rattle.residency.proofs.Moves.Brought.{brought, given_is, given_up, home_brought, refill_same}
+use Rattle.residency.proofs.Moves.GivenUp.{given_is, given_up, refill_same}
+use Rattle.residency.proofs.Moves.Brought.{brought, home_brought}
 use Rattle.residency.proofs.Moves.Filled.{brought_fills, given_up_fills}
 use Rattle.residency.proofs.store.Store.pull_home.Goals as goal
 

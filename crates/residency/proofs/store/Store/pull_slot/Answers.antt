@@ -7,7 +7,8 @@ use Rattle.residency.specs.Filling.{Fills}
 use Rattle.residency.specs.World.{World, world}
 use Rattle.residency.specs.declared.store.Store.{Store}
 use Rattle.residency.proofs.Worlds.Homes.{slot_is_held, world_is}
-use Rattle.residency.proofs.Moves.Brought.{brought, given_is, given_up, refill_same, slot_brought}
+use Rattle.residency.proofs.Moves.GivenUp.{given_is, given_up, refill_same}
+use Rattle.residency.proofs.Moves.Brought.{brought, slot_brought}
 use Rattle.residency.proofs.Moves.Filled.{brought_fills, given_up_fills}
 use Rattle.residency.proofs.store.Store.pull_slot.Goals as goal
 
