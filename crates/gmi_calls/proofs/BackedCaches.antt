@@ -13,6 +13,7 @@ use Rattle.vm_model.proofs.Parts.Lists.{length-overwrite, numbered_place}
 use Rattle.vm_model.proofs.Parts.ListParts.{numbered_push, numbered_pushed, numbered_set, numbered_set_other, overwrite_before, overwrite_behind}
 use Rattle.vm_model.proofs.Parts.Naming.{names_none, only_named, segment_cache}
 use Rattle.gmi_calls.specs.Backing.{AreBacked, Backs}
+use Rattle.vm_model.proofs.Outcomes.Lying.{or_parts}
 
 module _ (cs : List (Option Cache)) (s : Segments) (B : AreBacked cs s) where
   -- What has a number after a cache was put in place of another: the new one, or what had it
@@ -92,16 +93,6 @@ backs_other s seg c d many same B = record {
   many = B.many ∙ sym many;
   denied = λ page e. B.denied page e ∙ sym (same page e);
 }
-
-pub neither : (a b x y : ℕ) → (nat_lt a b || nat_lt x y) ≡ false → (b ≤ a) × (y ≤ x)
-neither a b x y e = (grind (arith, nat_tests), grind (arith, nat_tests))
-
-pub not_past : (a b : ℕ) → nat_lt a b ≡ false → b ≤ a
-not_past a b e = grind (arith, nat_tests)
-
-or_parts : (a b : Bool) → (a || b) ≡ false → (a ≡ false) × (b ≡ false)
-or_parts true b e = absurd (cc e)
-or_parts false b e = (refl, e)
 
 -- none of a range
 pub none_in : (p : ℕ → Bool) (first pages q : ℕ) → list_any p (range_with_len first pages) ≡ false → first ≤ q → q < first + pages → p q ≡ false

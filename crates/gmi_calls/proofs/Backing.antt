@@ -1,5 +1,4 @@
 -- Segments back the caches of a machine after each answer.
--- Each row of the table
 use Rattle.std.proofs.Common.{◌≡◌, ℕ, ◌+◌, ◌-◌, ◌<◌, ◌≤◌, true, false, List, [], length, set, take, drop, replicate, Option, Some, None, refl, sym, ap, subst, ◌∙◌, arith, inl, inr}
 use Rattle.std.specs.Prelude.{◌||◌, is_some, option_and_then, slice_get, unwrap_or, Ok, Err}
 use Rattle.std.specs.FinMap.{get}
@@ -29,7 +28,8 @@ use Rattle.vm_model.proofs.Parts.Lists.{get_set_other, length-overwrite, numbere
 use Rattle.vm_model.proofs.Parts.ListParts.{overwrite_before, overwrite_behind, overwrite_in}
 use Rattle.vm_model.proofs.Outcomes.Rows.{each_unless, each_some, each_ok}
 use Rattle.gmi_calls.specs.Backing.{AreBacked, Backs}
-use Rattle.gmi_calls.proofs.BackedCaches.{backs_other, denied_named, free_segment, gone, more, neither, none_in, not_past, part_backs, put}
+use Rattle.vm_model.proofs.Outcomes.Lying.{neither, not_past}
+use Rattle.gmi_calls.proofs.BackedCaches.{backs_other, denied_named, free_segment, gone, more, none_in, part_backs, put}
 
 -- Each row of the table
 

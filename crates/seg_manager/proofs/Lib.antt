@@ -35,6 +35,7 @@ pub mod Lifting
 pub mod Temping
 pub mod Dropping
 pub mod LeavingRows
+pub mod RegionsLeft
 pub mod Parting
 pub mod Temporary
 pub mod Staying

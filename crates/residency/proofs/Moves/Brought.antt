@@ -1,5 +1,4 @@
 -- A page that is brought into a frame that its taker has.
--- frame f, with these bytes, is then node n's
 use Rattle.std.proofs.Common.{◌≡◌, ◌≢◌, ℕ, ◌+◌, ◌<◌, ◌≤◌, ◌==◌, ◌||◌, Bool, true, false, not, List, [], length, get_or, set, replicate, Option, Some, None, refl, sym, ap, ◌∙◌, arith, inl, inr, length-set}
 use Rattle.std.specs.List.{count_by}
 use Rattle.std.specs.Option.{IfSome}

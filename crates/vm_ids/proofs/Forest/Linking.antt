@@ -1,5 +1,4 @@
 -- link keeps values and shape, and gives the new node the value of its source.
--- d becomes the only tree child of s
 use Rattle.std.proofs.Common.{◌≡◌, ℕ, ◌+◌, ◌≤◌, List, [], ◌∷◌, length, ◌≢◌, true, cond, ◌⊎◌, Some, None, refl, sym, ap, subst, ◌∙◌, inl, inr, arith}
 use Rattle.vm_ids.specs.declared.node_name.NodeName.{NodeName}
 use Rattle.vm_ids.specs.Forest.Names.{same, Working}

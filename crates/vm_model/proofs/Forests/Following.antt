@@ -1,5 +1,4 @@
 -- The forest that follows agrees with the machine that follows.
--- Bytes that are written
 use Rattle.std.proofs.Common.{◌≡◌, ◌==◌, ◌⊎◌, ℕ, zero, suc, ◌+◌, ◌-◌, ◌<◌, ◌≤◌, Bool, true, false, cond, List, [], ◌∷◌, length, take, drop, map, replicate, Option, Some, None, refl, sym, ap, subst, ◌∙◌, inl, inr, arith}
 use Rattle.std.specs.Prelude.{◌&&◌, option_map, option_and_then, slice_get, nat_lt}
 use Rattle.std.specs.Option.{option_or}

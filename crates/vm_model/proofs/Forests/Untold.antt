@@ -40,11 +40,11 @@ use Rattle.vm_model.proofs.Forests.CachesFollowed.{destroyed_followed, made_foll
 use Rattle.vm_model.proofs.Forests.Following.{IsAllowed, copied_followed, invalidated_followed, invalidated_there, moved_followed, moved_machine, source_left, zero_left}
 use Rattle.vm_model.proofs.Parts.Lists.{numbered-set, numbered-map}
 use Rattle.vm_model.proofs.Parts.ListParts.{numbered_pushed}
-use Rattle.vm_model.proofs.Outcomes.Lying.{lie_still}
+use Rattle.vm_model.proofs.Outcomes.Lying.{lie_still, neither, not_past}
 use Rattle.vm_model.proofs.Outcomes.Laid.{machines_stay_laid, laid_machines_are_mapped}
 use Rattle.vm_model.proofs.Machines.Taking.{from_some}
 use Rattle.vm_model.proofs.Outcomes.Rows.{each_unless, each_some, each_ok}
-use Rattle.vm_model.proofs.Forests.UntoldWrites.{blank_page, blank_written, neither, not_past, same_some, untold_write}
+use Rattle.vm_model.proofs.Forests.UntoldWrites.{blank_page, blank_written, same_some, untold_write}
 
 module _ (w : Machine) (f : PageForest) (F : IsFollowed (blank w) f) where
   abbrev RowUntold : Command → Answered → Type 0

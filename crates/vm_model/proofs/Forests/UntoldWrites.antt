@@ -20,12 +20,6 @@ use Rattle.vm_model.proofs.Forests.CachesFollowed.{by_values, node_there, number
 use Rattle.vm_model.proofs.Parts.Lists.{numbered_place}
 use Rattle.vm_model.proofs.Forests.Plain.{id_of}
 
-pub neither : (a b x y : ℕ) → (nat_lt a b || nat_lt x y) ≡ false → (b ≤ a) × (y ≤ x)
-neither a b x y e = (grind (arith, nat_tests), grind (arith, nat_tests))
-
-pub not_past : (a b : ℕ) → nat_lt a b ≡ false → b ≤ a
-not_past a b e = grind (arith, nat_tests)
-
 pub same_some : (c d : Cache) → ◌≡◌ {A = Option Cache} (Some c) (Some d) → c ≡ d
 same_some c d e = cc
 

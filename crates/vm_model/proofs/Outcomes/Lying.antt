@@ -49,7 +49,7 @@ more_laid m c P = record {
 }
 
 -- a cache that goes, which no region maps
-or_parts : (a b : Bool) → (a || b) ≡ false → (a ≡ false) × (b ≡ false)
+pub or_parts : (a b : Bool) → (a || b) ≡ false → (a ≡ false) × (b ≡ false)
 or_parts true b e = absurd (cc e)
 or_parts false b e = (refl, e)
 

@@ -1,5 +1,4 @@
--- The definitions compute the worked script of two pages in transit, and bar other events from it.
--- What may be
+-- The definitions compute the worked script of two pages in transit.
 use Rattle.std.proofs.Common.{◌≡◌, ◌+◌, ◌<◌, ℕ, Bool, true, false, List, [], ◌∷◌, Option, None, Some, refl, arith, inl, inr}
 use Rattle.std.specs.Prelude.{length, slice_get, Ok, Err}
 use Rattle.std.specs.List.{AllByRecursion}
@@ -24,8 +23,6 @@ use Rattle.vm_model.specs.Events.IsParted.{ended, left}
 use Rattle.vm_model.specs.Rows.{no_segments, ok, ok_a, ok_byte, ok_c, ok_r, ok_stat, store, temp}
 use Rattle.vm_model.specs.Transit.{FirstOfTwoPagesFails, TwoPagesInTransit, first_load, first_load_fails, load_by, map_for, one_failed_pull, one_pull, second_load, step_at, two_loads, two_pushes}
 use Rattle.vm_model.proofs.WholeRuns.Played.{computes}
-
--- What may be
 
 some_pull : 0 < 1
 some_pull = omega arith

@@ -1,4 +1,4 @@
--- The laws of whole commands.
+-- The laws of whole commands, but for those that make pages and copy them.
 use Rattle.std.proofs.Common.{◌+◌, ap₂, length, filter, ◌≡◌, ◌≢◌, List, [], ◌∷◌, Bool, true, false, cond, ◌||◌, Option, Some, None, is_some, is_none, refl, sym, ap, subst, ◌∙◌, inl, inr, arith}
 use Rattle.std.specs.Option.{option_or, IsSome}
 use Rattle.vm_ids.specs.declared.node_name.NodeName.{NodeName}
