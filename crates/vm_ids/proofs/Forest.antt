@@ -34,7 +34,6 @@ pub mod Made
 pub mod Lengths
 pub mod Moving
 pub mod Pairs
-pub mod CachePages
 pub mod Saving
 pub mod LostPages
 pub mod Unseen

@@ -1,3 +1,2 @@
 pub mod Forest
-pub mod PushedPages
 pub mod Places

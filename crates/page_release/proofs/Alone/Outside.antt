@@ -15,7 +15,8 @@ use Rattle.vm_ids.proofs.Forest.Laws.Copying.{copy_copies, first_pages, later_ca
 use Rattle.vm_ids.proofs.Forest.Laws.Commands.{destroy_destroys, later_pages}
 use Rattle.vm_ids.proofs.Forest.Laws.Settling.{settle_keeps_live_values}
 use Rattle.vm_ids.proofs.Forest.Moving.{move_page_stays}
-use Rattle.vm_ids.proofs.Forest.OnePage.{detach-consistent, detach-value, move_page-consistent, move_page-value}
+use Rattle.vm_ids.proofs.Forest.OnePage.{move_page-consistent, move_page-value}
+use Rattle.vm_ids.proofs.Forest.OneDetached.{detach-consistent, detach-value}
 use Rattle.page_release.proofs.CommandSteps.Replacing.{detach_stays}
 
 source_out : (pairs : List (NodeName × NodeName)) (x : NodeName) → (x ∈ firsts pairs → ⊥) → source_of pairs x ≡ x

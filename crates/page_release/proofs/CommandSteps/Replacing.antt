@@ -23,7 +23,7 @@ use Rattle.vm_ids.specs.Forest.Laws.Ranges.{AreNodes}
 use Rattle.vm_ids.proofs.Forest.Laws.Ranges.{extents_are_pages}
 use Rattle.vm_ids.proofs.Forest.Names.{name_cases}
 use Rattle.vm_ids.proofs.Forest.NodesAfter.{IsNode-put, put-IsNode}
-use Rattle.vm_ids.proofs.Forest.OnePage.{retired}
+use Rattle.vm_ids.proofs.Forest.OneDetached.{retired}
 use Rattle.local_cache.specs.declared.home.Home.{Home}
 use Rattle.local_cache.specs.declared.own_state.OwnState.TheVariants.{OnSegment}
 use Rattle.local_cache.specs.Arena.{Arena, Cell, HasNode, blank, cell, find}

@@ -13,7 +13,7 @@ use Rattle.vm_ids.proofs.Forest.Laws.Copying.{still_pages}
 use Rattle.vm_ids.proofs.Forest.Laws.Commands.{later_pages}
 use Rattle.vm_ids.proofs.Forest.Lengths.{retire_len}
 use Rattle.vm_ids.proofs.Forest.Made.{retire-made}
-use Rattle.vm_ids.proofs.Forest.OnePage.{retire-consistent, retired}
+use Rattle.vm_ids.proofs.Forest.OneDetached.{retire-consistent, retired}
 use Rattle.local_cache.specs.Arena.{Arena}
 use Rattle.local_cache.specs.Own.{own_states}
 use Rattle.local_cache.specs.Reading.{forest_of}

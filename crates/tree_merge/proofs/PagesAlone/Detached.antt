@@ -15,8 +15,7 @@ use Rattle.vm_ids.proofs.Forest.Lengths.{detached_pages}
 use Rattle.vm_ids.proofs.Forest.Linking.{link-Links}
 use Rattle.vm_ids.proofs.Forest.Made.{detach-made}
 use Rattle.vm_ids.proofs.Forest.NodesAfter.{node-put}
-use Rattle.vm_ids.proofs.Forest.OneDetached.{next_free}
-use Rattle.vm_ids.proofs.Forest.OnePage.{detach-shaped_but}
+use Rattle.vm_ids.proofs.Forest.OneDetached.{next_free, detach-shaped_but}
 use Rattle.local_cache.specs.declared.own_state.OwnState.{OwnState}
 use Rattle.local_cache.specs.Arena.{Arena, node_at}
 use Rattle.local_cache.specs.Reading.{forest_of, name_of}

@@ -20,8 +20,8 @@ use Rattle.vm_ids.proofs.Forest.NodesAfter.{put-IsNode}
 use Rattle.vm_ids.proofs.Forest.Fitting.{IsNode-own}
 use Rattle.vm_ids.proofs.Forest.LinkingOver.{node-none}
 use Rattle.vm_ids.proofs.Forest.Detaching.{swapped_a, swapped_b, swapped_other}
-use Rattle.vm_ids.proofs.Forest.OneDetached.{next_free}
-use Rattle.vm_ids.proofs.Forest.OnePage.{gone, retired, retire-consistent, detach-shaped_but, detach-consistent, copy_page-consistent, copy_page-value, move_page-consistent}
+use Rattle.vm_ids.proofs.Forest.OneDetached.{next_free, gone, retired, retire-consistent, detach-shaped_but, detach-consistent}
+use Rattle.vm_ids.proofs.Forest.OnePage.{copy_page-consistent, copy_page-value, move_page-consistent}
 use Rattle.vm_ids.proofs.Forest.SettleStep.{none_in}
 use Rattle.vm_ids.proofs.Forest.Laws.Settling.{step_keeps_consistency, settle_keeps_consistency, settle_settles}
 use Rattle.vm_ids.proofs.Forest.Laws.Copying.{first_pages, later_can, still_can, still_pages}

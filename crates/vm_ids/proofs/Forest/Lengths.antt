@@ -22,8 +22,7 @@ use Rattle.vm_ids.proofs.Forest.Names.{name_cases}
 use Rattle.vm_ids.proofs.Forest.NameMap.{len-insert, len-remove}
 use Rattle.vm_ids.proofs.Forest.NodesAfter.{free-IsNode}
 use Rattle.vm_ids.proofs.Forest.Owning.{has_value}
-use Rattle.vm_ids.proofs.Forest.OneDetached.{next_free}
-use Rattle.vm_ids.proofs.Forest.OnePage.{detach-shaped_but, detach-stays, retired, stub-names_back}
+use Rattle.vm_ids.proofs.Forest.OneDetached.{next_free, detach-shaped_but, detach-stays, retired, stub-names_back}
 use Rattle.vm_ids.proofs.Forest.Settling.{settle-Rests}
 
 module _ {P : Type 0} where

@@ -14,7 +14,7 @@ use Rattle.vm_ids.proofs.Forest.NodesAfter.{IsNode-put_cases, put-IsNode}
 use Rattle.vm_ids.proofs.Forest.Fitting.{parent_cases, IsNode-parent}
 use Rattle.vm_ids.proofs.Forest.Values.{values_kept}
 use Rattle.vm_ids.specs.Forest.Values.IsValue.{itself, above}
-use Rattle.vm_ids.proofs.Forest.LinkingOver.{linked_in, linked_in-linked, linked_in-values, node-none, set_tree-hang, set_tree-hang_other, set_tree-own, set_tree-stubs, set_tree-tree, set_tree-tree_other}
+use Rattle.vm_ids.proofs.Forest.LinkingOver.{was, new_w, new_d, linked_in, linked_in-linked, linked_in-values, node-none, set_tree-hang, set_tree-hang_other, set_tree-own, set_tree-stubs, set_tree-tree, set_tree-tree_other}
 
 -- d becomes the only tree child of s
 module _ {P : Type 0} (f : Forest P) (linked : IsLinked f) (d s : NodeName)

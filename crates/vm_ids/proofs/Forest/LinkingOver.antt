@@ -69,7 +69,7 @@ module _ {P : Type 0} (f : Forest P) (linked : IsLinked f) (d s h w : NodeName)
     | inr t ↦ subst (λ n. y ∈ n.stubs) bare ((linked.stub_links y x).1 t)
   ]
 
-  pub linked_in : Forest P
+  unfoldable pub linked_in : Forest P
   linked_in = set_tree (set_tree f s (w ∷ [])) w (h ∷ d ∷ [])
 
   own_is : (y : NodeName) → (node linked_in y).own ≡ (node f y).own
@@ -260,7 +260,7 @@ module _ {P : Type 0} (f : Forest P) (linked : IsLinked f) (d s h w : NodeName)
   }
 
   -- the values: those that were there, and d and w have that of s
-  data NewValue (y : NodeName) (v : P) : Type 0 where
+  pub data NewValue (y : NodeName) (v : P) : Type 0 where
     was : IsValue f y v → NewValue y v
     new_w : y ≡ w → IsValue f s v → NewValue y v
     new_d : y ≡ d → IsValue f s v → NewValue y v

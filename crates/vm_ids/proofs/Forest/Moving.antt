@@ -13,7 +13,7 @@ use Rattle.vm_ids.proofs.Forest.Detaching.{rename-names, swapped_a, swapped_b, s
 use Rattle.vm_ids.proofs.Forest.NameMap.{len-remove}
 use Rattle.vm_ids.proofs.Forest.Names.{name_cases}
 use Rattle.vm_ids.proofs.Forest.NodesAfter.{IsNode-put, free-IsNode, put-IsNode}
-use Rattle.vm_ids.proofs.Forest.OnePage.{gone, retired}
+use Rattle.vm_ids.proofs.Forest.OneDetached.{gone, retired}
 use Rattle.vm_ids.proofs.Forest.Lengths.{more_names, put_len, retire_len}
 
 module _ {P : Type 0} (f : Forest P) (c : IsConsistent f) (d s : NodeName) (pages : ArePages f d s) (zeros : P) where

@@ -18,7 +18,7 @@ use Rattle.vm_ids.proofs.Forest.Renaming.{rename-values, rename-linked, back}
 use Rattle.vm_ids.proofs.Forest.Detaching.{fresh-values, live_most, rename-names, swapped_a, swapped_b, swapped_other}
 use Rattle.vm_ids.proofs.Forest.Counters.{rename-counters}
 use Rattle.vm_ids.proofs.Forest.Agreeing.{value_equal}
-use Rattle.vm_ids.proofs.Forest.OneDetached.{by_name, fresh-consistent, fresh-value, not_live, reads, value_by}
+use Rattle.vm_ids.proofs.Forest.OneDetached.{not_live, by_name, reads, value_by, fresh-consistent, fresh-value, retired, gone, retire-consistent, retire-value, detach-kept, detach-shaped_but, detach-stays, link-consistent, link-kept, link-of_source, link-names, stub-kept, stub-of_source, stub-names_back, stub-consistent}
 
 module _ {P : Type 0} where
   -- one page of a copy, from s to d

@@ -5,7 +5,7 @@ use Rattle.vm_ids.specs.Forest.Nodes.{Forest, IsNode}
 use Rattle.vm_ids.specs.Forest.Shape.{IsConsistent}
 use Rattle.vm_ids.proofs.Forest.Lengths.{detach_len}
 use Rattle.vm_ids.proofs.Forest.Made.{detach-made}
-use Rattle.vm_ids.proofs.Forest.OnePage.{detach-consistent}
+use Rattle.vm_ids.proofs.Forest.OneDetached.{detach-consistent}
 use Rattle.local_cache.specs.declared.own_state.OwnState.{OwnState}
 use Rattle.local_cache.specs.declared.own_state.OwnState.TheVariants.{OnSegment}
 use Rattle.local_cache.specs.Reading.{forest_of}

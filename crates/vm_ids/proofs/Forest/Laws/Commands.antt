@@ -19,7 +19,8 @@ use Rattle.vm_ids.proofs.Forest.Owning.{own-shaped}
 use Rattle.vm_ids.proofs.Forest.Writing.{owned-Owned}
 use Rattle.vm_ids.proofs.Forest.Counters.{own-copies, settle-counters, move_pages-copies, replace_pages-copies, retire_all-copies}
 use Rattle.vm_ids.proofs.Forest.Agreeing.{IsNode-equal}
-use Rattle.vm_ids.proofs.Forest.OnePage.{retired, retire-consistent, retire-value, detach-consistent, detach-value, move_page-consistent, move_page-value}
+use Rattle.vm_ids.proofs.Forest.OnePage.{move_page-consistent, move_page-value}
+use Rattle.vm_ids.proofs.Forest.OneDetached.{retired, retire-consistent, retire-value, detach-consistent, detach-value}
 use Rattle.vm_ids.proofs.Forest.Saving.{saved-consistent, saved-values}
 use Rattle.vm_ids.proofs.Forest.Laws.Owning.{own_keeps_consistency, own_keeps_bound, own_keeps_values}
 use Rattle.vm_ids.proofs.Forest.Laws.Settling.{settle_keeps_consistency, settle_keeps_live_values, settle_settles, settled_is_bounded}

@@ -26,7 +26,7 @@ use Rattle.vm_ids.proofs.Forest.Laws.Settling.{settle_keeps_consistency, settle_
 -- what stands in lists of pairs
 pub source_outside : (es : List (NodeName × NodeName)) (y : NodeName) → (y ∈ firsts es → ⊥) → source_of es y ≡ y
 source_outside [] y out = refl
-pub source_outside (e ∷ es) y out = ap (λ (t : Bool). cond t e.1 (source_of es y)) (same_apart y e.0 (λ q. out (inl q))) ∙ source_outside es y (λ i. out (inr i))
+source_outside (e ∷ es) y out = ap (λ (t : Bool). cond t e.1 (source_of es y)) (same_apart y e.0 (λ q. out (inl q))) ∙ source_outside es y (λ i. out (inr i))
 
 pub source_cases : (es : List (NodeName × NodeName)) (y : NodeName) → (source_of es y ≡ y) ⊎ (source_of es y ∈ seconds es)
 source_cases [] y = inl refl
@@ -38,7 +38,7 @@ source_cases (e ∷ es) y = go (same y e.0) (source_cases es y)
 
 pub given_outside : {P : Type 0} (es : List (NodeName × P)) (y : NodeName) → (y ∈ firsts es → ⊥) → given es y ≡ None
 given_outside [] y out = refl
-pub given_outside (e ∷ es) y out = ap (λ (t : Bool). cond t (Some e.1) (given es y)) (same_apart y e.0 (λ q. out (inl q))) ∙ given_outside es y (λ i. out (inr i))
+given_outside (e ∷ es) y out = ap (λ (t : Bool). cond t (Some e.1) (given es y)) (same_apart y e.0 (λ q. out (inl q))) ∙ given_outside es y (λ i. out (inr i))
 
 pub outside_is_in : (xs : List NodeName) (y : NodeName) → (y ∈ xs → ⊥) → is_in y xs ≡ false
 outside_is_in [] y out = refl

@@ -8,8 +8,8 @@ use Rattle.vm_ids.specs.Forest.Laws.Linking.{DetachGivesThePage, DetachKeepsCons
 use Rattle.vm_ids.proofs.Forest.NodesAfter.{node-put, keeps}
 use Rattle.vm_ids.proofs.Forest.Owning.{has_value}
 use Rattle.vm_ids.proofs.Forest.Counters.{detach-copies, link-copies, stub-copies, copy_page-copies, move_page-copies}
-use Rattle.vm_ids.proofs.Forest.OneDetached.{value_by}
-use Rattle.vm_ids.proofs.Forest.OnePage.{detach-linked, detach-kept, detach-handed, detach-shaped_but, detach-consistent, detach-value, link-consistent, link-gives, link-keeps, stub-consistent, stub-gives, stub-keeps, copy_page-consistent, copy_page-kept, copy_page-gives, move_page-consistent, move_page-value, move_page-keeps}
+use Rattle.vm_ids.proofs.Forest.OneDetached.{value_by, detach-linked, detach-kept, detach-handed, detach-shaped_but, detach-consistent, detach-value, link-consistent, link-gives, link-keeps, stub-consistent, stub-gives, stub-keeps}
+use Rattle.vm_ids.proofs.Forest.OnePage.{copy_page-consistent, copy_page-kept, copy_page-gives, move_page-consistent, move_page-value, move_page-keeps}
 
 module _ {P : Type 0} where
   pub detach_gives_the_page : DetachGivesThePage P
