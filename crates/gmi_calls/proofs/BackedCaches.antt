@@ -125,7 +125,7 @@ part_backs s seg first part c fits allowed B = backs_other s seg c (put_pages fi
 
 -- No live cache is of a segment that names none.
 pub free_segment : (m : Machine) (seg : ℕ) → is_some (cache_named m.caches seg) ≡ false → (k : ℕ) (y : Cache) → cache_of m k ≡ Some y → y.segment ≡ Some seg → ⊥
-pub free_segment m seg free k y there named = names_none m k seg free (ap (option_and_then (λ (c : Cache). c.segment)) there ∙ named)
+free_segment m seg free k y there named = names_none m k seg free (ap (option_and_then (λ (c : Cache). c.segment)) there ∙ named)
 
 -- The cache that a segment names is the one that is of it.
 pub named_is : (m : Machine) (s : Segments) (n seg : ℕ) (c : Cache) → AreBacked m.caches s → cache_of m n ≡ Some c → c.segment ≡ Some seg → cache_named m.caches seg ≡ Some c

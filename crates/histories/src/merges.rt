@@ -1,16 +1,11 @@
-// A page without children, and pages that are copied or retired at once.
-use local_cache::{Caches, OwnState};
-use tree_merge::{Released, Step, copy_step, retire, retire_step, settle_step};
+// Pages that are copied or retired at once, and a step of settle.
+use local_cache::Caches;
+use tree_merge::{Released, Step, copy_step, retire_step, settle_step};
 use vm_ids::{Extent, PageNo, Span};
 
 #[test]
-fn a_page_without_children_goes(rt: HostRuntime) {
+fn nothing_settles_where_nothing_is(rt: HostRuntime) {
     let mut caches = Caches::new(rt.alloc());
-    caches.reserve(1, 1).expect(&rt, "memory");
-    let cache = caches.make_temp(1);
-    let node = caches.node_of(cache, PageNo(0));
-    let released = retire(&mut caches, cache, PageNo(0));
-    assert_eq!(&rt; released, Released::Dropped(node, OwnState::Zero));
     assert_eq!(&rt; settle_step(&mut caches), None);
 }
 

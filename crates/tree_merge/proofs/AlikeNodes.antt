@@ -1,5 +1,5 @@
 -- Nodes that are alike, and have no children where the first of them has none.
-use Rattle.std.proofs.Common.{◌≡◌, ℕ, ◌+◌, ◌<◌, ◌≤◌, ◌^◌, List, [], ◌∷◌, length, map, None, refl, ap, ◌∙◌, arith, inl, inr}
+use Rattle.std.proofs.Common.{◌≡◌, ℕ, ◌+◌, ◌<◌, ◌≤◌, ◌^◌, List, [], ◌∷◌, length, map, None, refl, sym, ap, subst, ◌∙◌, arith, inl, inr}
 use Rattle.std.proofs.lemmas.List.{length-map}
 use Rattle.std.specs.Prelude.{slice_get}
 use Rattle.vm_ids.specs.declared.node_name.NodeName.TheVariants.{Live}
@@ -7,17 +7,22 @@ use Rattle.vm_ids.specs.declared.numbers.CacheId.{CacheId}
 use Rattle.vm_ids.specs.declared.numbers.NodeId.{NodeId}
 use Rattle.vm_ids.specs.declared.numbers.PageNo.{PageNo}
 use Rattle.local_cache.specs.Arena.{Arena, cell}
-use Rattle.local_cache.specs.Many.{AreAlike, AreNamed}
+use Rattle.local_cache.specs.Many.{AreAlike, AreNamed, CanBeAlike, IsPlain}
 use Rattle.local_cache.specs.ManyNodes.{next_node}
 use Rattle.local_cache.specs.Own.{own_of}
 use Rattle.local_cache.specs.Reading.{name_of}
 use Rattle.tree_merge.specs.Copyable.{AreLeaves}
-use Rattle.tree_merge.specs.Copying.{AreEmpty, IsEmpty}
+use Rattle.tree_merge.specs.Copying.{AreEmpty, IsEmpty, IsLeafOf}
 use Rattle.tree_merge.specs.Sharing.{AreShared, HasTreeChild}
 
 pub no_children : (ms : List NodeId) → slice_get ms 0 ≡ None → ms ≡ []
 no_children [] e = refl
 no_children (m ∷ ms) e = absurd (cc e)
+
+-- many such nodes can be said at once
+pub can_be_alike : (a : Arena) (n : NodeId) → IsLeafOf (cell a n).links.parent (cell a n) → IsEmpty (own_of a n) → CanBeAlike (cell a n)
+can_be_alike a n leaf (inl e) = record { own = subst IsPlain (sym e) tt; links = leaf.links }
+can_be_alike a n leaf (inr e) = record { own = subst IsPlain (sym e) tt; links = leaf.links }
 
 pub fewer : (a : Arena) (n : NodeId) (most count : ℕ) → count ≤ most → AreAlike a n most → AreAlike a n count
 fewer a n most count few alike k less = alike k (omega arith)

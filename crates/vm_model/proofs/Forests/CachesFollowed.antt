@@ -77,7 +77,7 @@ module _ (m : Machine) (f : PageForest) (F : IsFollowed m f) where
 
 -- the page of a cache that is there
 pub page_of_cache : (m : Machine) (n : ℕ) (c : Cache) (page : ℕ) → cache_of m n ≡ Some c → page_in m n page ≡ slice_get c.pages page
-pub page_of_cache m n c page there = ap (option_and_then (λ (c : Cache). slice_get c.pages page)) there
+page_of_cache m n c page there = ap (option_and_then (λ (c : Cache). slice_get c.pages page)) there
 
 pub there_within : (m : Machine) (n : ℕ) (c : Cache) (page : ℕ) → cache_of m n ≡ Some c → page < length c.pages → (v : Page) × (page_in m n page ≡ Some v)
 there_within m n c page there less =
@@ -88,7 +88,7 @@ there_within m n c page there less =
 
 pub given_none : {A : Type 0} (es : List (NodeName × A)) (y : NodeName) → (y ∈ firsts es → ⊥) → given es y ≡ None
 given_none [] y out = refl
-pub given_none (e ∷ es) y out = ap (λ (b : Bool). cond b (Some e.1) (given es y)) (same_apart y e.0 (λ q. out (inl q))) ∙ given_none es y (λ i. out (inr i))
+given_none (e ∷ es) y out = ap (λ (b : Bool). cond b (Some e.1) (given es y)) (same_apart y e.0 (λ q. out (inl q))) ∙ given_none es y (λ i. out (inr i))
 
 abbrev page_number : NodeName → ℕ
 page_number (Live c p) = p.0
@@ -154,7 +154,7 @@ not_in xs y out = go (is_in y xs) refl
     go false e = refl
 
 pub in_range : (cache : CacheId) (first n page : ℕ) → first ≤ page → page < first + n → page_name cache page ∈ page_names cache first n
-pub in_range cache first n page from less = (ranges_hold_their_pages cache first n (page_name cache page)).1 (page - first, omega (arith, from, less), ap (page_name cache) (let s : page ≡ first + (page - first) = omega arith in s))
+in_range cache first n page from less = (ranges_hold_their_pages cache first n (page_name cache page)).1 (page - first, omega (arith, from, less), ap (page_name cache) (let s : page ≡ first + (page - first) = omega arith in s))
 
 abbrev pub number_of : NodeName → ℕ
 number_of (Live c p) = c.0
@@ -172,7 +172,7 @@ out_of_range cache first n page out i =
     elim out [ inl less ↦ absurd (omega (arith, q, less)) | inr past ↦ absurd (omega (arith, q, at.1, past)) ]
 
 pub of_number : (cache : CacheId) (n page : ℕ) → cache.0 ≡ n → page_name cache page ≡ page_name (id_of n) page
-pub of_number cache n page e = ap (λ (k : ℕ). page_name (id_of k) page) e
+of_number cache n page e = ap (λ (k : ℕ). page_name (id_of k) page) e
 
 pub destroyed_followed : (m : Machine) (f : PageForest) (named : Bool) (cache : CacheId) (c : Cache) → cache_of m cache.0 ≡ Some c → IsFollowed m f
     → IsFollowed (record m { caches = set m.caches (cache.0 - 1) None }) (destroy named (page_names cache 0 (length c.pages)) f)
