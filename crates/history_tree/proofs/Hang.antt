@@ -157,7 +157,7 @@ rule-linked a d s can =
 
 pub record Linked (a b : Arena) (d s : NodeId) : Type 0 where
   pub forest : forest_of b ≡ rules.link (forest_of a) (name_of a d) (name_of a s)
-  sound : IsSound b
+  pub sound : IsSound b
   pub grown : IsGrown a b
 
 counters-fresh : (a : Arena) (w : NodeId) → ((with_working a w).made ≡ a.made + 1) × ((with_working a w).copies ≡ a.copies)

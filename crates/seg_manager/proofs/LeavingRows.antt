@@ -103,9 +103,9 @@ pub record IsDone (l : Leaving) (m : Machine) (a : Answer) (n : Machine) : Type 
 -- It is refused.
 pub record IsRefused (l : Leaving) (m : Machine) (a : Answer) (n : Machine) : Type 0 where
   pub refusal : Refusal
-  by : actors_then l m.actors ≡ Err refusal
-  answer : a ≡ Err (troubles.Refused refusal)
-  next : n ≡ m
+  pub by : actors_then l m.actors ≡ Err refusal
+  pub answer : a ≡ Err (troubles.Refused refusal)
+  pub next : n ≡ m
 
 by_row : (l : Leaving) (m : Machine) (a : Answer) (n : Machine) → answered_so m (actors_then l m.actors) ≡ record { answer = a; next = n } → IsDone l m a n ⊎ IsRefused l m a n
 by_row l m a n e = by (actors_then l m.actors) refl e

@@ -38,9 +38,9 @@ pub record CopiesPage (is_small : Bool) (to from : NodeName) (s : Store) (a : Ar
 
 -- So many pages were, one after the other.
 pub record CopiesPages (is_small : Bool) (from : CacheId) (from_page : ℕ) (to : CacheId) (to_page count : ℕ) (s : Store) (a : Arena) (t : Store) (b : Arena) : Type 0 where
-  rule : GoesBy (λ P put f. copy_pages is_small (page_pairs from from_page to to_page count) f) s a t b
-  kept : Releases [] s a t b
-  grows : Grows (2 * count) a b
+  pub rule : GoesBy (λ P put f. copy_pages is_small (page_pairs from from_page to to_page count) f) s a t b
+  pub kept : Releases [] s a t b
+  pub grows : Grows (2 * count) a b
 
 -- How many nodes there are
 

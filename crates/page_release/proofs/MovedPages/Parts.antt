@@ -41,9 +41,9 @@ pub record MovesPage (to from : NodeName) (s : Store) (a : Arena) (t : Store) (b
 
 -- So many pages were, one after the other.
 pub record MovesPages (from : CacheId) (from_page : ℕ) (to : CacheId) (to_page count : ℕ) (s : Store) (a : Arena) (t : Store) (b : Arena) : Type 0 where
-  rule : GoesBy (λ P put f. move_pages put.zeros (page_pairs from from_page to to_page count) f) s a t b
-  kept : Releases [] s a t b
-  grows : Grows count a b
+  pub rule : GoesBy (λ P put f. move_pages put.zeros (page_pairs from from_page to to_page count) f) s a t b
+  pub kept : Releases [] s a t b
+  pub grows : Grows count a b
 
 -- How many nodes there are
 

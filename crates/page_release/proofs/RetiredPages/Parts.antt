@@ -36,10 +36,10 @@ pub record RetiresPage (x : NodeName) (s : Store) (a : Arena) (t : Store) (b : A
 
 -- So many pages were, one after the other.
 pub record RetiresPages (cache : CacheId) (page count : ℕ) (s : Store) (a : Arena) (t : Store) (b : Arena) : Type 0 where
-  rule : GoesBy (λ P put f. retire_all (page_names cache page count) f) s a t b
-  kept : Releases [] s a t b
-  room : a.room.nodes ≤ b.room.nodes
-  fewer : length (own_states b) ≤ length (own_states a)
+  pub rule : GoesBy (λ P put f. retire_all (page_names cache page count) f) s a t b
+  pub kept : Releases [] s a t b
+  pub room : a.room.nodes ≤ b.room.nodes
+  pub fewer : length (own_states b) ≤ length (own_states a)
 
 -- Parts of a range
 

@@ -51,7 +51,7 @@ of_cache n (Some c) x i =
 pub record IsPageFrom (n : ℕ) (x : NodeName) : Type 0 where
   pub number : ℕ
   pub from : n ≤ number
-  is : IsPageOf number x
+  pub is : IsPageOf number x
 
 firsts_append : (xs ys : List (NodeName × Option Page)) → firsts (xs ++ ys) ≡ firsts xs ++ firsts ys
 firsts_append xs ys = map-append (λ e. e.0) xs ys
