@@ -46,4 +46,4 @@ step_with h told now s next u v command a rises is is_next leads = record {
 
 -- What is told of a mapper
 pub told_holds : (told : Option Held) (h : Segments) (seg : ℕ) (pages : List Page) → segments_of told ≡ Some h → HoldsIn (segments_of told) seg (Some pages) → get h.pages seg ≡ Some pages
-pub told_holds told h seg pages e holds = subst (λ (o : Option Segments). HoldsIn o seg (Some pages)) e holds
+told_holds told h seg pages e holds = subst (λ (o : Option Segments). HoldsIn o seg (Some pages)) e holds

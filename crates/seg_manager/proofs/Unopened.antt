@@ -79,11 +79,11 @@ unfolding open_of
 nowhere_row r seg number e f = ap (open_by r seg number) e ∙ ap (open_anew r seg number) f
 
 pub goes_on_by : (r : ReferenceMachine) (seg : SegId) (number : ℕ) (at : FaultAt) → number_in 1 r.memory.caches seg.0 ≡ None → (o : Option (List Page)) → r.stored seg.0 ≡ o → GoesOn at (commands.Plain (OpenSegment seg)) (open_of r seg.0 number).answer
-pub goes_on_by r seg number at e None f = subst (λ (x : Answered). GoesOn at (commands.Plain (OpenSegment seg)) x.answer) (sym (nowhere_row r seg.0 number e f)) (nothing at)
+goes_on_by r seg number at e None f = subst (λ (x : Answered). GoesOn at (commands.Plain (OpenSegment seg)) x.answer) (sym (nowhere_row r seg.0 number e f)) (nothing at)
   where
     nothing : (at : FaultAt) → GoesOn at (commands.Plain (OpenSegment seg)) (Err (troubles.Refused refusals.NoSegment))
     nothing at = tt
-pub goes_on_by r seg number at e (Some pages) f = subst (λ (x : Answered). GoesOn at (commands.Plain (OpenSegment seg)) x.answer) (sym (anew_row r seg.0 number pages e f)) (something at)
+goes_on_by r seg number at e (Some pages) f = subst (λ (x : Answered). GoesOn at (commands.Plain (OpenSegment seg)) x.answer) (sym (anew_row r seg.0 number pages e f)) (something at)
   where
     something : (at : FaultAt) → GoesOn at (commands.Plain (OpenSegment seg)) (Ok (replies.Cache (record { 0 = number })))
     something at = tt
@@ -130,7 +130,7 @@ seen_opened None None m n cs ks room rs t seg anew pages d of number one f next 
   y ∙ ap (λ (z : Machine). references_seen z None (cs ++ d ∷ [])) next
       ∙ seen_untold m cs ks room rs seg (sym anew) pages d of number one t (sym next ∙ bare_then ∙ ap blank next),
 )
-pub seen_opened None (Some u) m n cs ks room rs t seg anew pages d of number one f next bare bare_then before after x y = absurd (let wrong : Some u ≡ None = f.none refl in cc wrong)
+seen_opened None (Some u) m n cs ks room rs t seg anew pages d of number one f next bare bare_then before after x y = absurd (let wrong : Some u ≡ None = f.none refl in cc wrong)
 seen_opened (Some s) None m n cs ks room rs t seg anew pages d of number one f next bare bare_then before after x y = absurd (let u = f.some s refl in cc u.1)
 seen_opened (Some s) (Some u) m n cs ks room rs t seg anew pages d of number one f next bare bare_then before after x y =
     let v = f.some s refl in
