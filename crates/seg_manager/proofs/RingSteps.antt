@@ -67,18 +67,18 @@ module _ (l m : Linked) (p q : Option CacheId) (links : (n : ℕ) → link_of m 
       ap (option_and_then (λ (x : Link). x.before)) (links d.0) ∙ changed_same (option_and_then (λ (x : Link). x.before)) (with_after q) (λ x. refl) p d.0 (link_of l d.0)
 
   pub a_kept : (n : ℕ) → kept_of m n ≡ kept_of l n
-  pub a_kept n = ap (option_map (λ (x : Link). x.kept)) (links n) ∙ changed_same (option_map (λ (x : Link). x.kept)) (with_after q) (λ x. refl) p n (link_of l n)
+  a_kept n = ap (option_map (λ (x : Link). x.kept)) (links n) ∙ changed_same (option_map (λ (x : Link). x.kept)) (with_after q) (λ x. refl) p n (link_of l n)
 
   pub a_found : (n : ℕ) → is_some (link_of m n) ≡ is_some (link_of l n)
   a_found n = ap is_some (links n) ∙ changed_same is_some (with_after q) (λ x. refl) p n (link_of l n)
 
   pub a_other : (s : Option CacheId) → s ≢ p → after_of m s ≡ after_of l s
   a_other None apart = first ∙ end_other p q l.first apart
-  pub a_other (Some d) apart = ap (option_and_then (λ (x : Link). x.after)) (links d.0 ∙ changed_other (with_after q) p d (link_of l d.0) apart)
+  a_other (Some d) apart = ap (option_and_then (λ (x : Link). x.after)) (links d.0 ∙ changed_other (with_after q) p d (link_of l d.0) apart)
 
   pub a_here : (s : Option CacheId) → s ≡ p → IsThere l s → after_of m s ≡ q
-  pub a_here None e there = first ∙ ap (λ (x : Option CacheId). end_set x q l.first) (sym e)
-  pub a_here (Some d) e there = ap (option_and_then (λ (x : Link). x.after)) (links d.0 ∙ changed_here (with_after q) p d (link_of l d.0) e) ∙ by (link_of l d.0) there
+  a_here None e there = first ∙ ap (λ (x : Option CacheId). end_set x q l.first) (sym e)
+  a_here (Some d) e there = ap (option_and_then (λ (x : Link). x.after)) (links d.0 ∙ changed_here (with_after q) p d (link_of l d.0) e) ∙ by (link_of l d.0) there
     where
       by : (o : Option Link) → is_some o ≡ true → option_and_then (λ (x : Link). x.after) (option_map (with_after q) o) ≡ q
       by None e = absurd (cc e)
@@ -92,18 +92,18 @@ module _ (l m : Linked) (p q : Option CacheId) (links : (n : ℕ) → link_of m 
       ap (option_and_then (λ (x : Link). x.after)) (links d.0) ∙ changed_same (option_and_then (λ (x : Link). x.after)) (with_before q) (λ x. refl) p d.0 (link_of l d.0)
 
   pub b_kept : (n : ℕ) → kept_of m n ≡ kept_of l n
-  pub b_kept n = ap (option_map (λ (x : Link). x.kept)) (links n) ∙ changed_same (option_map (λ (x : Link). x.kept)) (with_before q) (λ x. refl) p n (link_of l n)
+  b_kept n = ap (option_map (λ (x : Link). x.kept)) (links n) ∙ changed_same (option_map (λ (x : Link). x.kept)) (with_before q) (λ x. refl) p n (link_of l n)
 
   pub b_found : (n : ℕ) → is_some (link_of m n) ≡ is_some (link_of l n)
   b_found n = ap is_some (links n) ∙ changed_same is_some (with_before q) (λ x. refl) p n (link_of l n)
 
   pub b_other : (s : Option CacheId) → s ≢ p → before_of m s ≡ before_of l s
   b_other None apart = last ∙ end_other p q l.last apart
-  pub b_other (Some d) apart = ap (option_and_then (λ (x : Link). x.before)) (links d.0 ∙ changed_other (with_before q) p d (link_of l d.0) apart)
+  b_other (Some d) apart = ap (option_and_then (λ (x : Link). x.before)) (links d.0 ∙ changed_other (with_before q) p d (link_of l d.0) apart)
 
   pub b_here : (s : Option CacheId) → s ≡ p → IsThere l s → before_of m s ≡ q
-  pub b_here None e there = last ∙ ap (λ (x : Option CacheId). end_set x q l.last) (sym e)
-  pub b_here (Some d) e there = ap (option_and_then (λ (x : Link). x.before)) (links d.0 ∙ changed_here (with_before q) p d (link_of l d.0) e) ∙ by (link_of l d.0) there
+  b_here None e there = last ∙ ap (λ (x : Option CacheId). end_set x q l.last) (sym e)
+  b_here (Some d) e there = ap (option_and_then (λ (x : Link). x.before)) (links d.0 ∙ changed_here (with_before q) p d (link_of l d.0) e) ∙ by (link_of l d.0) there
     where
       by : (o : Option Link) → is_some o ≡ true → option_and_then (λ (x : Link). x.before) (option_map (with_before q) o) ≡ q
       by None e = absurd (cc e)
@@ -112,18 +112,18 @@ module _ (l m : Linked) (p q : Option CacheId) (links : (n : ℕ) → link_of m 
 -- the link of one cache is another one, or none
 module _ (l m : Linked) (c : CacheId) (o : Option Link) (links : (n : ℕ) → link_of m n ≡ cond (c.0 == n) o (link_of l n)) (first : m.first ≡ l.first) (last : m.last ≡ l.last) where
   pub link_other : (n : ℕ) → c.0 ≢ n → link_of m n ≡ link_of l n
-  pub link_other n apart = links n ∙ ap (λ (b : Bool). cond b o (link_of l n)) (ne_eqb c.0 n apart)
+  link_other n apart = links n ∙ ap (λ (b : Bool). cond b o (link_of l n)) (ne_eqb c.0 n apart)
 
   pub link_here : link_of m c.0 ≡ o
-  pub link_here = links c.0 ∙ ap (λ (b : Bool). cond b o (link_of l c.0)) (eq-eqb c.0 c.0 refl)
+  link_here = links c.0 ∙ ap (λ (b : Bool). cond b o (link_of l c.0)) (eq-eqb c.0 c.0 refl)
 
   pub after_off : (s : Option CacheId) → s ≢ Some c → after_of m s ≡ after_of l s
   after_off None apart = first
-  pub after_off (Some d) apart = ap (option_and_then (λ (x : Link). x.after)) (link_other d.0 (named_apart c d apart))
+  after_off (Some d) apart = ap (option_and_then (λ (x : Link). x.after)) (link_other d.0 (named_apart c d apart))
 
   pub before_off : (s : Option CacheId) → s ≢ Some c → before_of m s ≡ before_of l s
   before_off None apart = last
-  pub before_off (Some d) apart = ap (option_and_then (λ (x : Link). x.before)) (link_other d.0 (named_apart c d apart))
+  before_off (Some d) apart = ap (option_and_then (λ (x : Link). x.before)) (link_other d.0 (named_apart c d apart))
 
   pub there_off : (s : Option CacheId) → s ≢ Some c → IsThere l s → IsThere m s
   there_off s apart = there_by l m s (λ d is. ap is_some (link_other d.0 (named_apart c d (λ e. apart (is ∙ e)))))
