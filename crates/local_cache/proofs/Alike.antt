@@ -1,30 +1,23 @@
 -- Nodes that a run says.
-use Rattle.std.proofs.Common.{◌≡◌, ℕ, zero, suc, ◌+◌, ◌-◌, ◌<◌, ◌≤◌, ◌^◌, true, false, Bool, map as list_map, Option, Some, None, IsSome, refl, sym, ap, subst, ◌∙◌, inl, inr, arith}
-use Rattle.std.specs.Prelude.{IfSome, is_some, option_map, slice_get, unwrap_or}
-use Rattle.std.proofs.lemmas.Bool.{cases_eq}
-use Rattle.std.proofs.lemmas.Option.{slice_get-map}
+use Rattle.std.proofs.Common.{◌≡◌, ℕ, zero, suc, ◌+◌, ◌-◌, ◌<◌, ◌≤◌, ◌^◌, true, Option, Some, None, IsSome, refl, sym, ap, subst, ◌∙◌, arith}
+use Rattle.std.specs.Prelude.{IfSome, is_some, option_map}
 use Rattle.std.specs.FinMap as map
-use Rattle.stretches.specs.Stretch.{is_in}
 use Rattle.stretches.specs.declared.stretch.Stretch.{Stretch}
 use Rattle.stretches.proofs.Reading.Numbers.{within}
-use Rattle.mixed_map.specs.Mixed.{IsStretchFrom, Tells}
+use Rattle.mixed_map.specs.Mixed.{Tells}
 use Rattle.vm_ids.specs.declared.node_name.NodeName.{NodeName}
 use Rattle.vm_ids.specs.declared.node_name.NodeName.TheVariants.{Live, Working as WorkingNode}
 use Rattle.vm_ids.specs.declared.numbers.NodeId.{NodeId}
-use Rattle.local_cache.specs.Arena.{Cell, blank}
+use Rattle.local_cache.specs.Arena.{Cell}
 use Rattle.local_cache.specs.GoingOn.{run_goes_on}
-use Rattle.local_cache.specs.Looking.{AreAllMembers, IsMember}
 use Rattle.local_cache.specs.ManyNodes.{next_if}
-use Rattle.local_cache.specs.NodeCells.{Cells, cell_at, is_page, run_cell}
+use Rattle.local_cache.specs.NodeCells.{Cells, is_page, run_cell}
 use Rattle.local_cache.specs.NodeTable.{AreSaidAlike, AreSaidBy, HasNumber, IsSayable, IsStandingAs, Table}
 use Rattle.local_cache.specs.PageNodes.{name_behind}
-use Rattle.local_cache.specs.Runs.{HasNames, further, further_if, run, run_after}
-use Rattle.local_cache.specs.declared.runs.looking.Member.{Member}
+use Rattle.local_cache.specs.Runs.{run, run_after}
 use Rattle.local_cache.specs.declared.runs.run.PlainState.TheVariants.{Absent}
 use Rattle.local_cache.specs.declared.runs.run.Run.{Run}
-use Rattle.local_cache.specs.declared.runs.run.RunName.{RunName}
-use Rattle.local_cache.specs.declared.runs.run.RunName.TheVariants.{Pages, Working}
-use Rattle.local_cache.proofs.RunAfter.{further_next_if, run_cell_after}
+use Rattle.local_cache.specs.declared.runs.run.RunName.TheVariants.{Working}
 
 number_below : (o : Option NodeId) (j k : ℕ) → j < k → IfSome o (λ n. n.0 + k ≤ 2 ^ 64) → HasNumber o j
 number_below None j k less h = h

@@ -1,6 +1,6 @@
 -- Nodes of pages under each other's names.
-use Rattle.std.proofs.Common.{◌≡◌, ◌≢◌, ℕ, zero, suc, ◌+◌, ◌-◌, ◌<◌, ◌≤◌, Option, Some, None, IsSome, refl, sym, ap, subst, ◌∙◌, inl, inr, arith}
-use Rattle.std.specs.Prelude.{◌↔◌, is_some, option_and_then, unwrap_or}
+use Rattle.std.proofs.Common.{◌≡◌, ◌≢◌, ℕ, zero, suc, ◌+◌, ◌<◌, ◌≤◌, Option, Some, IsSome, refl, sym, ap, subst, ◌∙◌, inl, inr, arith}
+use Rattle.std.specs.Prelude.{is_some, option_and_then, unwrap_or}
 use Rattle.std.proofs.lemmas.Bool.{cases_eq}
 use Rattle.std.proofs.lemmas.Option.{none-some, same_Some}
 use Rattle.std.specs.Ordering.{nat_cmp}
@@ -22,7 +22,7 @@ use Rattle.local_cache.specs.Pages.{HaveNodes as HavePages, Pages, pages_from, w
 use Rattle.local_cache.specs.declared.runs.counters.Counters.{Counters}
 use Rattle.local_cache.proofs.NodesKept.{numbered_less}
 use Rattle.local_cache.proofs.PagesKept.{key_there, same_node}
-use Rattle.local_cache.proofs.Stretched.{changed_here, changed_other, each_behind, each_before}
+use Rattle.local_cache.proofs.Stretched.{changed_here, changed_other, each_behind}
 
 -- What is done at different numbers can be done in either order
 

@@ -1,11 +1,11 @@
 -- Nodes of pages in a row, piece by piece.
 use Rattle.std.proofs.Common.{◌≡◌, ℕ, ◌+◌, ◌-◌, ◌<◌, ◌≤◌, false, Option, Some, None, refl, sym, ap, subst, ◌∙◌, inl, inr, arith}
-use Rattle.std.specs.Prelude.{slice_get, is_some}
+use Rattle.std.specs.Prelude.{slice_get}
 use Rattle.std.proofs.lemmas.Bool.{cases_lt}
 use Rattle.vm_ids.specs.declared.node_name.NodeName.{NodeName}
 use Rattle.vm_ids.specs.declared.node_name.NodeName.TheVariants.{Live, Working}
 use Rattle.vm_ids.specs.declared.numbers.NodeId.{NodeId}
-use Rattle.local_cache.specs.Looking.{AreAllMembers, IsInRow, IsMember}
+use Rattle.local_cache.specs.Looking.{AreAllMembers, IsInRow}
 use Rattle.local_cache.specs.ManyNodes.{next_if}
 use Rattle.local_cache.specs.NodeCells.{Cells, HasCell, cell_at}
 use Rattle.local_cache.specs.PageNodes.{name_behind}

@@ -1,6 +1,6 @@
 -- The first nodes of the pages of a cache, made as one run under the numbers of the pages.
-use Rattle.std.proofs.Common.{◌≡◌, ◌≢◌, ℕ, zero, suc, ◌+◌, ◌-◌, ◌*◌, ◌^◌, ◌<◌, ◌≤◌, true, false, cond, [], Option, Some, None, refl, sym, ap, subst, ◌∙◌, inl, inr, arith}
-use Rattle.std.specs.Prelude.{◌↔◌, is_some, option_and_then}
+use Rattle.std.proofs.Common.{◌≡◌, ℕ, zero, suc, ◌+◌, ◌-◌, ◌^◌, ◌<◌, true, false, cond, Some, None, sym, ap, ◌∙◌, inl, inr, arith}
+use Rattle.std.specs.Prelude.{is_some, option_and_then}
 use Rattle.std.proofs.lemmas.Bool.{cases_Bool, cond-true, cond-false, false≢true}
 use Rattle.std.proofs.lemmas.Option.{none-some, same_Some}
 use Rattle.std.specs.FinMap as map
@@ -12,12 +12,10 @@ use Rattle.mixed_map.specs.Mixed.{with_first, with_stretch}
 use Rattle.mixed_map.proofs.Telling.{get_with}
 use Rattle.vm_ids.specs.declared.node_name.NodeName.TheVariants.{Live}
 use Rattle.vm_ids.specs.declared.numbers.CacheId.{CacheId}
-use Rattle.vm_ids.specs.declared.numbers.NodeId.{NodeId}
-use Rattle.local_cache.specs.Arena.{Cell, new_cell, no_links}
+use Rattle.local_cache.specs.Arena.{Cell, new_cell}
 use Rattle.local_cache.specs.NodeCells.{Cells, run_cell}
 use Rattle.local_cache.specs.NodeKeys.{key_at, page_key, page_number, working_number}
 use Rattle.local_cache.specs.NodeRuns.{AreNumbered}
-use Rattle.local_cache.specs.NodeTable.{HasFreeNumber, HaveFreeNumbers}
 use Rattle.local_cache.specs.PageNodes.{ArePaged, PageNodes, made_first, with_new}
 use Rattle.local_cache.specs.Pages.{Pages, pages_from}
 use Rattle.local_cache.specs.Runs.{run, run_after}

@@ -1,6 +1,6 @@
 -- Nodes that come, and working names that are given: they are free before.
-use Rattle.std.proofs.Common.{◌≡◌, ◌≢◌, ℕ, zero, suc, ◌+◌, ◌-◌, ◌*◌, ◌^◌, ◌<◌, ◌≤◌, true, false, Option, Some, None, IsSome, refl, sym, ap, subst, ◌∙◌, inl, inr, arith}
-use Rattle.std.specs.Prelude.{◌↔◌, ◌⊎◌, is_some, option_and_then, option_map}
+use Rattle.std.proofs.Common.{◌≡◌, ◌≢◌, ℕ, zero, suc, ◌+◌, ◌-◌, ◌*◌, ◌^◌, ◌<◌, ◌≤◌, true, false, Some, None, refl, sym, ap, subst, ◌∙◌, inl, inr, arith}
+use Rattle.std.specs.Prelude.{◌⊎◌, is_some, option_and_then, option_map}
 use Rattle.std.proofs.lemmas.Bool.{cases_Bool, cases_eq, cond-true, cond-false, false≢true}
 use Rattle.std.proofs.lemmas.Option.{none-some, same_Some}
 use Rattle.std.specs.FinMap as map
@@ -27,7 +27,7 @@ use Rattle.local_cache.specs.declared.runs.run.Run.{Run}
 use Rattle.local_cache.proofs.NodesKept.{given_on, next_or_old, numbered_less, numbered_renamed}
 use Rattle.local_cache.proofs.PagesKept.{page_gone, paged_come, paged_working}
 use Rattle.local_cache.proofs.Stretched.{changed_other}
-use Rattle.local_cache.proofs.TableRight.{is_free, run_working}
+use Rattle.local_cache.proofs.TableRight.Numbers.{is_free, run_working}
 
 -- a name is not both a page's and a working one
 no_page : (x : NodeName) (k : ℕ) → number_of_name x ≡ Some k → page_of_name x ≡ None

@@ -1,6 +1,6 @@
 -- What holds of nodes, pages and counters, where nodes change and keep their names.
-use Rattle.std.proofs.Common.{◌≡◌, ◌≢◌, ℕ, zero, suc, ◌+◌, ◌-◌, ◌*◌, ◌^◌, ◌<◌, ◌≤◌, Option, Some, None, IsSome, refl, sym, ap, subst, ◌∙◌, inl, inr, arith}
-use Rattle.std.specs.Prelude.{◌↔◌, ◌⊎◌, IfSome, is_some, option_and_then, option_map, unwrap_or}
+use Rattle.std.proofs.Common.{◌≡◌, ℕ, zero, suc, ◌+◌, ◌-◌, ◌*◌, ◌^◌, ◌<◌, ◌≤◌, Option, Some, None, IsSome, refl, sym, ap, subst, ◌∙◌, inl, inr, arith}
+use Rattle.std.specs.Prelude.{◌⊎◌, IfSome, is_some, option_and_then, option_map, unwrap_or}
 use Rattle.std.proofs.lemmas.Bool.{cases_eq, cases_lt, false≢true}
 use Rattle.std.proofs.lemmas.Option.{none-some, same_Some}
 use Rattle.std.specs.Ordering.{nat_cmp}
@@ -22,7 +22,7 @@ use Rattle.local_cache.specs.declared.runs.page_table.PageTable.{PageTable}
 use Rattle.local_cache.proofs.NodeCells.{len_into}
 use Rattle.local_cache.proofs.Singles.{len_insert_old}
 use Rattle.local_cache.proofs.Stretched.{changed_here, changed_other, each_at, each_before, each_behind}
-use Rattle.local_cache.proofs.TableRight.{has_key, is_free}
+use Rattle.local_cache.proofs.TableRight.Numbers.{has_key, is_free}
 
 abbrev pub name_of : Option Cell → Option NodeName
 name_of o = option_map (λ (c : Cell). c.name) o

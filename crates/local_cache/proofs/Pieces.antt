@@ -1,5 +1,5 @@
 -- Many nodes changed piece by piece.
-use Rattle.std.proofs.Common.{◌≡◌, ◌≢◌, ℕ, ◌+◌, ◌-◌, ◌<◌, ◌≤◌, true, false, cond, Option, Some, None, refl, sym, ap, subst, ◌∙◌, inl, inr, arith}
+use Rattle.std.proofs.Common.{◌≡◌, ◌≢◌, ℕ, ◌+◌, ◌-◌, ◌<◌, ◌≤◌, false, Option, Some, sym, ap, subst, ◌∙◌, inl, inr, arith}
 use Rattle.std.specs.Prelude.{◌⊎◌, option_and_then, unwrap_or}
 use Rattle.std.proofs.lemmas.Bool.{cases_lt, cond-true, cond-false, false≢true}
 use Rattle.std.specs.FinMap as map
@@ -11,12 +11,13 @@ use Rattle.mixed_map.proofs.Maps.{remove_other}
 use Rattle.mixed_map.proofs.Telling.{get_with}
 use Rattle.local_cache.specs.Arena.{Cell, blank}
 use Rattle.local_cache.specs.NodeCells.{Cells, cell_at, changed_each, run_cell}
-use Rattle.local_cache.specs.NodeKeys.{key_at, working_number}
+use Rattle.local_cache.specs.NodeKeys.{working_number}
 use Rattle.local_cache.specs.NodeTable.{AreFreeNumbers, HasFreeNumber, HaveFreeNumbers}
 use Rattle.local_cache.specs.Runs.{run, run_after}
 use Rattle.local_cache.specs.declared.runs.run.Run.{Run}
 use Rattle.local_cache.proofs.Stretched.{each_before, each_behind, each_is, each_like, each_on}
-use Rattle.local_cache.proofs.TableRight.{free_at, is_free, left_number}
+use Rattle.local_cache.proofs.TableRight.Numbers.{free_at, is_free}
+use Rattle.local_cache.proofs.TableRight.Together.{left_number}
 
 -- a number outside of a stretch is before it or behind it
 pub out_cases : (r : Stretch Run) (n : ℕ) → is_in r n ≡ false → (n < r.first) ⊎ (r.first + r.count ≤ n)

@@ -1,7 +1,7 @@
 -- Maps with the entries of all numbers of a stretch, and maps changed at each of many numbers.
 use Rattle.std.proofs.Common.{◌≡◌, ◌≢◌, ℕ, zero, suc, ◌+◌, ◌-◌, ◌<◌, ◌≤◌, Bool, true, false, cond, Option, Some, None, IsSome, refl, sym, ap, ◌∙◌, inl, inr, arith}
 use Rattle.std.specs.Prelude.{is_some, unwrap_or}
-use Rattle.std.proofs.lemmas.Bool.{cases_Bool, cases_eq, cases_lt, cond-true, cond-false}
+use Rattle.std.proofs.lemmas.Bool.{cases_eq, cases_lt, cond-true, cond-false}
 use Rattle.std.specs.Ordering.{nat_cmp}
 use Rattle.std.specs.FinMap.{FinMap}
 use Rattle.std.specs.FinMap as map
@@ -13,7 +13,7 @@ use Rattle.mixed_map.proofs.Maps.{insert_other, insert_same, remove_other, same}
 use Rattle.mixed_map.proofs.Telling.{get_with, gone}
 use Rattle.local_cache.specs.Arena.{Cell, blank}
 use Rattle.local_cache.specs.ManyNodes.{each}
-use Rattle.local_cache.specs.NodeCells.{Cells, HasCell, cell_at, changed, changed_each}
+use Rattle.local_cache.specs.NodeCells.{Cells, cell_at, changed, changed_each}
 use Rattle.local_cache.proofs.Each.{each_more, each_same}
 use Rattle.local_cache.proofs.Singles.{len_insert_new, len_insert_old}
 

@@ -1,8 +1,8 @@
 -- The thin node with the least number, and the lists in which thin nodes stand.
-use Rattle.std.proofs.Common.{◌≡◌, ℕ, ◌+◌, ◌-◌, ◌<◌, ◌≤◌, Bool, true, false, cond, ltb, List, [], ◌∷◌, length, Option, Some, None, refl, sym, ap, subst, ◌∙◌, inl, inr, arith}
+use Rattle.std.proofs.Common.{◌≡◌, ℕ, ◌+◌, ◌-◌, ◌<◌, ◌≤◌, List, [], ◌∷◌, length, Option, Some, None, refl, sym, ap, subst, ◌∙◌, inl, inr, arith}
 use Rattle.std.specs.Prelude.{IfSome, MatchOption, option_map}
 use Rattle.std.proofs.lemmas.Bool.{cases_lt, cond-true, cond-false, lt-ltb, le-ltb}
-use Rattle.std.proofs.lemmas.Option.{none-some, same_Some}
+use Rattle.std.proofs.lemmas.Option.{none-some}
 use Rattle.std.specs.Ordering.{nat_cmp}
 use Rattle.std.specs.FinMap.{FinMap, get-empty}
 use Rattle.std.specs.FinMap as map
@@ -19,10 +19,8 @@ use Rattle.local_cache.specs.NodeCells.{run_cell}
 use Rattle.local_cache.specs.Runs.{run_after}
 use Rattle.local_cache.specs.Thin.{thin_number}
 use Rattle.local_cache.specs.ThinNodes.{HasNone, IsFirst, IsFirstOf, Thin, lesser_of}
-use Rattle.local_cache.specs.ThinNodes as thin
 use Rattle.local_cache.specs.declared.runs.run.Run.{Run}
 use Rattle.local_cache.specs.declared.runs.thin_nodes.FirstThin.{FirstThin}
-use Rattle.local_cache.specs.declared.runs.thin_nodes.FirstThin.TheVariants.{Alone, Among}
 use Rattle.local_cache.proofs.Singles.{same_maps}
 use Rattle.local_cache.proofs.Thinness.{run_thin}
 

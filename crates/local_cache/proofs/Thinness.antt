@@ -1,32 +1,29 @@
 -- The thin nodes when nodes come, go or change.
-use Rattle.std.proofs.Common.{◌≡◌, ◌≢◌, ℕ, ◌+◌, ◌-◌, ◌<◌, ◌≤◌, Bool, true, false, cond, Option, Some, None, IsSome, refl, sym, ap, subst, ◌∙◌, inl, inr, arith}
-use Rattle.std.specs.Prelude.{◌↔◌, option_and_then, option_map, is_some}
+use Rattle.std.proofs.Common.{◌≡◌, ◌≢◌, ℕ, ◌+◌, ◌-◌, ◌<◌, true, false, Option, Some, None, refl, sym, ap, ◌∙◌, inl, inr, arith}
+use Rattle.std.specs.Prelude.{◌↔◌, option_and_then, option_map}
 use Rattle.std.proofs.lemmas.Bool.{cases_Bool, cases_eq, cond-true, cond-false, false≢true}
 use Rattle.std.proofs.lemmas.Option.{none-some, same_Some}
 use Rattle.std.specs.Ordering.{nat_cmp}
 use Rattle.std.specs.FinMap.{FinMap}
 use Rattle.std.specs.FinMap as map
 use Rattle.stretches.specs.Rising.{rising}
-use Rattle.stretches.specs.Stretch.{is_in, value_at}
+use Rattle.stretches.specs.Stretch.{is_in}
 use Rattle.stretches.specs.declared.rising.Rising.{Rising}
 use Rattle.stretches.specs.declared.stretch.Stretch.{Stretch}
 use Rattle.stretches.proofs.Reading.Numbers.{high, low, within}
 use Rattle.mixed_map.specs.Mixed.{Tells, with_stretch, without_stretch}
 use Rattle.mixed_map.proofs.Maps.{insert_other, insert_removed, insert_same, remove_other, remove_same, same}
 use Rattle.mixed_map.proofs.Telling.{get_with, gone}
-use Rattle.local_cache.specs.Arena.{Cell}
 use Rattle.local_cache.specs.declared.runs.run.PlainState.{PlainState}
 use Rattle.local_cache.specs.declared.runs.run.Run.{Run}
 use Rattle.local_cache.specs.declared.runs.run.RunName.{RunName}
 use Rattle.local_cache.specs.declared.runs.run.RunName.TheVariants.{Pages, Working}
-use Rattle.local_cache.specs.NodeCells.{Cells, run_cell, tree_of}
-use Rattle.local_cache.specs.NodeKeys.{key_at, working_number}
-use Rattle.local_cache.specs.NodeTable.{AreNumbersApart, AreThinKept, IsThin}
-use Rattle.local_cache.specs.Runs.{first_name, further_if, name_after, run, run_after}
-use Rattle.local_cache.specs.Thin.{number_if, thin_number}
+use Rattle.local_cache.specs.NodeCells.{Cells, run_cell}
+use Rattle.local_cache.specs.NodeKeys.{key_at}
+use Rattle.local_cache.specs.NodeTable.{AreThinKept, IsThin}
+use Rattle.local_cache.specs.Runs.{run, run_after}
+use Rattle.local_cache.specs.Thin.{thin_number}
 use Rattle.local_cache.specs.ThinNodes.{Thin, changed_to, with_run, without_run}
-use Rattle.vm_ids.specs.declared.node_name.NodeName.{NodeName}
-use Rattle.vm_ids.specs.declared.node_name.NodeName.TheVariants.{Live, Working as WorkingNode}
 use Rattle.vm_ids.specs.declared.numbers.NodeId.{NodeId}
 
 -- The number at a slot

@@ -1,7 +1,7 @@
 -- The way up from a node to its owner.
-use Rattle.std.proofs.Common.{◌≡◌, ℕ, zero, suc, ◌+◌, ◌-◌, ◌<◌, ◌≤◌, Bool, true, false, cond, Option, Some, None, IsSome, refl, sym, ap, subst, ◌∙◌, inl, inr, arith}
+use Rattle.std.proofs.Common.{◌≡◌, ℕ, zero, suc, ◌-◌, ◌<◌, ◌≤◌, Bool, true, false, cond, Option, Some, None, IsSome, refl, sym, ap, subst, ◌∙◌, inl, inr, arith}
 use Rattle.std.specs.Prelude.{is_some, option_and_then, option_map, unwrap_or}
-use Rattle.std.proofs.lemmas.Bool.{cases_Bool, cases_lt, cond-true, cond-false, false≢true}
+use Rattle.std.proofs.lemmas.Bool.{cases_Bool, cond-true, cond-false, false≢true}
 use Rattle.std.proofs.lemmas.Option.{none-some, same_Some}
 use Rattle.std.specs.FinMap as map
 use Rattle.stretches.specs.Stretch.{is_in}
@@ -12,7 +12,7 @@ use Rattle.vm_ids.specs.declared.numbers.NodeId.{NodeId}
 use Rattle.local_cache.specs.Looking.{IsFurtherUp, IsOwner, up}
 use Rattle.local_cache.specs.Arena.{Cell, blank}
 use Rattle.local_cache.specs.GoingOn.{run_goes_on}
-use Rattle.local_cache.specs.NodeCells.{Cells, HasCell, cell_at, run_cell}
+use Rattle.local_cache.specs.NodeCells.{Cells, cell_at, run_cell}
 use Rattle.local_cache.specs.Own.{is_absent}
 use Rattle.local_cache.specs.Runs.{run, run_after}
 use Rattle.local_cache.specs.declared.runs.run.Run.{Run}

@@ -1,14 +1,13 @@
 -- Many page nodes of the caches changed at once: as the calls for one change them, one after the
 -- other.
 use Rattle.std.specs.Prelude.{◌≡◌, ℕ, ◌+◌, ◌<◌, [], ◌∷◌, map, None, Some}
-use Rattle.vm_ids.specs.declared.command.Span.{Span}
 use Rattle.vm_ids.specs.declared.node_name.NodeName.TheVariants.{Live, Working}
 use Rattle.vm_ids.specs.declared.numbers.CacheId.{CacheId}
 use Rattle.vm_ids.specs.declared.numbers.NodeId.{NodeId}
 use Rattle.vm_ids.specs.declared.numbers.PageNo.{PageNo}
 use Rattle.local_cache.specs.declared.own_state.OwnState.{OwnState}
 use Rattle.local_cache.specs.declared.own_state.OwnState.TheVariants.{Absent, Zero, Resident, Slot, OnSegment}
-use Rattle.local_cache.specs.Arena.{Arena, Cell, HasNode, IsVacant, as_working, cell, find, hung, no_links, with_name, with_new, with_tree, with_working, without}
+use Rattle.local_cache.specs.Arena.{Arena, Cell, HasNode, as_working, cell, find, hung, no_links, with_tree, with_working, without}
 use Rattle.local_cache.specs.ManyNodes.{each, next_if, next_node}
 
 -- so many nodes from one on are there

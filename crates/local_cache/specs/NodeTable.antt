@@ -4,7 +4,7 @@ use Rattle.std.specs.FinMap.{FinMap}
 use Rattle.std.specs.FinMap as map
 use Rattle.std.specs.Ordering.{nat_cmp}
 use Rattle.stretches.specs.Stretch.{IsFit}
-use Rattle.stretches.specs.Stretches.{AreTogether, said}
+use Rattle.stretches.specs.Stretches.{AreTogether}
 use Rattle.stretches.specs.declared.stretch.Stretch.{Stretch}
 use Rattle.mixed_map.specs.Mixed.{Mixed, Tells}
 use Rattle.mixed_map.specs.Place.{IsPlace}

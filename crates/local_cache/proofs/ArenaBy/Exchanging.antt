@@ -1,8 +1,7 @@
 -- Nodes that get other names, and nodes that give way, on the arena.
-use Rattle.std.proofs.Common.{◌≡◌, ◌≢◌, ℕ, zero, suc, ◌+◌, ◌-◌, ◌<◌, ◌≤◌, ◌^◌, true, Option, Some, None, IsSome, refl, ap, sym, subst, ◌∙◌, inl, inr, arith}
+use Rattle.std.proofs.Common.{◌≡◌, ◌≢◌, ℕ, zero, suc, ◌+◌, ◌-◌, ◌<◌, ◌≤◌, ◌^◌, true, Option, Some, None, refl, ap, sym, subst, ◌∙◌, inl, inr, arith}
 use Rattle.std.specs.Prelude.{IfSome, MatchOption, is_some, unwrap_or}
 use Rattle.std.proofs.lemmas.Bool.{cases_eq, false≢true}
-use Rattle.std.proofs.lemmas.Option.{none-some, same_Some}
 use Rattle.std.specs.FinMap as ids
 use Rattle.vm_ids.specs.declared.node_name.NodeName.{NodeName}
 use Rattle.vm_ids.specs.declared.node_name.NodeName.TheVariants.{Live, Working}
@@ -12,16 +11,16 @@ use Rattle.vm_ids.specs.declared.numbers.PageNo.{PageNo}
 use Rattle.local_cache.specs.declared.own_state.OwnState.{OwnState}
 use Rattle.local_cache.specs.Arena.{Arena, Cell, NodesStay, blank}
 use Rattle.local_cache.specs.Arena as arena
-use Rattle.local_cache.specs.ArenaBy.{CacheRow, CacheRows, arena_by}
+use Rattle.local_cache.specs.ArenaBy.{CacheRows, arena_by}
 use Rattle.local_cache.specs.Many.{AreNamed}
 use Rattle.local_cache.specs.ManyNodes.{next_node}
 use Rattle.local_cache.specs.NodeCells.{Cells, HasCell, changed, inheriting, is_page, named, renewed, with_child}
-use Rattle.local_cache.specs.NodeKeys.{key_at, page_key, page_number, page_of_name}
+use Rattle.local_cache.specs.NodeKeys.{page_number, page_of_name}
 use Rattle.local_cache.specs.OnCells as on
 use Rattle.local_cache.specs.PageNodes.{AreApart, AreNamedFrom, ArePaged, HasNode, HaveNodes, PageNodes, as_working, cell, exchanged_many, exchanged_names, find, given_way, with_new}
 use Rattle.local_cache.specs.PageNodes as nodes
 use Rattle.local_cache.specs.Pages.{Pages, with_pages}
-use Rattle.local_cache.specs.Placed.{ArePlaced, AreRight, HasRow, IsNameOfPage, IsShort}
+use Rattle.local_cache.specs.Placed.{ArePlaced, AreRight, HasRow, IsNameOfPage}
 use Rattle.local_cache.proofs.ArenaBy.Calls.{StandFor, freed, leaf_changed, one_more}
 use Rattle.local_cache.proofs.ArenaBy.Nodes.{cut_by, exchanged_by, on_cell_by, page_come, replaced_by}
 use Rattle.local_cache.proofs.ArenaBy.Placed.{kept_as_working, kept_names, kept_new, named_short, placed_name}

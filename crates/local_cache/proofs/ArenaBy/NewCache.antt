@@ -1,5 +1,5 @@
 -- A cache is made, on the arena.
-use Rattle.std.proofs.Common.{◌≡◌, ◌≢◌, ℕ, zero, suc, get_or, ◌+◌, ◌-◌, ◌*◌, ◌<◌, ◌≤◌, ◌^◌, false, replicate, List, [], ◌∷◌, ◌++◌, length, map, Option, Some, None, option_map, refl, ap, sym, subst, ◌∙◌, inl, inr, arith}
+use Rattle.std.proofs.Common.{◌≡◌, ◌≢◌, ℕ, zero, suc, get_or, ◌+◌, ◌-◌, ◌<◌, ◌≤◌, ◌^◌, false, replicate, List, [], ◌∷◌, ◌++◌, length, map, Option, Some, None, option_map, refl, ap, sym, subst, ◌∙◌, inl, inr, arith}
 use Rattle.std.proofs.lemmas.Bool.{cases_eq}
 use Rattle.std.proofs.lemmas.Option.{none-some}
 use Rattle.std.specs.FinMap as ids
@@ -9,8 +9,7 @@ use Rattle.vm_ids.specs.declared.numbers.NodeId.{NodeId}
 use Rattle.vm_ids.specs.declared.numbers.SegId.{SegId}
 use Rattle.local_cache.specs.declared.own_state.OwnState.{OwnState}
 use Rattle.local_cache.specs.Arena.{IsFilled, MakesCache, entry_for, new_cell, new_table}
-use Rattle.local_cache.specs.ArenaBy.{CacheRow, CacheRows, arena_by, entries_by, entry_under, table_by, tables_by}
-use Rattle.local_cache.specs.NodeCells.{Cells}
+use Rattle.local_cache.specs.ArenaBy.{CacheRow, CacheRows, arena_by, entries_by, table_by, tables_by}
 use Rattle.local_cache.specs.NodeKeys.{page_number}
 use Rattle.local_cache.specs.PageNodes.{PageNodes, made_first}
 use Rattle.local_cache.specs.Pages.{Pages}

@@ -1,5 +1,5 @@
 -- Each call that changes page nodes, on the arena.
-use Rattle.std.proofs.Common.{◌≡◌, ℕ, zero, suc, ◌+◌, ◌-◌, List, Option, Some, None, refl, ap, sym, ◌∙◌, arith}
+use Rattle.std.proofs.Common.{◌≡◌, ℕ, zero, suc, ◌+◌, List, Option, Some, None, refl, ap, ◌∙◌, arith}
 use Rattle.std.specs.FinMap as ids
 use Rattle.vm_ids.specs.declared.node_name.NodeName.{NodeName}
 use Rattle.vm_ids.specs.declared.node_name.NodeName.TheVariants.{Live, Working}
@@ -12,7 +12,7 @@ use Rattle.local_cache.specs.Arena as arena
 use Rattle.local_cache.specs.ArenaBy.{CacheRow, CacheRows, arena_by, tables_by}
 use Rattle.local_cache.specs.NodeCells.{renewed}
 use Rattle.local_cache.specs.NodeKeys.{page_number}
-use Rattle.local_cache.specs.ManyNodes.{each, next_node}
+use Rattle.local_cache.specs.ManyNodes.{next_node}
 use Rattle.local_cache.specs.OnCells as on
 use Rattle.local_cache.specs.PageNodes.{PageNodes}
 use Rattle.local_cache.specs.PageNodes as nodes

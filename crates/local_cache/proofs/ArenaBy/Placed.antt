@@ -1,6 +1,6 @@
 -- Each call keeps that nodes of pages are found under numbers of pages of live caches.
-use Rattle.std.proofs.Common.{◌≡◌, ◌≢◌, ℕ, zero, suc, ◌+◌, ◌*◌, ◌<◌, ◌≤◌, ◌^◌, List, [], length, Option, Some, None, IsSome, is_some, option_map, unwrap_or, refl, ap, sym, subst, ◌∙◌, inl, inr, arith}
-use Rattle.std.specs.Prelude.{◌↔◌, option_and_then}
+use Rattle.std.proofs.Common.{◌≡◌, ℕ, zero, suc, ◌+◌, ◌<◌, ◌≤◌, ◌^◌, List, [], length, Option, Some, None, IsSome, is_some, unwrap_or, refl, ap, sym, subst, ◌∙◌, inl, inr, arith}
+use Rattle.std.specs.Prelude.{option_and_then}
 use Rattle.std.proofs.lemmas.Bool.{cases_eq, false≢true}
 use Rattle.std.proofs.lemmas.Option.{none-some, same_Some}
 use Rattle.std.specs.FinMap as ids
@@ -10,9 +10,9 @@ use Rattle.vm_ids.specs.declared.numbers.NodeId.{NodeId}
 use Rattle.local_cache.specs.declared.own_state.OwnState.{OwnState}
 use Rattle.local_cache.specs.Arena.{Cell, blank, new_cell}
 use Rattle.local_cache.specs.ArenaBy.{CacheRow}
-use Rattle.local_cache.specs.NodeCells.{Cells, HasCell, changed, named}
-use Rattle.local_cache.specs.NodeKeys.{key_at, page_key, page_number, page_of_name}
-use Rattle.local_cache.specs.PageNodes.{ArePaged, HasNode, PageNodes, as_working, cell, exchanged_names, find, with_new, without}
+use Rattle.local_cache.specs.NodeCells.{Cells, HasCell, named}
+use Rattle.local_cache.specs.NodeKeys.{page_key, page_number, page_of_name}
+use Rattle.local_cache.specs.PageNodes.{ArePaged, HasNode, PageNodes, as_working, cell, find, with_new, without}
 use Rattle.local_cache.specs.Pages.{Pages}
 use Rattle.local_cache.specs.Placed.{ArePlaced, HasRow, IsNameOfPage, IsShort}
 use Rattle.local_cache.proofs.ArenaBy.NewCache.{row_within}
@@ -20,8 +20,7 @@ use Rattle.local_cache.proofs.ArenaBy.Nodes.{page_come}
 use Rattle.local_cache.proofs.NewCache.FoundPages.{some_of}
 use Rattle.local_cache.proofs.NodeCells.{inserted_here, inserted_other, still_there}
 use Rattle.local_cache.proofs.NodesKept.{SameNames, name_of, paged_same, there_same}
-use Rattle.local_cache.proofs.PagesKept.{key_there, paged_come, paged_without, paged_working}
-use Rattle.local_cache.proofs.Stretched.{changed_here, changed_other}
+use Rattle.local_cache.proofs.PagesKept.{paged_come, paged_without, paged_working}
 
 -- What follows
 

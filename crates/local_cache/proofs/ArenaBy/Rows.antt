@@ -8,7 +8,6 @@ use Rattle.std.proofs.lemmas.Option.{none-some, same_Some, slice_get-get_or, sli
 use Rattle.std.specs.FinMap as ids
 use Rattle.local_cache.specs.Pages.{Pages}
 use Rattle.vm_ids.specs.declared.numbers.CacheId.{CacheId}
-use Rattle.vm_ids.specs.declared.numbers.NodeId.{NodeId}
 use Rattle.local_cache.specs.declared.page_entry.PageEntry.{PageEntry}
 use Rattle.local_cache.specs.Arena.{Table, changed_at, entry_at, is_granted, locked_count, locked_pages, locks_of, node_at, page_count, table_at, table_of, tables_without, with_grant, with_locks, without_cache}
 use Rattle.local_cache.specs.ArenaBy.{CacheRow, CacheRows, arena_by, entries_by, entry_under, table_by, tables_by}

@@ -1,7 +1,7 @@
 -- New working nodes over others, on the arena.
-use Rattle.std.proofs.Common.{◌≡◌, ◌≢◌, ℕ, zero, suc, ◌+◌, ◌-◌, ◌<◌, ◌≤◌, ◌^◌, true, false, cond, List, [], ◌∷◌, Option, Some, None, refl, ap, sym, subst, ◌∙◌, inl, inr, arith}
+use Rattle.std.proofs.Common.{◌≡◌, ◌≢◌, ℕ, zero, suc, ◌+◌, ◌-◌, ◌<◌, ◌≤◌, ◌^◌, true, cond, [], ◌∷◌, Option, Some, None, refl, ap, sym, subst, ◌∙◌, inl, inr, arith}
 use Rattle.std.specs.Prelude.{is_some, unwrap_or}
-use Rattle.std.proofs.lemmas.Bool.{cases_Bool, cases_eq, cases_lt, cond-true, cond-false}
+use Rattle.std.proofs.lemmas.Bool.{cases_Bool, cases_eq, cond-true, cond-false}
 use Rattle.std.proofs.lemmas.Option.{same_Some}
 use Rattle.std.specs.FinMap as ids
 use Rattle.stretches.specs.Stretch.{is_in}
@@ -25,7 +25,7 @@ use Rattle.local_cache.specs.NodeCells.{Cells, cell_at, changed_each, hanging, o
 use Rattle.local_cache.specs.OnCells as on
 use Rattle.local_cache.specs.PageNodes.{ArePaged, HaveNone, PageNodes, made_working}
 use Rattle.local_cache.specs.Placed.{ArePlaced, IsNameOfPage}
-use Rattle.local_cache.specs.Runs.{further, run, run_after}
+use Rattle.local_cache.specs.Runs.{run, run_after}
 use Rattle.local_cache.proofs.NodesCome.{paged_working_come}
 use Rattle.local_cache.proofs.RunAfter.{further_next}
 use Rattle.local_cache.proofs.Stretched.{each_at, each_before, each_behind, each_is, each_told}

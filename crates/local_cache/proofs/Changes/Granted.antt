@@ -1,13 +1,11 @@
 -- It was granted to write a page.
 use Rattle.std.proofs.Common.{◌≡◌, ℕ, true, false, Option, refl, ap, ◌∙◌}
 use Rattle.vm_ids.specs.declared.node_name.NodeName.{NodeName}
-use Rattle.vm_ids.specs.declared.numbers.CacheId.{CacheId}
 use Rattle.vm_ids.specs.declared.numbers.NodeId.{NodeId}
-use Rattle.vm_ids.specs.declared.numbers.PageNo.{PageNo}
-use Rattle.local_cache.specs.Arena.{Arena, HasPlace, Table, cell, is_granted, locks_of, table_granting, tables_with, with_grant}
+use Rattle.local_cache.specs.Arena.{Arena, Table, cell, is_granted, locks_of, table_granting, tables_with, with_grant}
 use Rattle.local_cache.specs.Reading.{forest_of}
 use Rattle.local_cache.specs.Sound.{IsSound}
-use Rattle.local_cache.proofs.Changes.Retabled.{changed_cell, changed_forest, changed_place, changed_sound}
+use Rattle.local_cache.proofs.Changes.Retabled.{changed_cell, changed_forest, changed_sound}
 use Rattle.local_cache.proofs.Tables.Parts.{part-changed, part-others, part-same, part-tables_with}
 
 module _ (a b : Arena) (granted place : ℕ) (e : b ≡ with_grant a granted place) where

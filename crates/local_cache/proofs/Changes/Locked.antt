@@ -7,11 +7,10 @@ use Rattle.std.proofs.lemmas.Option.{slice_get-get_or, slice_get_cases, slice_ge
 use Rattle.vm_ids.specs.declared.node_name.NodeName.{NodeName}
 use Rattle.vm_ids.specs.declared.numbers.CacheId.{CacheId}
 use Rattle.vm_ids.specs.declared.numbers.NodeId.{NodeId}
-use Rattle.vm_ids.specs.declared.numbers.PageNo.{PageNo}
-use Rattle.local_cache.specs.Arena.{Arena, HasPlace, Table, cell, changed_at, is_granted, is_locked, locked_count, locked_pages, locks_of, table_at, table_locking, table_of, tables_with, tables_without, with_locks, without_cache}
+use Rattle.local_cache.specs.Arena.{Arena, Table, cell, changed_at, is_granted, is_locked, locked_count, locked_pages, locks_of, table_at, table_locking, table_of, tables_with, tables_without, with_locks, without_cache}
 use Rattle.local_cache.specs.Reading.{forest_of}
 use Rattle.local_cache.specs.Sound.{IsSound}
-use Rattle.local_cache.proofs.Changes.Retabled.{changed_cell, changed_forest, changed_place, changed_sound}
+use Rattle.local_cache.proofs.Changes.Retabled.{changed_cell, changed_forest, changed_sound}
 use Rattle.local_cache.proofs.Tables.Listing.{read_other, read_set}
 use Rattle.local_cache.proofs.Tables.Locked.{bit, locked_set}
 use Rattle.local_cache.proofs.Tables.Parts.{part-changed, part-others, part-same, part-tables_with}

@@ -3,11 +3,8 @@ use Rattle.std.proofs.Common.{◌≡◌, ◌≢◌, ◌⊎◌, List, map, true, 
 use Rattle.std.proofs.lemmas.Bool.{false≢true}
 use Rattle.vm_ids.specs.declared.node_name.NodeName.{NodeName}
 use Rattle.vm_ids.specs.Forest.Changes as forest
-use Rattle.vm_ids.specs.Forest.Shape.{IsLinked}
 use Rattle.vm_ids.specs.Forest.Nodes.{Forest, Node, node, Hang}
-use Rattle.vm_ids.specs.Forest.Nodes.Hang.{Root, StubOf}
 use Rattle.vm_ids.specs.Forest.Changes.{edit, with_hang}
-use Rattle.vm_ids.proofs.Forest.Cutting.{put_page-linked}
 use Rattle.vm_ids.proofs.Forest.NodesAfter.{node-put, node-put_other, has-put}
 use Rattle.vm_ids.specs.declared.numbers.NodeId.{NodeId}
 use Rattle.local_cache.specs.declared.own_state.OwnState.{OwnState}
@@ -15,7 +12,7 @@ use Rattle.local_cache.specs.declared.links.Links.{Links}
 use Rattle.local_cache.specs.Arena.{Arena, Cell, cell, HasNode, put, hung, with_own, with_tree}
 use Rattle.local_cache.specs.Reading.{name_of, node_of, page_of, forest_of, hang_by, stubs_of}
 use Rattle.local_cache.specs.Threads.{IsThreaded}
-use Rattle.local_cache.specs.Sound.{IsSound, IsKept, ◌∈◌}
+use Rattle.local_cache.specs.Sound.{IsKept, ◌∈◌}
 use Rattle.local_cache.proofs.Nodes.Cells.{cell-put, cell-put_other}
 use Rattle.local_cache.proofs.Forest.StubRows.{threaded_is, threaded-kept, row-each, Keeps, keeps_links}
 use Rattle.local_cache.proofs.Forest.Reading.{node-forest_of, IsNode-forest_of}

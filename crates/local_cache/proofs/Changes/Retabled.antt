@@ -4,9 +4,8 @@ use Rattle.std.specs.Prelude.{option_and_then}
 use Rattle.vm_ids.specs.declared.numbers.CacheId.{CacheId}
 use Rattle.vm_ids.specs.declared.numbers.NodeId.{NodeId}
 use Rattle.vm_ids.specs.declared.numbers.PageNo.{PageNo}
-use Rattle.local_cache.specs.declared.own_state.OwnState.{OwnState}
 use Rattle.local_cache.specs.declared.page_entry.PageEntry.{PageEntry}
-use Rattle.local_cache.specs.Arena.{Arena, HasPage, HasPlace, Table, cell, changed_at, entry_at, node_at, table_at}
+use Rattle.local_cache.specs.Arena.{Arena, HasPlace, Table, cell, changed_at, entry_at, node_at, table_at}
 use Rattle.local_cache.specs.Reading.{forest_of}
 use Rattle.local_cache.specs.Sound.{IsSound}
 use Rattle.local_cache.proofs.Changes.SameCells.{alike_sound, retabled_forest}

@@ -10,10 +10,8 @@ use Rattle.vm_ids.specs.declared.numbers.NodeId.{NodeId}
 use Rattle.vm_ids.specs.declared.numbers.PageNo.{PageNo}
 use Rattle.vm_ids.specs.declared.numbers.SegId.{SegId}
 use Rattle.local_cache.specs.declared.home.Home.{Home}
-use Rattle.local_cache.specs.declared.links.Links.{Links}
 use Rattle.local_cache.specs.declared.own_state.OwnState.{OwnState}
-use Rattle.local_cache.specs.declared.own_state.OwnState.TheVariants.{Absent}
-use Rattle.local_cache.specs.Arena.{Arena, Cell, HasPage, HasNode, IsMade, Table, as_working, blank, cell, find, new_cell, put, table_at, tables_with, tables_without, with_grant, with_links, with_locks, with_name, with_new, with_own, with_tree, with_working, without, without_cache}
+use Rattle.local_cache.specs.Arena.{Arena, Cell, HasPage, HasNode, IsMade, Table, as_working, blank, cell, find, new_cell, put, table_at, tables_with, tables_without, with_grant, with_locks, with_name, with_new, with_own, without, without_cache}
 use Rattle.local_cache.specs.Changes.{Like}
 use Rattle.local_cache.specs.Home.{home_named, home_of}
 use Rattle.local_cache.specs.Reading.{name_of}

@@ -1,5 +1,5 @@
 -- What is found after a cache was made.
-use Rattle.std.proofs.Common.{◌≡◌, ◌⊎◌, ℕ, zero, suc, ◌+◌, ◌<◌, ◌≤◌, Bool, false, cond, replicate, option_map, List, [], ◌∷◌, ◌++◌, length, get_or, map, Option, Some, None, IsSome, unwrap_or, refl, sym, ap, ◌∙◌, inl, inr, arith, add-one, zero-add}
+use Rattle.std.proofs.Common.{◌≡◌, ◌⊎◌, ℕ, zero, suc, ◌+◌, ◌<◌, ◌≤◌, Bool, false, cond, replicate, option_map, List, [], ◌∷◌, length, get_or, map, Option, Some, None, IsSome, unwrap_or, refl, sym, ap, ◌∙◌, inl, inr, arith, add-one, zero-add}
 use Rattle.std.specs.Prelude.{option_and_then, slice_get, is_some}
 use Rattle.std.specs.Ordering.{nat_cmp}
 use Rattle.std.specs.Cmp.{nat_cmp_total}
@@ -15,8 +15,7 @@ use Rattle.vm_ids.specs.declared.numbers.NodeId.{NodeId}
 use Rattle.vm_ids.specs.declared.numbers.SegId.{SegId}
 use Rattle.local_cache.specs.declared.own_state.OwnState.{OwnState}
 use Rattle.local_cache.specs.declared.page_entry.PageEntry.{PageEntry}
-use Rattle.local_cache.specs.Arena.{Arena, Cell, HasPage, IsFilled, HasNode, IsMade, Table, blank, cell, entry_for, find, is_granted, locks_of, new_cell, new_table, node_at, table_of}
-use Rattle.local_cache.specs.Own.{own_of}
+use Rattle.local_cache.specs.Arena.{Arena, Cell, HasPage, IsFilled, HasNode, IsMade, Table, entry_for, find, is_granted, new_cell, new_table, node_at, table_of}
 use Rattle.local_cache.specs.Whole.{segment_of}
 use Rattle.local_cache.proofs.Nodes.Numbers.{tied, apart}
 

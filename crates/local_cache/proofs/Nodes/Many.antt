@@ -1,9 +1,9 @@
 -- Nodes that stay there after a change of many nodes.
-use Rattle.std.proofs.Common.{ℕ, zero, suc, ◌+◌, refl, sym, subst, inl, inr, arith}
+use Rattle.std.proofs.Common.{ℕ, zero, suc, refl, sym, subst, inl, inr, arith}
 use Rattle.std.proofs.lemmas.Bool.{cases_eq}
 use Rattle.vm_ids.specs.declared.numbers.NodeId.{NodeId}
 use Rattle.local_cache.specs.Arena.{Arena, Cell, HasNode, NodesStay, cell}
-use Rattle.local_cache.specs.Many.{HaveNodes, as_working_many, hung_many, over_many, over_two_many, with_working_many}
+use Rattle.local_cache.specs.Many.{HaveNodes, as_working_many, hung_many, over_two_many, with_working_many}
 use Rattle.local_cache.specs.ManyNodes.{next_node}
 use Rattle.local_cache.specs.NodeCells.{named}
 use Rattle.local_cache.specs.OnCells.{exchanged_many, on_cell, on_cells}

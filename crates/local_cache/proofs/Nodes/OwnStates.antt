@@ -12,7 +12,7 @@ use Rattle.std.specs.declared.cmp.Ordering.TheVariants.{Less, Equal, Greater}
 use Rattle.std.proofs.lemmas.List.{map-set, get_or-map, length-map}
 use Rattle.std.proofs.lemmas.Bool.{false≢true, cases_eq}
 use Rattle.vm_ids.specs.declared.numbers.NodeId.{NodeId}
-use Rattle.vm_ids.proofs.Places.{bit, count-set, count_cons, count_not_all, count_some, none_passes}
+use Rattle.vm_ids.proofs.Places.{bit, count-set, count_cons, count_not_all, count_some}
 use Rattle.local_cache.specs.declared.own_state.OwnState.{OwnState}
 use Rattle.local_cache.specs.declared.own_state.OwnState.TheVariants.{Absent}
 use Rattle.vm_ids.specs.declared.node_name.NodeName.TheVariants.{Live}

@@ -18,12 +18,12 @@ returns-in-Some-clause-alone c = λ cache page named.
     let r = c.requires in
     let e = c.in-Some.ensures in
     subst (λ (s : OwnState). IsDetachedAlone c.args.caches.now c.renew_leaf.new.self cache page c.args.state (Dropped c.args.node s)) (sym e.own)
-    (leaf_detached c.args.caches.now r.sound c.args.node r.held e.leaf cache page named c.args.state c.renew_leaf.new.self e.changed)
+    (leaf_detached c.args.caches.now r.sound c.args.node r.held (e.leaf.0 refl) cache page named c.args.state c.renew_leaf.new.self e.changed)
 
 pub returns-in-Some-clause-page : goal.returns-in-Some-clause-page
 returns-in-Some-clause-page c = λ cache page named.
     let r = c.requires in
-    leaf_page c.args.caches.now r.sound c.args.node r.held c.in-Some.ensures.leaf cache page named c.args.state c.renew_leaf.new.self c.in-Some.ensures.changed
+    leaf_page c.args.caches.now r.sound c.args.node r.held (c.in-Some.ensures.leaf.0 refl) cache page named c.args.state c.renew_leaf.new.self c.in-Some.ensures.changed
 
 -- It isn't such a leaf: the caches are as they were.
 

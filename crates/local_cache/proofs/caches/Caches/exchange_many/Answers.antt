@@ -1,4 +1,4 @@
-use Rattle.std.proofs.Common.{◌≡◌, ◌+◌, ◌<◌, ℕ, refl, sym, subst, ◌∙◌, arith}
+use Rattle.std.proofs.Common.{◌+◌, refl, sym, subst, ◌∙◌, arith}
 use Rattle.local_cache.specs.Arena.{Arena, NodesStay}
 use Rattle.local_cache.specs.ManyNodes.{next_if, next_node}
 use Rattle.local_cache.specs.NodeCells.{with_child}

@@ -1,4 +1,4 @@
-use Rattle.std.proofs.Common.{◌≡◌, sym, subst}
+use Rattle.std.proofs.Common.{sym, subst}
 use Rattle.local_cache.specs.Arena.{Arena, NodesStay}
 use Rattle.local_cache.proofs.ArenaBy.Exchanging.{all_exchanged, named_in}
 use Rattle.local_cache.proofs.Nodes.Many.{stay_exchanged}

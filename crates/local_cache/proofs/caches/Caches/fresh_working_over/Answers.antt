@@ -1,4 +1,4 @@
-use Rattle.std.proofs.Common.{◌≡◌, Some, refl, ap, sym, subst, ◌∙◌, arith}
+use Rattle.std.proofs.Common.{Some, refl, ap, sym, subst, arith}
 use Rattle.local_cache.specs.Arena.{Arena, NodesStay}
 use Rattle.local_cache.specs.ArenaBy.{arena_by}
 use Rattle.local_cache.specs.Many.{HaveNodes, over_two_many, with_working_many}

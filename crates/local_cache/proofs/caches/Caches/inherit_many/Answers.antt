@@ -1,4 +1,4 @@
-use Rattle.std.proofs.Common.{Some, [], ◌∷◌, refl, sym, subst}
+use Rattle.std.proofs.Common.{refl, sym, subst}
 use Rattle.local_cache.specs.Arena.{Arena, NodesStay}
 use Rattle.local_cache.specs.ManyNodes.{next_if}
 use Rattle.local_cache.specs.NodeCells.{inheriting}

@@ -1,5 +1,5 @@
 use Rattle.std.proofs.Common.{◌≡◌, sym, subst}
-use Rattle.std.specs.Prelude.{IfSome}
+use Rattle.std.specs.Prelude.{◌↔◌, IfSome, IsSome}
 use Rattle.local_cache.specs.Arena.{Arena, Cell, HasNode, cell}
 use Rattle.local_cache.specs.PageNodes.{IsFreeLeaf}
 use Rattle.local_cache.specs.PageNodes as nodes
@@ -32,7 +32,7 @@ returns-clause-own c =
 
 pub returns-clause-leaf : goal.returns-clause-leaf
 returns-clause-leaf c =
-    let P : Cell → Type 0 = λ d. IfSome c.renew_leaf.result (λ _. IsFreeLeaf d) in
+    let P : Cell → Type 0 = λ d. IsSome c.renew_leaf.result ↔ IsFreeLeaf d in
     subst P (cell_seen c.self.inside.nodes c.self.inside.list c.args.self.now c.self.view_is c.args.node) c.renew_leaf.ensures.leaf
 
 pub returns-clause-changed : goal.returns-clause-changed

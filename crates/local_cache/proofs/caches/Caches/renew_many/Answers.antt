@@ -1,4 +1,4 @@
-use Rattle.std.proofs.Common.{◌≡◌, refl, sym, subst, ◌∙◌}
+use Rattle.std.proofs.Common.{refl, sym, subst, ◌∙◌}
 use Rattle.local_cache.specs.Arena.{Arena, NodesStay}
 use Rattle.local_cache.specs.NodeCells.{renewed}
 use Rattle.local_cache.proofs.ArenaBy.OneOfMany.{one_cell, one_held}

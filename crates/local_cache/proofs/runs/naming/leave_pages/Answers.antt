@@ -1,4 +1,4 @@
-use Rattle.std.proofs.Common.{◌≡◌, ◌+◌, ◌-◌, sym, ap, subst, ◌∙◌, arith}
+use Rattle.std.proofs.Common.{sym, ap, subst, ◌∙◌, arith}
 use Rattle.local_cache.specs.Pages.{HaveNodes, Pages, without_pages}
 use Rattle.local_cache.proofs.PagesKept.{names_on, pages_held}
 use Rattle.local_cache.proofs.runs.naming.leave_pages.Goals as goal

@@ -1,4 +1,4 @@
-use Rattle.std.proofs.Common.{◌≡◌, ℕ, ◌+◌, ◌-◌, ◌<◌, ◌≤◌, refl, sym, ap, subst, ◌∙◌, arith}
+use Rattle.std.proofs.Common.{◌≡◌, ◌+◌, ◌-◌, refl, sym, ap, subst, ◌∙◌, arith}
 use Rattle.std.specs.Prelude.{is_some}
 use Rattle.std.specs.FinMap as map
 use Rattle.mixed_map.specs.Mixed.{without_range}
@@ -10,7 +10,7 @@ use Rattle.local_cache.specs.declared.runs.counters.Counters.{Counters}
 use Rattle.local_cache.proofs.NodesCome.{numbered_range}
 use Rattle.local_cache.proofs.NodesKept.{numbered_as}
 use Rattle.local_cache.proofs.PagesKept.{paged_many, without_many_is}
-use Rattle.local_cache.proofs.TableRight.{len_range}
+use Rattle.local_cache.proofs.TableRight.Numbers.{len_range}
 use Rattle.local_cache.proofs.runs.node_runs.NodeRuns.free_many.Goals as goal
 
 held : (c : goal.After-self-2-1) → HaveCells c.self.inside.table.cells c.args.node.0 c.args.count

@@ -1,10 +1,9 @@
-use Rattle.std.proofs.Common.{◌≡◌, ap, sym, ◌∙◌, Some}
-use Rattle.std.specs.Prelude.{Bool, ◌&&◌, is_some, not}
+use Rattle.std.proofs.Common.{◌≡◌, ap, ◌∙◌, Some}
+use Rattle.std.specs.Prelude.{◌&&◌, is_some, not}
 use Rattle.std.specs.FinMap as map
-use Rattle.local_cache.specs.NodeCells.{Cells, inheriting}
+use Rattle.local_cache.specs.NodeCells.{inheriting}
 use Rattle.local_cache.specs.Own.{is_absent}
-use Rattle.local_cache.specs.PageNodes.{HasNode, PageNodes, cell, cut_from}
-use Rattle.local_cache.specs.declared.own_state.OwnState.{OwnState}
+use Rattle.local_cache.specs.PageNodes.{PageNodes, cell}
 use Rattle.local_cache.proofs.NodesKept.{cut_own, cut_there, parent_told, took_there}
 use Rattle.local_cache.proofs.runs.node_runs.NodeRuns.give_way.Goals as goal
 

@@ -1,8 +1,7 @@
-use Rattle.std.proofs.Common.{◌≡◌, ℕ, ◌+◌, ◌-◌, ◌*◌, ◌^◌, ◌<◌, ◌≤◌, None, refl, sym, ap, subst, ◌∙◌, arith}
+use Rattle.std.proofs.Common.{◌≡◌, ◌+◌, ◌-◌, ◌*◌, ◌^◌, ◌≤◌, refl, sym, ap, subst, ◌∙◌, arith}
 use Rattle.std.specs.FinMap as map
 use Rattle.stretches.specs.declared.stretch.Stretch.{Stretch}
 use Rattle.stretches.proofs.Reading.Numbers.{within}
-use Rattle.local_cache.specs.ManyNodes.{each}
 use Rattle.local_cache.specs.NodeCells.{Cells, run_cell}
 use Rattle.local_cache.specs.NodeRuns.{AreNumbered}
 use Rattle.local_cache.specs.PageNodes.{ArePaged, PageNodes, made_working}

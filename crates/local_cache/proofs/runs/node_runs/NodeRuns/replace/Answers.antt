@@ -4,7 +4,7 @@ use Rattle.std.proofs.lemmas.Bool.{false≢true}
 use Rattle.std.specs.FinMap as map
 use Rattle.vm_ids.specs.declared.node_name.NodeName.{NodeName}
 use Rattle.vm_ids.specs.declared.node_name.NodeName.TheVariants.{Live, Working}
-use Rattle.local_cache.specs.Arena.{Cell, new_cell}
+use Rattle.local_cache.specs.Arena.{new_cell}
 use Rattle.local_cache.specs.NodeCells.{Cells, HasCell, cell_at, changed, is_page, named}
 use Rattle.local_cache.specs.NodeKeys.{page_number, page_of_name}
 use Rattle.local_cache.specs.NodeRuns.{AreNumbered}

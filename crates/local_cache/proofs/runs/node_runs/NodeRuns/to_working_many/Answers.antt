@@ -1,11 +1,11 @@
-use Rattle.std.proofs.Common.{◌≡◌, ℕ, ◌+◌, ◌-◌, ◌*◌, ◌^◌, ◌<◌, ◌≤◌, refl, sym, ap, subst, ◌∙◌, arith}
+use Rattle.std.proofs.Common.{◌≡◌, ℕ, ◌+◌, ◌-◌, ◌*◌, ◌^◌, ◌≤◌, refl, sym, ap, subst, ◌∙◌, arith}
 use Rattle.std.specs.Prelude.{is_some}
 use Rattle.std.specs.FinMap as map
 use Rattle.vm_ids.specs.declared.node_name.NodeName.TheVariants.{Working}
 use Rattle.local_cache.specs.Arena.{Cell}
 use Rattle.local_cache.specs.NodeCells.{Cells, HaveCells, changed_each, named}
 use Rattle.local_cache.specs.NodeRuns.{AreNumbered}
-use Rattle.local_cache.specs.PageNodes.{ArePaged, PageNodes, as_working_many, without_names}
+use Rattle.local_cache.specs.PageNodes.{ArePaged, PageNodes, as_working_many}
 use Rattle.local_cache.specs.Pages.{Pages}
 use Rattle.local_cache.specs.declared.runs.counters.Counters.{Counters}
 use Rattle.local_cache.proofs.NodesCome.{working_free}

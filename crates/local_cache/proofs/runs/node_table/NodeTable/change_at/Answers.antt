@@ -1,10 +1,10 @@
-use Rattle.std.proofs.Common.{◌≡◌, ◌<◌, Option, ℕ, Some, refl, sym, ap, subst, ◌∙◌}
+use Rattle.std.proofs.Common.{Option, ℕ, refl, sym, ap, subst, ◌∙◌}
 use Rattle.std.specs.Prelude.{unwrap_or}
 use Rattle.std.specs.FinMap as map
 use Rattle.local_cache.specs.Arena.{Cell, blank}
 use Rattle.local_cache.specs.NodeTable.{HasFreeNumber, Table}
 use Rattle.local_cache.specs.ThinNodes.{changed_to}
-use Rattle.local_cache.proofs.TableRight.{right_as, slot_number, table_changed}
+use Rattle.local_cache.proofs.TableRight.Alone.{right_as, slot_number, table_changed}
 use Rattle.local_cache.proofs.runs.node_table.NodeTable.change_at.Goals as goal
 
 pub change-requires-clause-before : goal.change-requires-clause-before

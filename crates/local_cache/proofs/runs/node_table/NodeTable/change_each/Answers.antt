@@ -1,4 +1,4 @@
-use Rattle.std.proofs.Common.{◌≡◌, ◌+◌, ◌≤◌, ℕ, ap, ◌∙◌, arith}
+use Rattle.std.proofs.Common.{ap, ◌∙◌, arith}
 use Rattle.std.specs.Prelude.{is_some}
 use Rattle.local_cache.proofs.Pieces.{rest_cells, rest_free, rest_there}
 use Rattle.local_cache.proofs.runs.node_table.NodeTable.change_each.Goals as goal

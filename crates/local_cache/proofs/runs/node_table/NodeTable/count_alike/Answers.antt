@@ -1,6 +1,4 @@
-use Rattle.std.proofs.Common.{◌≡◌, ◌+◌, ℕ, sym, ap, subst, ◌∙◌, arith}
-use Rattle.local_cache.specs.NodeTable.{IsStandingAs}
-use Rattle.local_cache.specs.declared.runs.run.Run.{Run}
+use Rattle.std.proofs.Common.{arith}
 use Rattle.local_cache.proofs.Alike.{said_first}
 use Rattle.local_cache.proofs.runs.node_table.NodeTable.count_alike.Goals as goal
 

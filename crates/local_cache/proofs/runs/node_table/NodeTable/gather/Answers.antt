@@ -1,12 +1,11 @@
-use Rattle.std.proofs.Common.{◌≡◌, ◌+◌, ◌-◌, ◌<◌, ℕ, sym, ap, subst, ◌∙◌, arith}
-use Rattle.std.specs.FinMap as map
+use Rattle.std.proofs.Common.{◌≡◌, ◌+◌, ◌-◌, ℕ, sym, ap, subst, ◌∙◌, arith}
 use Rattle.stretches.specs.declared.stretch.Stretch.{Stretch}
 use Rattle.stretches.proofs.Reading.Numbers.{high, low}
 use Rattle.local_cache.specs.NodeKeys.{key_at}
 use Rattle.local_cache.specs.NodeTable.{AreSaidBy, Table}
 use Rattle.local_cache.specs.Thin.{thin_number}
 use Rattle.local_cache.specs.declared.runs.run.Run.{Run}
-use Rattle.local_cache.proofs.TableRight.{page_not_thin, table_gathered}
+use Rattle.local_cache.proofs.TableRight.Together.{page_not_thin, table_gathered}
 use Rattle.local_cache.proofs.runs.node_table.NodeTable.gather.Goals as goal
 
 pub invariant_of-self : goal.invariant_of-self

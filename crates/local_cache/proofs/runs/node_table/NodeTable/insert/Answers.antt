@@ -1,8 +1,8 @@
-use Rattle.std.proofs.Common.{◌≡◌, ◌<◌, ℕ, Option, sym, ap, subst, ◌∙◌}
+use Rattle.std.proofs.Common.{◌<◌, ℕ, Option, sym, ap, subst, ◌∙◌}
 use Rattle.std.specs.FinMap as map
 use Rattle.local_cache.specs.NodeTable.{HasFreeNumber, Table}
 use Rattle.local_cache.specs.ThinNodes.{changed_to}
-use Rattle.local_cache.proofs.TableRight.{right_as, slot_free, table_come}
+use Rattle.local_cache.proofs.TableRight.Alone.{right_as, slot_free, table_come}
 use Rattle.local_cache.proofs.runs.node_table.NodeTable.insert.Goals as goal
 
 pub change-requires-clause-before : goal.change-requires-clause-before

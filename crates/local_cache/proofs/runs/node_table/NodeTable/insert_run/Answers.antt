@@ -7,7 +7,9 @@ use Rattle.local_cache.specs.NodeCells.{run_cell}
 use Rattle.local_cache.specs.NodeTable.{HaveFreeNumbers, Table}
 use Rattle.local_cache.specs.Runs.{run}
 use Rattle.local_cache.proofs.Stretched.{one_told}
-use Rattle.local_cache.proofs.TableRight.{few_among, right_as, run_here, vacant_among}
+use Rattle.local_cache.proofs.TableRight.Numbers.{few_among, vacant_among}
+use Rattle.local_cache.proofs.TableRight.Alone.{right_as}
+use Rattle.local_cache.proofs.TableRight.Together.{run_here}
 use Rattle.local_cache.proofs.runs.node_table.NodeTable.insert_run.Goals as goal
 
 pub enter_run-requires-clause-vacant : goal.enter_run-requires-clause-vacant

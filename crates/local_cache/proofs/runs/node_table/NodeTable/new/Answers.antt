@@ -1,4 +1,5 @@
-use Rattle.local_cache.proofs.TableRight.{no_table, no_thin, none_right, right_as}
+use Rattle.local_cache.proofs.TableRight.Alone.{right_as}
+use Rattle.local_cache.proofs.TableRight.Thinnest.{no_table, no_thin, none_right}
 use Rattle.local_cache.proofs.runs.node_table.NodeTable.new.Goals as goal
 
 pub invariant_of-result : goal.invariant_of-result

@@ -1,10 +1,9 @@
-use Rattle.std.proofs.Common.{◌≡◌, ℕ, ◌<◌, true, false, Option, Some, sym, ap, subst, ◌∙◌, arith}
+use Rattle.std.proofs.Common.{◌≡◌, ℕ, Option, sym, ap, subst, ◌∙◌}
 use Rattle.std.specs.Prelude.{is_some, option_map, unwrap_or}
-use Rattle.std.specs.FinMap as map
 use Rattle.vm_ids.specs.declared.numbers.NodeId.{NodeId}
 use Rattle.local_cache.specs.Arena.{Cell, blank}
 use Rattle.local_cache.specs.Looking.{IsOwner}
-use Rattle.local_cache.specs.NodeCells.{HasCell, cell_at}
+use Rattle.local_cache.specs.NodeCells.{cell_at}
 use Rattle.local_cache.specs.NodeTable.{Table}
 use Rattle.local_cache.specs.Own.{is_absent}
 use Rattle.local_cache.proofs.WayUp.{has_parent, one_up, parent_owner, same_owner, way_falls}

@@ -1,4 +1,4 @@
-use Rattle.std.proofs.Common.{◌≡◌, ◌+◌, ◌<◌, ◌≤◌, ℕ, Option, refl, sym, ap, subst, ◌∙◌, arith}
+use Rattle.std.proofs.Common.{◌≡◌, ◌+◌, ◌≤◌, refl, sym, ap, subst, ◌∙◌}
 use Rattle.std.specs.Prelude.{IfSome, None}
 use Rattle.std.specs.FinMap as map
 use Rattle.mixed_map.specs.Mixed.{Tells, without_stretch}
@@ -7,7 +7,8 @@ use Rattle.local_cache.specs.NodeTable.{HaveFreeNumbers, Table}
 use Rattle.local_cache.specs.Runs.{run, run_after}
 use Rattle.local_cache.specs.Thin.{thin_number}
 use Rattle.local_cache.specs.ThinNodes.{Thin, with_run}
-use Rattle.local_cache.proofs.TableRight.{put_other, put_room, put_same, put_vacant, right_as}
+use Rattle.local_cache.proofs.TableRight.Alone.{right_as}
+use Rattle.local_cache.proofs.TableRight.Together.{put_other, put_room, put_same, put_vacant}
 use Rattle.local_cache.proofs.runs.node_table.NodeTable.put_run.Goals as goal
 
 pub invariant_of-self : goal.invariant_of-self

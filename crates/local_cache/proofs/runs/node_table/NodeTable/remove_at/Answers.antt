@@ -1,7 +1,7 @@
-use Rattle.std.proofs.Common.{ℕ, sym, ap, ◌∙◌}
+use Rattle.std.proofs.Common.{sym, ap, ◌∙◌}
 use Rattle.std.specs.FinMap as map
 use Rattle.local_cache.specs.NodeTable.{Table}
-use Rattle.local_cache.proofs.TableRight.{right_as, slot_number, table_gone}
+use Rattle.local_cache.proofs.TableRight.Alone.{right_as, slot_number, table_gone}
 use Rattle.local_cache.proofs.runs.node_table.NodeTable.remove_at.Goals as goal
 
 pub change-requires-clause-before : goal.change-requires-clause-before

@@ -1,12 +1,11 @@
-use Rattle.std.proofs.Common.{◌≡◌, ◌+◌, ◌<◌, true, ℕ, refl, sym, ap, subst, ◌∙◌}
-use Rattle.std.specs.FinMap as map
-use Rattle.stretches.specs.Stretch.{is_in}
+use Rattle.std.proofs.Common.{refl, sym, subst, ◌∙◌}
 use Rattle.stretches.proofs.Reading.Numbers.{same_in}
-use Rattle.mixed_map.specs.Mixed.{Tells, without_range, without_stretch}
+use Rattle.mixed_map.specs.Mixed.{Tells, without_range}
 use Rattle.local_cache.specs.NodeCells.{Cells, run_cell}
 use Rattle.local_cache.specs.NodeTable.{HaveFreeNumbers, Table}
 use Rattle.local_cache.specs.Runs.{run}
-use Rattle.local_cache.proofs.TableRight.{left_free, right_as, run_gone}
+use Rattle.local_cache.proofs.TableRight.Alone.{right_as}
+use Rattle.local_cache.proofs.TableRight.Together.{left_free, run_gone}
 use Rattle.local_cache.proofs.runs.node_table.NodeTable.remove_run.Goals as goal
 
 pub invariant_of-self : goal.invariant_of-self

@@ -1,5 +1,6 @@
 use Rattle.std.proofs.Common.{max, arith}
-use Rattle.local_cache.proofs.TableRight.{more_room, right_as}
+use Rattle.local_cache.proofs.TableRight.Alone.{right_as}
+use Rattle.local_cache.proofs.TableRight.Thinnest.{more_room}
 use Rattle.local_cache.proofs.runs.node_table.NodeTable.reserve.Goals as goal
 
 pub invariant_of-self-in_err-reserve-2 : goal.invariant_of-self-in_err-reserve-2

@@ -1,4 +1,4 @@
-use Rattle.std.proofs.Common.{ap, subst, ◌∙◌}
+use Rattle.std.proofs.Common.{subst}
 use Rattle.local_cache.specs.NodeTable.{IsStandingAs, Table}
 use Rattle.std.specs.Prelude.{IfSome}
 use Rattle.local_cache.proofs.Alike.{standing}

@@ -1,4 +1,4 @@
-use Rattle.std.proofs.Common.{◌≡◌, ◌≢◌, ◌+◌, ◌<◌, ℕ, Some, None, true, refl, sym, ap, subst, ◌∙◌, arith}
+use Rattle.std.proofs.Common.{◌≡◌, ◌≢◌, ◌+◌, ℕ, Some, sym, ap, ◌∙◌, arith}
 use Rattle.std.specs.Prelude.{is_some}
 use Rattle.std.proofs.lemmas.Bool.{cond-true}
 use Rattle.std.proofs.lemmas.Option.{none-some}
@@ -11,7 +11,6 @@ use Rattle.stretches.proofs.Reading.Sayings.{place_said}
 use Rattle.stretches.proofs.Reading.Together.{together_one}
 use Rattle.mixed_map.proofs.Maps.{insert_other, insert_same}
 use Rattle.mixed_map.proofs.Telling.{gone}
-use Rattle.local_cache.specs.Arena.{Cell}
 use Rattle.local_cache.specs.NodeCells.{Cells}
 use Rattle.local_cache.specs.NodeTable.{Table}
 use Rattle.local_cache.specs.Runs.{run}

@@ -1,6 +1,6 @@
-use Rattle.std.proofs.Common.{ℕ, None, Some, ap, subst, ◌∙◌}
+use Rattle.std.proofs.Common.{None, Some, ap, subst, ◌∙◌}
 use Rattle.local_cache.specs.NodeTable.{IsLeastThin, Table}
-use Rattle.local_cache.proofs.TableRight.{first_alone, first_among, first_none, first_there}
+use Rattle.local_cache.proofs.TableRight.Thinnest.{first_alone, first_among, first_none, first_there}
 use Rattle.local_cache.proofs.runs.node_table.NodeTable.thin.Goals as goal
 
 pub place_of-requires : goal.place_of-requires

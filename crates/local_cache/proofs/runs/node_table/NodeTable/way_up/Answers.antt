@@ -1,14 +1,14 @@
-use Rattle.std.proofs.Common.{◌≡◌, ℕ, ◌-◌, ◌<◌, true, false, Option, Some, sym, ap, subst, ◌∙◌}
+use Rattle.std.proofs.Common.{ℕ, sym, ap, subst, ◌∙◌}
 use Rattle.std.specs.Prelude.{is_some, option_map}
 use Rattle.vm_ids.specs.declared.numbers.NodeId.{NodeId}
 use Rattle.local_cache.specs.Arena.{Cell}
-use Rattle.local_cache.specs.Looking.{IsFurtherUp, IsOwner}
+use Rattle.local_cache.specs.Looking.{IsOwner}
 use Rattle.mixed_map.specs.Mixed.{Tells}
-use Rattle.local_cache.specs.NodeCells.{cell_at, run_cell}
+use Rattle.local_cache.specs.NodeCells.{run_cell}
 use Rattle.local_cache.specs.NodeTable.{Table}
 use Rattle.local_cache.specs.Runs.{run}
 use Rattle.local_cache.specs.Own.{is_absent}
-use Rattle.local_cache.proofs.WayUp.{bare, has_parent, itself, more_up, next_up, one_up, same_owner, told_cell, told_first, way_falls}
+use Rattle.local_cache.proofs.WayUp.{has_parent, itself, more_up, one_up, same_owner, told_cell, told_first, way_falls}
 use Rattle.local_cache.proofs.runs.node_table.NodeTable.way_up.Goals as goal
 
 pub returns-then-not-is_absent : goal.returns-then-not-is_absent

@@ -1,10 +1,10 @@
-use Rattle.std.proofs.Common.{◌≡◌, ap, subst, ◌∙◌, arith}
+use Rattle.std.proofs.Common.{ap, subst, ◌∙◌, arith}
 use Rattle.std.specs.FinMap as map
 use Rattle.mixed_map.specs.Mixed.{without_range}
 use Rattle.vm_ids.specs.declared.node_name.NodeName.{NodeName}
 use Rattle.local_cache.specs.NodeKeys.{page_number}
 use Rattle.local_cache.specs.Pages.{HaveNodes}
-use Rattle.local_cache.proofs.TableRight.{len_range}
+use Rattle.local_cache.proofs.TableRight.Numbers.{len_range}
 use Rattle.local_cache.proofs.runs.page_table.PageTable.leave_named.Goals as goal
 
 pub returns-in-Live-clause-fewer : goal.returns-in-Live-clause-fewer

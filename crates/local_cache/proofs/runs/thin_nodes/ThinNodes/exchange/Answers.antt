@@ -1,4 +1,4 @@
-use Rattle.std.proofs.Common.{◌≡◌, ℕ, ap, ◌∙◌}
+use Rattle.std.proofs.Common.{ap, ◌∙◌}
 use Rattle.std.specs.FinMap as map
 use Rattle.mixed_map.proofs.Maps.{remove_same}
 use Rattle.local_cache.specs.ThinNodes.{Thin, changed_to}

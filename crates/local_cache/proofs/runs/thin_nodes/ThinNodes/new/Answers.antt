@@ -1,4 +1,4 @@
-use Rattle.std.proofs.Common.{◌≡◌, ◌≤◌, ℕ, List, [], sym, ap, ◌∙◌, arith}
+use Rattle.std.proofs.Common.{◌≡◌, List, sym, ap, ◌∙◌, arith}
 use Rattle.std.specs.FinMap.{len-empty}
 use Rattle.std.specs.FinMap as map
 use Rattle.least_heap.specs.Heaps.{Numbers}
