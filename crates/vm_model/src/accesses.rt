@@ -68,10 +68,8 @@ pub(crate) fn load(
         (answer_by Reply.Bytes result) (machine_seen tables.now) }
     ensures length { IfOk result (λ piece. length piece ≡ bytes) }
 {
-    match place_of(tables, actor, address, bytes) {
-        Ok(found) => Ok(bytes_at(tables, found, bytes)),
-        Err(refusal) => Err(Trouble::Refused(refusal)),
-    }
+    let found = place_of(tables, actor, address, bytes)?;
+    Ok(bytes_at(tables, found, bytes))
 }
 
 // These bytes stand in the page from this byte on.
@@ -130,10 +128,7 @@ fn place_to_store(
     ensures byte { IfOk result (λ f. f.byte + length piece.now ≤ tables.now.page_bytes) }
     ensures writes { IfOk result (λ f. f.region.may_write ≡ true) }
 {
-    let found = match place_of(tables, actor, address, piece.as_slice().len() as u8) {
-        Ok(found) => found,
-        Err(refusal) => return Err(Trouble::Refused(refusal)),
-    };
+    let found = place_of(tables, actor, address, piece.as_slice().len() as u8)?;
     if !found.region.may_write {
         return Err(Trouble::Refused(Refusal::Protection));
     }
@@ -160,10 +155,7 @@ pub(crate) fn check_store(
         (IsOkAnd (place (machine_seen tables.now) actor.0 address (length piece.now)) (λ at.
         at.page < pages_in (cache_of (machine_seen tables.now) at.region.cache))) }
 {
-    let found = match place_to_store(tables, actor, address, piece) {
-        Ok(found) => found,
-        Err(trouble) => return Err(trouble),
-    };
+    let found = place_to_store(tables, actor, address, piece)?;
     match segment_of(tables, found.region.cache) {
         Some(seg) => {
             prove!(found.page < tables.live as u64);
@@ -185,11 +177,7 @@ pub(crate) fn store(
         (Command.Store actor address piece.now) (answer_by (λ _. Reply.Done) result)
         (machine_seen tables.new) }
 {
-    match place_to_store(tables, actor, address, piece) {
-        Ok(found) => {
-            write_place(tables, found, piece.as_slice());
-            Ok(())
-        }
-        Err(trouble) => Err(trouble),
-    }
+    let found = place_to_store(tables, actor, address, piece)?;
+    write_place(tables, found, piece.as_slice());
+    Ok(())
 }

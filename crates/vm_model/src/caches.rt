@@ -217,13 +217,9 @@ pub(crate) fn destroy(tables: &mut Tables, cache: CacheId) -> Result<(), Trouble
     ensures outcome { PlainOutcome (machine_seen tables.old) (Command.Destroy cache)
         (answer_by (λ _. Reply.Done) result) (machine_seen tables.new) }
 {
-    match check_destroy(tables, cache) {
-        Ok(()) => {
-            let pages = page_count(tables, cache);
-            tables.live -= pages;
-            tables.caches[cache.0 as usize - 1] = None;
-            Ok(())
-        }
-        Err(trouble) => Err(trouble),
-    }
+    check_destroy(tables, cache)?;
+    let pages = page_count(tables, cache);
+    tables.live -= pages;
+    tables.caches[cache.0 as usize - 1] = None;
+    Ok(())
 }

@@ -64,10 +64,7 @@ pub(crate) fn check_flush(tables: &Tables, extent: &Extent) -> Result<SegId, Tro
     ensures unlocked { OnOk result (is_any_locked (machine_seen tables.now) extent.now.cache
         extent.now.first.0 extent.now.pages ≡ false) }
 {
-    let seg = match check_extent(tables, extent) {
-        Ok(seg) => seg,
-        Err(trouble) => return Err(trouble),
-    };
+    let seg = check_extent(tables, extent)?;
     if is_any_locked(tables, extent.cache, extent.first, extent.pages) {
         return Err(Trouble::Refused(Refusal::Locked));
     }
