@@ -1,6 +1,6 @@
 -- What an access keeps of a machine, and what its answers are.
 use Rattle.std.proofs.Common.{◌≡◌, ℕ, List, length, Option, Some, None, Ok, Err, refl, sym, ap, subst, ◌∙◌}
-use Rattle.std.specs.Prelude.{IsSome, Result}
+use Rattle.std.specs.Prelude.{IsSome}
 use Rattle.std.specs.Option.{option_map_or}
 use Rattle.vm_ids.specs.Accessing.{command_for}
 use Rattle.vm_ids.specs.Counting.{MapperCounts}
@@ -8,12 +8,11 @@ use Rattle.vm_ids.specs.Held.{Segments}
 use Rattle.vm_ids.specs.declared.access.Access.{Access}
 use Rattle.vm_ids.specs.declared.access.Access.TheVariants as accesses
 use Rattle.vm_ids.specs.declared.numbers.ActorId.{ActorId}
-use Rattle.vm_ids.specs.declared.refusal.Refusal.{Refusal}
 use Rattle.vm_ids.specs.declared.reply.Reply.TheVariants as replies
 use Rattle.vm_ids.specs.declared.reply.Trouble.TheVariants as troubles
 use Rattle.vm_model.specs.Answering.{Answer, Answered, answer_of, load_of, overwrite, page_at, put_cache, put_page, store_of, write_at}
 use Rattle.vm_model.specs.Machine.{Actor, Cache, Machine, actor_of, cache_of}
-use Rattle.vm_model.specs.Outcome.{IsAlike, Outcome, OutcomeAt, blank}
+use Rattle.vm_model.specs.Outcome.{IsAlike, Outcome, OutcomeAt}
 use Rattle.vm_model.specs.Place.{Place, place, place_of_actor}
 use Rattle.vm_model.specs.PageForest.{PageForest, forest_shown}
 use Rattle.vm_model.specs.Run.{IsUnrefused, State}

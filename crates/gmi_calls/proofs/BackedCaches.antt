@@ -1,10 +1,9 @@
 -- Segments back the caches of a machine where a cache comes, goes or gets other pages.
 use Rattle.std.proofs.Common.{◌≡◌, ◌⊎◌, ℕ, zero, suc, ◌+◌, ◌-◌, ◌<◌, ◌≤◌, Bool, true, false, List, [], ◌∷◌, ◌++◌, length, set, Option, Some, None, refl, sym, ap, subst, ◌∙◌, arith, inl, inr}
-use Rattle.std.specs.Prelude.{◌||◌, is_some, nat_lt, option_and_then, slice_get}
+use Rattle.std.specs.Prelude.{is_some, option_and_then, slice_get}
 use Rattle.std.specs.List.{list_any, range_with_len}
 use Rattle.std.specs.Option.{option_map_or}
 use Rattle.std.proofs.lemmas.Bool.{cases_eq, cases_lt}
-use Rattle.std.proofs.lemmas.Bool.Decides.{nat_tests}
 use Rattle.vm_ids.specs.Denying.{denies}
 use Rattle.vm_ids.specs.Held.{Segments}
 use Rattle.vm_model.specs.Machine.{Machine, Cache, Page, cache_of, cache_named, numbered}

@@ -23,10 +23,7 @@ pub(crate) fn store_asking<M: Mapper>(
     ensures { AccessCall M.Mapper eager NoPull mapper.old machine.old
         (Command.Store actor address piece.now) (done_by result) mapper.new machine.new }
 {
-    let place = match machine.check_store(actor, address, piece) {
-        Ok(place) => place,
-        Err(trouble) => return Err(trouble),
-    };
+    let place = machine.check_store(actor, address, piece)?;
     match may_store(place, mapper) {
         Ok(true) => machine.store(actor, address, piece),
         Ok(false) => Err(Trouble::Refused(Refusal::WriteDenied)),

@@ -101,8 +101,6 @@ fn trial_of(alloc: Global, script: &[&str], options: &[&str]) -> Result<Option<A
 pub fn trial_behind(alloc: Global, words: &[&str]) -> Result<Option<Asked>, NoMemory>
     ensures { IfOk result (λ asked. asked ≡ trial_behind (map (λ w. w.now) words.now)) }
 {
-    match part(alloc, words) {
-        Ok(parted) => trial_of(alloc, &parted.others, &parted.options),
-        Err(error) => Err(error),
-    }
+    let parted = part(alloc, words)?;
+    trial_of(alloc, &parted.others, &parted.options)
 }

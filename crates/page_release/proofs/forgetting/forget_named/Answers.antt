@@ -1,6 +1,6 @@
 use Rattle.std.proofs.Common.{◌≡◌, ◌+◌, Bool, true, false, List, None, is_some, sym, ap, ◌∙◌, subst}
 use Rattle.vm_ids.specs.declared.node_name.NodeName.{NodeName}
-use Rattle.vm_ids.specs.Forest.Commands.{page_names}
+use Rattle.vm_ids.specs.Forest.Commands.{extent_names, page_names}
 use Rattle.vm_ids.specs.Forest.Forgetting.{forgotten}
 use Rattle.vm_ids.specs.Forest.Nodes.{Forest}
 use Rattle.vm_ids.proofs.Forest.Laws.Ranges.{ranges_hold_their_pages}
@@ -19,7 +19,7 @@ use Rattle.page_release.proofs.forgetting.forget_named.Goals as goal
 pub returns-then-is_some-clause-whole : goal.returns-then-is_some-clause-whole
 returns-then-is_some-clause-whole c =
     let e = c.forget_pages.ensures in
-    forgotten_whole c.args.caches.now c.forget_pages.new.caches (page_names c.args.cache c.args.first.0 c.args.pages) c.requires.whole e.same e.kept.sound e.rule.nodes
+    forgotten_whole c.args.caches.now c.forget_pages.new.caches (extent_names c.args.extent) c.requires.whole e.same e.kept.sound e.rule.nodes
 
 -- a named cache's pages are forgotten, and those of a temporary one stay
 where_named : {P : Type 0} (named : Bool) (names : List NodeName) (p : P) (f : Forest P) → named ≡ true → forgotten names p f ≡ forgotten_where named names p f
@@ -32,31 +32,31 @@ pub returns-then-is_some-clause-rule : goal.returns-then-is_some-clause-rule
 returns-then-is_some-clause-rule c =
     let a = c.args.caches.now in
     let s = c.args.store.now in
-    let names = page_names c.args.cache c.args.first.0 c.args.pages in
+    let names = extent_names c.args.extent in
     let e = c.forget_pages.ensures.rule in
-    let named : is_named a c.args.cache ≡ true = sym (ap is_some c.segment.ensures) ∙ sym c.is_some.ensures ∙ c.if-is_some.true in
+    let named : is_named a c.args.extent.cache ≡ true = sym (ap is_some c.segment.ensures) ∙ sym c.is_some.ensures ∙ c.if-is_some.true in
     record {
-      nodes = e.nodes ∙ where_named (is_named a c.args.cache) names Zero (forest_of a) named;
-      forest = λ told size fit. let w = world told size a s in e.forest told size fit ∙ where_named (is_named a c.args.cache) names (zeros_told w) (store_forest w) named;
-      frames = e.frames ∙ where_named (is_named a c.args.cache) names None (frame_forest a s.map) named;
+      nodes = e.nodes ∙ where_named (is_named a c.args.extent.cache) names Zero (forest_of a) named;
+      forest = λ told size fit. let w = world told size a s in e.forest told size fit ∙ where_named (is_named a c.args.extent.cache) names (zeros_told w) (store_forest w) named;
+      frames = e.frames ∙ where_named (is_named a c.args.extent.cache) names None (frame_forest a s.map) named;
     }
 
 pub returns-else-is_some-clause-rule : goal.returns-else-is_some-clause-rule
 returns-else-is_some-clause-rule c =
     let a = c.args.caches.now in
     let s = c.args.store.now in
-    let names = page_names c.args.cache c.args.first.0 c.args.pages in
-    let temporary : is_named a c.args.cache ≡ false = sym (ap is_some c.segment.ensures) ∙ sym c.is_some.ensures ∙ c.if-is_some.false in
+    let names = extent_names c.args.extent in
+    let temporary : is_named a c.args.extent.cache ≡ false = sym (ap is_some c.segment.ensures) ∙ sym c.is_some.ensures ∙ c.if-is_some.false in
     record {
-      nodes = where_temporary (is_named a c.args.cache) names Zero (forest_of a) temporary;
-      forest = λ told size fit. let w = world told size a s in where_temporary (is_named a c.args.cache) names (zeros_told w) (store_forest w) temporary;
-      frames = where_temporary (is_named a c.args.cache) names None (frame_forest a s.map) temporary;
+      nodes = where_temporary (is_named a c.args.extent.cache) names Zero (forest_of a) temporary;
+      forest = λ told size fit. let w = world told size a s in where_temporary (is_named a c.args.extent.cache) names (zeros_told w) (store_forest w) temporary;
+      frames = where_temporary (is_named a c.args.extent.cache) names None (frame_forest a s.map) temporary;
     }
 
 pub returns-else-is_some-clause-unclean : goal.returns-else-is_some-clause-unclean
 returns-else-is_some-clause-unclean c x i =
-    let at = (ranges_hold_their_pages c.args.cache c.args.first.0 c.args.pages x).0 i in
-    subst (IsUnclean c.args.caches.now) (sym at.2) (temporary_unclean c.args.caches.now c.args.cache c.args.store.now c.requires.tied (sym (ap is_some c.segment.ensures) ∙ sym c.is_some.ensures ∙ c.if-is_some.false) (record { 0 = c.args.first.0 + at.0 }))
+    let at = (ranges_hold_their_pages c.args.extent.cache c.args.extent.first.0 c.args.extent.pages x).0 i in
+    subst (IsUnclean c.args.caches.now) (sym at.2) (temporary_unclean c.args.caches.now c.args.extent.cache c.args.store.now c.requires.tied (sym (ap is_some c.segment.ensures) ∙ sym c.is_some.ensures ∙ c.if-is_some.false) (record { 0 = c.args.extent.first.0 + at.0 }))
 
 pub returns-else-is_some-clause-kept : goal.returns-else-is_some-clause-kept
-returns-else-is_some-clause-kept c = kept_none (page_names c.args.cache c.args.first.0 c.args.pages) c.args.store.now c.args.caches.now c.requires.whole.sound c.requires.tied
+returns-else-is_some-clause-kept c = kept_none (extent_names c.args.extent) c.args.store.now c.args.caches.now c.requires.whole.sound c.requires.tied

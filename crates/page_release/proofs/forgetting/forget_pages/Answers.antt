@@ -1,6 +1,6 @@
 use Rattle.std.proofs.Common.{ℕ, ◌+◌, [], ◌∷◌, None, refl, sym, ap, ◌∙◌, subst, inl, inr, arith}
 use Rattle.std.specs.Prelude.{option_map, replicate}
-use Rattle.vm_ids.specs.Forest.Commands.{page_name, page_names}
+use Rattle.vm_ids.specs.Forest.Commands.{extent_names, page_name, page_names}
 use Rattle.vm_ids.specs.Forest.Forgetting.{forget, forgotten}
 use Rattle.vm_ids.specs.Forest.NameLists.{◌∈◌}
 use Rattle.std.proofs.lemmas.Bool.{cases_eq}
@@ -21,34 +21,34 @@ pub loop-page-init : goal.loop-page-init
 loop-page-init c =
     let a = c.args.caches.now in
     let s = c.args.store.now in
-    let start = names_start c.args.cache c.args.first.0 c.args.pages in
+    let start = names_start c.args.extent.cache c.args.extent.first.0 c.args.extent.pages in
     record {
       nodes = ap (λ xs. forgotten xs Zero (forest_of a)) (sym start);
       forest = λ told size fit. let w = world told size a s in ap (λ xs. forgotten xs (zeros_told w) (store_forest w)) (sym start);
       frames = ap (λ xs. forgotten xs None (frame_forest a s.map)) (sym start);
-      kept = kept_none (page_names c.args.cache c.args.first.0 c.args.pages) s a c.requires.sound c.requires.tied;
+      kept = kept_none (extent_names c.args.extent) s a c.requires.sound c.requires.tied;
       same = same a;
       unclean = λ i low. absurd (omega (arith, low));
       count = refl;
     }
 
 pub forget_page-requires-clause-node : goal.forget_page-requires-clause-node
-forget_page-requires-clause-node c = range_stays c.args.caches.now c.loop-page.caches c.loop-page.invariant.same c.requires.sound c.args.cache c.args.first.0 c.args.pages c.loop-page.page c.requires.nodes c.loop-page-test.true
+forget_page-requires-clause-node c = range_stays c.args.caches.now c.loop-page.caches c.loop-page.invariant.same c.requires.sound c.args.extent.cache c.args.extent.first.0 c.args.extent.pages c.loop-page.page c.requires.nodes c.loop-page-test.true
 
 pub forget_page-requires-clause-unpinned : goal.forget_page-requires-clause-unpinned
 forget_page-requires-clause-unpinned c =
-    let x = page_name c.args.cache (c.args.first.0 + c.loop-page.page) in
-    unpinned_kept (page_names c.args.cache c.args.first.0 c.args.pages) c.args.store.now c.args.caches.now c.loop-page.store c.loop-page.caches c.requires.tied c.loop-page.invariant.kept x
-    (c.requires.unpinned x (in_range c.args.cache c.args.first.0 c.args.pages c.loop-page.page c.loop-page-test.true))
+    let x = page_name c.args.extent.cache (c.args.extent.first.0 + c.loop-page.page) in
+    unpinned_kept (extent_names c.args.extent) c.args.store.now c.args.caches.now c.loop-page.store c.loop-page.caches c.requires.tied c.loop-page.invariant.kept x
+    (c.requires.unpinned x (in_range c.args.extent.cache c.args.extent.first.0 c.args.extent.pages c.loop-page.page c.loop-page-test.true))
 
 pub loop-page-preserved : goal.loop-page-preserved
 loop-page-preserved c =
     let i = c.loop-page.invariant in
     let k = c.loop-page.page in
     let low = c.loop-page-test.true in
-    let cache = c.args.cache in
-    let p = c.args.first.0 in
-    let n = c.args.pages in
+    let cache = c.args.extent.cache in
+    let p = c.args.extent.first.0 in
+    let n = c.args.extent.pages in
     let s = c.args.store.now in
     let o = c.args.caches.now in
     let t = c.loop-page.store in
@@ -80,7 +80,7 @@ returns-clause-rule c =
     let i = c.loop-page.invariant in
     let a = c.loop-page.caches in
     let t = c.loop-page.store in
-    let none = names_end c.args.cache (c.args.first.0 + c.loop-page.page) c.args.pages c.loop-page.page (omega (arith, c.loop-page-test.false)) in
+    let none = names_end c.args.extent.cache (c.args.extent.first.0 + c.loop-page.page) c.args.extent.pages c.loop-page.page (omega (arith, c.loop-page-test.false)) in
     record {
       nodes = ap (λ xs. forgotten xs Zero (forest_of a)) (sym none) ∙ i.nodes;
       forest = λ told size fit. ap (λ xs. forgotten xs (zeros_told (world told size c.args.caches.now c.args.store.now)) (store_forest (world told size a t))) (sym none) ∙ i.forest told size fit;
@@ -89,5 +89,5 @@ returns-clause-rule c =
 
 pub returns-clause-unclean : goal.returns-clause-unclean
 returns-clause-unclean c x j =
-    let at = (ranges_hold_their_pages c.args.cache c.args.first.0 c.args.pages x).0 j in
+    let at = (ranges_hold_their_pages c.args.extent.cache c.args.extent.first.0 c.args.extent.pages x).0 j in
     subst (IsUnclean c.loop-page.caches) (sym at.2) (c.loop-page.invariant.unclean at.0 (omega (arith, at.1, c.loop-page-test.false)))

@@ -1,6 +1,6 @@
 use Rattle.std.proofs.Common.{◌≡◌, ◌≤◌, ◌<◌, ◌+◌, ◌-◌, refl, sym, ap, ◌∙◌, subst, inl, inr, arith}
 use Rattle.std.proofs.lemmas.Bool.{cases_lt}
-use Rattle.vm_ids.specs.Forest.Commands.{page_name, page_names}
+use Rattle.vm_ids.specs.Forest.Commands.{extent_names, page_name, page_names}
 use Rattle.vm_ids.proofs.Forest.Laws.Ranges.{ranges_hold_their_pages}
 use Rattle.residency.proofs.Worlds.Nodes.{same, same_then}
 use Rattle.page_release.specs.Homes.{MayGo}
@@ -12,10 +12,10 @@ use Rattle.page_release.proofs.forgetting.forget_range.Goals as goal
 
 pub loop-done-init : goal.loop-done-init
 loop-done-init c =
-    let all = page_names c.args.cache c.args.first.0 c.args.pages in
+    let all = extent_names c.args.extent in
     record {
       most = omega arith;
-      rule = forgets_none c.args.cache all c.args.store.now c.args.caches.now;
+      rule = forgets_none c.args.extent.cache all c.args.store.now c.args.caches.now;
       kept = kept_none all c.args.store.now c.args.caches.now c.requires.sound c.requires.tied;
       same = same c.args.caches.now;
       may = λ i low. absurd (omega (arith, low));
@@ -23,16 +23,16 @@ loop-done-init c =
     }
 
 pub forget_next-done-requires-clause-node : goal.forget_next-done-requires-clause-node
-forget_next-done-requires-clause-node c = range_stays c.args.caches.now c.loop-done.caches c.loop-done.invariant.same c.requires.sound c.args.cache c.args.first.0 c.args.pages c.loop-done.done c.requires.nodes c.loop-done-test.true
+forget_next-done-requires-clause-node c = range_stays c.args.caches.now c.loop-done.caches c.loop-done.invariant.same c.requires.sound c.args.extent.cache c.args.extent.first.0 c.args.extent.pages c.loop-done.done c.requires.nodes c.loop-done-test.true
 
 pub forget_next-done-requires-clause-named : goal.forget_next-done-requires-clause-named
-forget_next-done-requires-clause-named c = named_same c.args.caches.now c.loop-done.caches c.loop-done.invariant.kept.sizes c.args.cache ∙ c.requires.named
+forget_next-done-requires-clause-named c = named_same c.args.caches.now c.loop-done.caches c.loop-done.invariant.kept.sizes c.args.extent.cache ∙ c.requires.named
 
 pub forget_next-done-requires-clause-unpinned : goal.forget_next-done-requires-clause-unpinned
 forget_next-done-requires-clause-unpinned c =
-    let x = page_name c.args.cache (c.args.first.0 + c.loop-done.done) in
-    unpinned_kept (page_names c.args.cache c.args.first.0 c.args.pages) c.args.store.now c.args.caches.now c.loop-done.store c.loop-done.caches c.requires.tied c.loop-done.invariant.kept x
-    (c.requires.unpinned x (in_range c.args.cache c.args.first.0 c.args.pages c.loop-done.done c.loop-done-test.true))
+    let x = page_name c.args.extent.cache (c.args.extent.first.0 + c.loop-done.done) in
+    unpinned_kept (extent_names c.args.extent) c.args.store.now c.args.caches.now c.loop-done.store c.loop-done.caches c.requires.tied c.loop-done.invariant.kept x
+    (c.requires.unpinned x (in_range c.args.extent.cache c.args.extent.first.0 c.args.extent.pages c.loop-done.done c.loop-done-test.true))
 
 pub loop-done-preserved : goal.loop-done-preserved
 loop-done-preserved c =
@@ -40,9 +40,9 @@ loop-done-preserved c =
     let k = c.loop-done.done in
     let e = c.forget_next-done.ensures in
     let m = c.forget_next-done.result in
-    let cache = c.args.cache in
-    let p = c.args.first.0 in
-    let n = c.args.pages in
+    let cache = c.args.extent.cache in
+    let p = c.args.extent.first.0 in
+    let n = c.args.extent.pages in
     let s = c.args.store.now in
     let o = c.args.caches.now in
     let t = c.loop-done.store in
@@ -72,5 +72,5 @@ loop-done-preserved c =
 
 pub returns-clause-may : goal.returns-clause-may
 returns-clause-may c x j =
-    let at = (ranges_hold_their_pages c.args.cache c.args.first.0 c.args.pages x).0 j in
+    let at = (ranges_hold_their_pages c.args.extent.cache c.args.extent.first.0 c.args.extent.pages x).0 j in
     subst (MayGo c.loop-done.caches) (sym at.2) (c.loop-done.invariant.may at.0 (omega (arith, at.1, c.loop-done-test.false)))

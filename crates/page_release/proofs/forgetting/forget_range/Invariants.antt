@@ -1,5 +1,5 @@
 use Rattle.std.proofs.Common.{◌≡◌, ℕ, ◌+◌, ◌-◌, ◌<◌, ◌≤◌, length}
-use Rattle.vm_ids.specs.Forest.Commands.{page_name, page_names}
+use Rattle.vm_ids.specs.Forest.Commands.{extent_names, page_name, page_names}
 use Rattle.local_cache.specs.Own.{own_states}
 use Rattle.residency.specs.World.{SameNodes}
 use Rattle.page_release.specs.Homes.{MayGo}
@@ -9,15 +9,15 @@ use Rattle.page_release.proofs.forgetting.forget_range.Given as goal
 
 abbrev pub invariant-loop-done : goal.invariant-loop-done
 invariant-loop-done l =
-    let all = page_names l.cache l.first.0 l.pages in
+    let all = extent_names l.extent in
     record {
-      most : l.done ≤ l.pages;
-      rule : ForgetsSome l.cache all l.fn.store l.fn.caches l.store l.caches;
+      most : l.done ≤ l.extent.pages;
+      rule : ForgetsSome l.extent.cache all l.fn.store l.fn.caches l.store l.caches;
       kept : Releases all l.fn.store l.fn.caches l.store l.caches;
       same : SameNodes l.fn.caches l.caches;
-      may : (i : ℕ) → i < l.done → MayGo l.caches (page_name l.cache (l.first.0 + i));
+      may : (i : ℕ) → i < l.done → MayGo l.caches (page_name l.extent.cache (l.extent.first.0 + i));
       count : length (own_states l.caches) ≡ length (own_states l.fn.caches);
     }
 
 abbrev pub decreases-loop-done : goal.decreases-loop-done
-decreases-loop-done l = l.pages - l.done
+decreases-loop-done l = l.extent.pages - l.done

@@ -1,5 +1,5 @@
 use Rattle.std.proofs.Common.{◌+◌, is_some, sym, ap, ◌∙◌, subst, inl}
-use Rattle.vm_ids.specs.Forest.Commands.{page_names}
+use Rattle.vm_ids.specs.Forest.Commands.{extent_names, page_names}
 use Rattle.vm_ids.proofs.Forest.Laws.Ranges.{ranges_hold_their_pages}
 use Rattle.page_release.specs.Homes.{MayGo}
 use Rattle.page_release.proofs.Forgotten.Law.{forgotten_whole}
@@ -17,12 +17,12 @@ returns-then-is_some-clause-whole c =
     forgotten_whole c.args.caches.now c.forget_range.new.caches e.rule.some c.requires.whole e.same e.kept.sound e.rule.rule.nodes
 
 pub returns-else-is_some-clause-rule : goal.returns-else-is_some-clause-rule
-returns-else-is_some-clause-rule c = forgets_none c.args.cache (page_names c.args.cache c.args.first.0 c.args.pages) c.args.store.now c.args.caches.now
+returns-else-is_some-clause-rule c = forgets_none c.args.extent.cache (extent_names c.args.extent) c.args.store.now c.args.caches.now
 
 pub returns-else-is_some-clause-kept : goal.returns-else-is_some-clause-kept
-returns-else-is_some-clause-kept c = kept_none (page_names c.args.cache c.args.first.0 c.args.pages) c.args.store.now c.args.caches.now c.requires.whole.sound c.requires.tied
+returns-else-is_some-clause-kept c = kept_none (extent_names c.args.extent) c.args.store.now c.args.caches.now c.requires.whole.sound c.requires.tied
 
 pub returns-else-is_some-clause-may : goal.returns-else-is_some-clause-may
 returns-else-is_some-clause-may c x i =
-    let at = (ranges_hold_their_pages c.args.cache c.args.first.0 c.args.pages x).0 i in
-    subst (MayGo c.args.caches.now) (sym at.2) (inl (temporary_unclean c.args.caches.now c.args.cache c.args.store.now c.requires.tied (sym (ap is_some c.segment.ensures) ∙ sym c.is_some.ensures ∙ c.if-is_some.false) (record { 0 = c.args.first.0 + at.0 })))
+    let at = (ranges_hold_their_pages c.args.extent.cache c.args.extent.first.0 c.args.extent.pages x).0 i in
+    subst (MayGo c.args.caches.now) (sym at.2) (inl (temporary_unclean c.args.caches.now c.args.extent.cache c.args.store.now c.requires.tied (sym (ap is_some c.segment.ensures) ∙ sym c.is_some.ensures ∙ c.if-is_some.false) (record { 0 = c.args.extent.first.0 + at.0 })))

@@ -4,7 +4,7 @@ use Rattle.std.proofs.lemmas.Bool.{false≢true}
 use Rattle.vm_ids.proofs.Forest.Laws.Ranges.{ranges_hold_their_pages}
 use Rattle.vm_ids.specs.declared.node_name.NodeName.{NodeName}
 use Rattle.vm_ids.specs.declared.node_name.NodeName.TheVariants.{Working}
-use Rattle.vm_ids.specs.Forest.Commands.{page_name, page_names, replace_pages}
+use Rattle.vm_ids.specs.Forest.Commands.{extent_names, page_name, page_names, replace_pages}
 use Rattle.vm_ids.specs.Forest.NameLists.{◌∈◌}
 use Rattle.vm_ids.specs.Forest.Nodes.{Forest}
 use Rattle.vm_ids.specs.Forest.Settling.{settle}
@@ -32,24 +32,24 @@ use Rattle.page_release.proofs.CommandSteps.Settled.{pages_kept}
 use Rattle.page_release.proofs.invalidating.invalidate_and_settle.Goals as goal
 
 pub replace_each-requires-clause-named : goal.replace_each-requires-clause-named
-replace_each-requires-clause-named c = named_same c.args.caches.now c.forget_touched.new.caches c.forget_touched.ensures.kept.sizes c.args.cache ∙ c.requires.named
+replace_each-requires-clause-named c = named_same c.args.caches.now c.forget_touched.new.caches c.forget_touched.ensures.kept.sizes c.args.extent.cache ∙ c.requires.named
 
 pub replace_each-requires-clause-nodes : goal.replace_each-requires-clause-nodes
 replace_each-requires-clause-nodes c i low =
     let f = c.forget_touched.ensures in
-    like_node c.args.caches.now c.forget_touched.new.caches f.kept.sound (still_like c.args.caches.now c.forget_touched.new.caches f.same) (page_name c.args.cache (c.args.first.0 + i)) (c.requires.nodes i low)
+    like_node c.args.caches.now c.forget_touched.new.caches f.kept.sound (still_like c.args.caches.now c.forget_touched.new.caches f.same) (page_name c.args.extent.cache (c.args.extent.first.0 + i)) (c.requires.nodes i low)
 
 pub replace_each-requires-clause-retire : goal.replace_each-requires-clause-retire
 replace_each-requires-clause-retire c =
     let f = c.forget_touched.ensures in
-    retire_kept c.args.caches.now c.forget_touched.new.caches f.same _ (page_names c.args.cache c.args.first.0 c.args.pages) c.args.store.now c.forget_touched.new.store f.kept f.whole _ c.requires.ready.retire
+    retire_kept c.args.caches.now c.forget_touched.new.caches f.same _ (extent_names c.args.extent) c.args.store.now c.forget_touched.new.store f.kept f.whole _ c.requires.ready.retire
 
 pub replace_each-requires-clause-room : goal.replace_each-requires-clause-room
 replace_each-requires-clause-room c = let room = ap (λ (a : Arena). a.room.nodes) c.forget_touched.ensures.same.rest in omega (arith, room, c.requires.room.room)
 
 pub settle-requires-clause-unpinned : goal.settle-requires-clause-unpinned
 settle-requires-clause-unpinned c k =
-    let names = page_names c.args.cache c.args.first.0 c.args.pages in
+    let names = extent_names c.args.extent in
     let f = c.forget_touched.ensures in
     let r = c.replace_each.ensures in
     unpinned_kept names c.forget_touched.new.store c.forget_touched.new.caches c.replace_each.new.store c.replace_each.new.caches f.kept.tied r.kept (Working k)
@@ -66,10 +66,10 @@ returns-clause-rule c =
     let sound = c.requires.ready.retire.whole.sound in
     let consistent = c.requires.ready.retire.whole.consistent in
     let saved = c.requires.ready.saved in
-    let names = page_names c.args.cache c.args.first.0 c.args.pages in
+    let names = extent_names c.args.extent in
     let b = c.forget_touched.new in
     let named = c.requires.named in
-    let there = pages_of (forest_of a) c.args.cache c.args.first.0 c.args.pages c.requires.nodes in
+    let there = pages_of (forest_of a) c.args.extent.cache c.args.extent.first.0 c.args.extent.pages c.requires.nodes in
     let among : (x : NodeName) → x ∈ f.rule.some → x ∈ names = λ x i. (f.rule.among x i).1 in
     record {
       nodes =
@@ -92,7 +92,7 @@ returns-clause-rule c =
 
 pub returns-clause-kept : goal.returns-clause-kept
 returns-clause-kept c =
-    let names = page_names c.args.cache c.args.first.0 c.args.pages in
+    let names = extent_names c.args.extent in
     let s = c.args.store.now in
     let a = c.args.caches.now in
     let t = c.forget_touched.new.store in
@@ -104,23 +104,23 @@ returns-clause-kept c =
     kept_then names [] names s a u d c.settle.new.store c.settle.new.caches c.requires.ready.retire.tied (λ x i. i) (λ x i. absurd i) both c.settle.ensures.kept
 
 -- each of the pages is one of its segment's in the end
-clean_now : (c : goal.After-settle) → (x : NodeName) → x ∈ page_names c.args.cache c.args.first.0 c.args.pages → IsClean c.settle.new.caches x
+clean_now : (c : goal.After-settle) → (x : NodeName) → x ∈ extent_names c.args.extent → IsClean c.settle.new.caches x
 clean_now c x i =
-    let at = (ranges_hold_their_pages c.args.cache c.args.first.0 c.args.pages x).0 i in
+    let at = (ranges_hold_their_pages c.args.extent.cache c.args.extent.first.0 c.args.extent.pages x).0 i in
     let d = c.settle.new.caches in
-    let home = named_home d c.args.cache (named_same c.args.caches.now d (returns-clause-kept c).sizes c.args.cache ∙ c.requires.named) (record { 0 = c.args.first.0 + at.0 }) in
+    let home = named_home d c.args.extent.cache (named_same c.args.caches.now d (returns-clause-kept c).sizes c.args.extent.cache ∙ c.requires.named) (record { 0 = c.args.extent.first.0 + at.0 }) in
     clean_then [] c.replace_each.new.caches d c.settle.ensures.kept.homes x (subst (HasHome d) (sym at.2) home) (λ k. k) (c.replace_each.ensures.clean x i)
 
 pub returns-clause-pages : goal.returns-clause-pages
 returns-clause-pages c =
-    let names = page_names c.args.cache c.args.first.0 c.args.pages in
+    let names = extent_names c.args.extent in
     let a = c.args.caches.now in
     let d = c.settle.new.caches in
     let f = c.forget_touched.ensures in
     let r = c.replace_each.ensures in
     let e = c.settle.ensures in
     let kept = returns-clause-kept c in
-    pages_kept c.args.pages names c.args.store.now a c.forget_touched.new.caches c.replace_each.new.caches c.settle.new.store d kept c.requires.ready.retire.whole c.requires.room f.same
+    pages_kept c.args.extent.pages names c.args.store.now a c.forget_touched.new.caches c.replace_each.new.caches c.settle.new.store d kept c.requires.ready.retire.whole c.requires.room f.same
     f.whole r.grows r.kept.sizes e.rule.nodes e.kept.sound e.kept.sizes e.settled e.bounded e.counters.0 e.room
     (λ n some i unclean. absurd (false≢true (sym unclean ∙ clean_now c (name_of d n) i n refl))) (ap (λ (g : Forest OwnState). g.copies) (returns-clause-rule c).nodes ∙ (settle-counters (replace_pages (held_pages new_states names) (forest_of a))).copies ∙ replace_pages-copies (held_pages new_states names) (forest_of a))
 
@@ -128,4 +128,4 @@ pub returns-clause-translations : goal.returns-clause-translations
 returns-clause-translations c =
     let a = c.args.caches.now in
     replace_replaces a c.args.store.now c.settle.new.caches c.settle.new.store c.requires.ready.retire.whole.sound c.requires.ready.retire.whole.consistent (returns-clause-kept c).tables
-    (page_names c.args.cache c.args.first.0 c.args.pages) (pages_of (forest_of a) c.args.cache c.args.first.0 c.args.pages c.requires.nodes) (returns-clause-rule c).nodes (returns-clause-rule c).frames
+    (extent_names c.args.extent) (pages_of (forest_of a) c.args.extent.cache c.args.extent.first.0 c.args.extent.pages c.requires.nodes) (returns-clause-rule c).nodes (returns-clause-rule c).frames

@@ -1,4 +1,4 @@
-use Rattle.vm_ids.specs.Forest.Commands.{page_names}
+use Rattle.vm_ids.specs.Forest.Commands.{extent_names, page_names}
 use Rattle.vm_ids.specs.Forest.NameLists.{◌∈◌}
 use Rattle.page_release.proofs.StaleTranslations.Behind.{goes_behind, kept_behind, pages_behind, ready_behind}
 use Rattle.page_release.proofs.StaleTranslations.Left.{leaves, ready_first}
@@ -9,7 +9,7 @@ pub invalidate_and_settle-requires-clause-ready : goal.invalidate_and_settle-req
 invalidate_and_settle-requires-clause-ready c =
     let s = c.args.store.now in
     let t = c.drop_seen.new.store in
-    ready_behind s t (tables_mapped s t _ c.drop_seen.ensures) c.args.caches.now c.args.pages c.args.cache (page_names c.args.cache c.args.first.0 c.args.pages) c.requires.ready
+    ready_behind s t (tables_mapped s t _ c.drop_seen.ensures) c.args.caches.now c.args.extent.pages c.args.extent.cache (extent_names c.args.extent) c.requires.ready
 
 pub returns-clause-rule : goal.returns-clause-rule
 returns-clause-rule c =
@@ -21,18 +21,18 @@ pub returns-clause-kept : goal.returns-clause-kept
 returns-clause-kept c =
     let s = c.args.store.now in
     let t = c.drop_seen.new.store in
-    kept_behind s t (tables_mapped s t _ c.drop_seen.ensures) c.args.caches.now c.invalidate_and_settle.new.store c.invalidate_and_settle.new.caches (page_names c.args.cache c.args.first.0 c.args.pages) c.invalidate_and_settle.ensures.kept
+    kept_behind s t (tables_mapped s t _ c.drop_seen.ensures) c.args.caches.now c.invalidate_and_settle.new.store c.invalidate_and_settle.new.caches (extent_names c.args.extent) c.invalidate_and_settle.ensures.kept
 
 pub returns-clause-pages : goal.returns-clause-pages
 returns-clause-pages c =
     let s = c.args.store.now in
     let t = c.drop_seen.new.store in
-    pages_behind s t (tables_mapped s t _ c.drop_seen.ensures) c.args.caches.now c.invalidate_and_settle.new.store c.invalidate_and_settle.new.caches c.args.pages c.invalidate_and_settle.ensures.pages
+    pages_behind s t (tables_mapped s t _ c.drop_seen.ensures) c.args.caches.now c.invalidate_and_settle.new.store c.invalidate_and_settle.new.caches c.args.extent.pages c.invalidate_and_settle.ensures.pages
 
 pub returns-clause-translations : goal.returns-clause-translations
 returns-clause-translations c =
     let a = c.args.caches.now in
     let s = c.args.store.now in
     let t = c.drop_seen.new.store in
-    let names = page_names c.args.cache c.args.first.0 c.args.pages in
+    let names = extent_names c.args.extent in
     leaves (λ x. x ∈ names) (λ x. x ∈ names) (λ x. ⊥) a s t c.invalidate_and_settle.new.caches c.invalidate_and_settle.new.store (ready_first a names s t c.drop_seen.ensures) c.invalidate_and_settle.ensures.translations

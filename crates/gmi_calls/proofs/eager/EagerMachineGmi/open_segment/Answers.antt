@@ -1,4 +1,5 @@
 use Rattle.std.proofs.Common.{◌≡◌, ℕ, List, Vec, Global, Some, Ok, Err, length, map, sym, ap, subst, ◌∙◌}
+use Rattle.std.proofs.result.Match.{err_is}
 use Rattle.std.specs.Prelude.{All, IfSome, Result}
 use Rattle.vm_port.specs.declared.traits.failed.Failed.{Failed}
 use Rattle.gmi_calls.specs.Reaching.{ArePagesOf}
@@ -19,13 +20,14 @@ use Rattle.gmi_calls.proofs.eager.EagerMachineGmi.open_segment.Given.{Over}
 use Rattle.gmi_calls.proofs.eager.EagerMachineGmi.open_segment.Goals.{After-open_segment, After-pull_pages}
 use Rattle.gmi_calls.proofs.eager.EagerMachineGmi.open_segment.Goals as goal
 
-pub returns-in-Err : goal.returns-in-Err
-returns-in-Err g c =
+pub returns-in_err-check_open : goal.returns-in_err-check_open
+returns-in_err-check_open g c =
     let m = c.args.self.now in
-    eager_left g.M.Mapper _ m m (commands.OpenSegment c.args.seg) (Err c.in-Err.trouble) tt c.requires.valid c.requires.valid.whole c.in-Err.ensures.refused tt
+    rw (err_is c.from_residual.result _ c.from_residual.ensures.1)
+    (eager_left g.M.Mapper _ m m (commands.OpenSegment c.args.seg) (Err c.in_err-check_open.field-0.0) tt c.requires.valid c.requires.valid.whole c.in_err-check_open.ensures.refused tt)
 
-pub returns-in_default-size : goal.returns-in_default-size
-returns-in_default-size g c =
+pub returns-in_default : goal.returns-in_default
+returns-in_default g c =
     let m = c.args.self.now in
     let command = commands.OpenSegment c.args.seg in
     let told = g.M.Mapper.held c.args.mapper.now in
@@ -33,34 +35,35 @@ returns-in_default-size g c =
     let R = reached_one 0 0 _ _ c.size.result c.size.ensures.counts in
     eager_call g.M.Mapper _ _ m m command answer (subst (IsReady m) (sym c.size.ensures.held) c.requires.valid)
     (call_reached told _ _ _ m m command answer c.size.result c.size.ensures.held R c.requires.valid.whole c.requires.valid.whole tt
-    (every_segments told m m command answer R.rises (λ s. c.in_default.ensures.fault s R.rises (fault_counted 0 0 c.size.result _ c.in_default-size.is))) tt)
+    (every_segments told m m command answer R.rises (λ s. c.in_ok-check_open.ensures.fault s R.rises (fault_counted 0 0 c.size.result _ c.in_default.is))) tt)
     tt c.size.ensures.page
 
-pub returns-in-Err-room_for : goal.returns-in-Err-room_for
-returns-in-Err-room_for g c =
+pub returns-in_err-pages : goal.returns-in_err-pages
+returns-in_err-pages g c =
     let m = c.args.self.now in
     let command = commands.OpenSegment c.args.seg in
     let told = g.M.Mapper.held c.args.mapper.now in
-    let answer = Err c.in-Err-room_for.trouble in
+    let answer = Err c.in_err-pages.field-0.0 in
     let R = reached_one 0 0 _ _ c.size.result c.size.ensures.counts in
-    eager_call g.M.Mapper _ _ m m command answer (subst (IsReady m) (sym c.size.ensures.held) c.requires.valid)
+    rw (err_is c.from_residual-in_err-pages.result _ c.from_residual-in_err-pages.ensures.1)
+    (eager_call g.M.Mapper _ _ m m command answer (subst (IsReady m) (sym c.size.ensures.held) c.requires.valid)
     (call_reached told _ _ _ m m command answer c.size.result c.size.ensures.held R c.requires.valid.whole c.requires.valid.whole tt
-    (sized_for told m command answer c.args.seg.0 c.in-Ok.size R.rises c.in-Ok.ensures.pages c.in-Err-room_for.ensures.refused) tt)
-    (asks_quiet command answer _ _ (quiet_then _ _ _ c.size.result (quiet_none _) c.size.ensures.counts)) c.size.ensures.page
+    (sized_for told m command answer c.args.seg.0 c.in-Ok.size R.rises c.in-Ok.ensures.pages c.in_err-pages.ensures.refused) tt)
+    (asks_quiet command answer _ _ (quiet_then _ _ _ c.size.result (quiet_none _) c.size.ensures.counts)) c.size.ensures.page)
 
 pub pull_pages-requires-clause-there : goal.pull_pages-requires-clause-there
 pull_pages-requires-clause-there g c =
-    sized_pages (g.M.Mapper.held c.args.mapper.now) (g.M.Mapper.held c.size.new.self) c.args.seg.0 (length c.deref_mut.result.now) c.in-Ok.size c.size.ensures.held (ap Some (ap length c.deref_mut.ensures.value) ∙ c.in-Ok-room_for.ensures.size) c.in-Ok.ensures.pages
+    sized_pages (g.M.Mapper.held c.args.mapper.now) (g.M.Mapper.held c.size.new.self) c.args.seg.0 (length c.deref_mut.result.now) c.in-Ok.size c.size.ensures.held (ap Some (ap length c.deref_mut.ensures.value) ∙ c.in_ok-pages.ensures.size) c.in-Ok.ensures.pages
 
 -- the pages, after they were pulled
-pulled : (g : Over) (c : After-pull_pages g) → (with_items c.in-Ok-room_for.pages c.pull_pages.new.pages).items ≡ c.pull_pages.new.pages
-pulled g c = with_items_is c.in-Ok-room_for.pages c.pull_pages.new.pages (c.pull_pages.ensures.many ∙ ap length c.deref_mut.ensures.value ∙ sym c.in-Ok-room_for.pages.ok.0)
+pulled : (g : Over) (c : After-pull_pages g) → (with_items c.in_ok-pages.pages c.pull_pages.new.pages).items ≡ c.pull_pages.new.pages
+pulled g c = with_items_is c.in_ok-pages.pages c.pull_pages.new.pages (c.pull_pages.ensures.many ∙ ap length c.deref_mut.ensures.value ∙ sym c.in_ok-pages.pages.ok.0)
 
 pub open_segment-requires-clause-whole : goal.open_segment-requires-clause-whole
 open_segment-requires-clause-whole g c =
     let bytes = c.args.self.now.page_bytes in
     let whole : All (λ (p : Vec ℕ Global). length p.items ≡ bytes) c.pull_pages.new.pages =
-    c.pull_pages.ensures.whole bytes (subst (λ (vs : List (Vec ℕ Global)). All (λ (p : Vec ℕ Global). length p.items ≡ bytes) vs) (sym c.deref_mut.ensures.value) c.in-Ok-room_for.ensures.whole) in
+    c.pull_pages.ensures.whole bytes (subst (λ (vs : List (Vec ℕ Global)). All (λ (p : Vec ℕ Global). length p.items ≡ bytes) vs) (sym c.deref_mut.ensures.value) c.in_ok-pages.ensures.whole) in
     subst (λ (vs : List (Vec ℕ Global)). All (λ (p : Vec ℕ Global). length p.items ≡ bytes) vs) (sym (pulled g (goal.at.open_segment-requires-clause-whole g c).After-pull_pages)) whole
 
 -- are those of the cache that is opened
@@ -68,11 +71,11 @@ opened : (g : Over) (c : After-open_segment g) (rises : MapperCounts) → Outcom
 opened g c rises =
     let told = g.M.Mapper.held c.args.mapper.now in
     let now = g.M.Mapper.held c.size.new.self in
-    let room = c.in-Ok-room_for.pages in
+    let room = c.in_ok-pages.pages in
     let new = c.pull_pages.new.pages in
     let is = pulled g (goal.at.After-open_segment g c).After-pull_pages in
     let pages : List (List ℕ) = map (λ p. p.items) (with_items room new).items in
-    let sized : Some (length pages) ≡ c.in-Ok.size = ap Some (length-map (with_items room new).items (λ p. p.items) ∙ ap length is ∙ c.pull_pages.ensures.many ∙ ap length c.deref_mut.ensures.value) ∙ c.in-Ok-room_for.ensures.size in
+    let sized : Some (length pages) ≡ c.in-Ok.size = ap Some (length-map (with_items room new).items (λ p. p.items) ∙ ap length is ∙ c.pull_pages.ensures.many ∙ ap length c.deref_mut.ensures.value) ∙ c.in_ok-pages.ensures.size in
     let are = subst (λ (vs : List (Vec ℕ Global)). IfSome now (ArePagesOf c.args.seg.0 0 (map (λ p. p.items) vs))) (sym is) c.in-Ok-pull_pages.ensures.pulled in
     opened_for told now c.args.self.now c.open_segment.new.self (commands.OpenSegment c.args.seg) (answer_by (λ x. Cache x) c.open_segment.result) c.args.seg.0 c.in-Ok.size pages rises c.size.ensures.held sized c.in-Ok.ensures.pages are c.open_segment.ensures.outcome
 
@@ -92,17 +95,17 @@ returns-in-Ok-pull_pages g c =
     eager_call g.M.Mapper _ _ m next command answer (subst (IsReady next) (sym same) (ready_after told m next command answer R.rises c.requires.valid c.open_segment.ensures.whole o))
     (call_reached told _ _ _ m next command answer r same R c.requires.valid.whole c.open_segment.ensures.whole tt o tt) (asks_opened c.args.seg c.open_segment.result _ _ c.open_segment.ensures.memory) (E.page ∙ c.size.ensures.page)
 
-pub returns-in-Err-pull_pages : goal.returns-in-Err-pull_pages
-returns-in-Err-pull_pages g c =
+pub returns-in-Err : goal.returns-in-Err
+returns-in-Err g c =
     let m = c.args.self.now in
     let command = commands.OpenSegment c.args.seg in
     let told = g.M.Mapper.held c.args.mapper.now in
     let answer = Err (troubles.Mapper faults.Opening) in
-    let E = c.in-Err-pull_pages.ensures in
+    let E = c.in-Err.ensures in
     let P = E.reached in
-    let r : Result (Unit {0}) Failed = Err c.in-Err-pull_pages.field-0 in
+    let r : Result (Unit {0}) Failed = Err c.in-Err.field-0 in
     let R = reached_then _ _ _ c.size.result r (reached_one 0 0 _ _ c.size.result c.size.ensures.counts) P.rises P.rose P.failed in
     let same = E.held ∙ c.size.ensures.held in
     eager_call g.M.Mapper _ _ m m command answer (subst (IsReady m) (sym same) c.requires.valid)
     (call_reached told _ _ _ m m command answer r same R c.requires.valid.whole c.requires.valid.whole tt
-    (every_segments told m m command answer R.rises (λ s. c.in_default.ensures.fault s R.rises R.failed)) tt) tt (E.page ∙ c.size.ensures.page)
+    (every_segments told m m command answer R.rises (λ s. c.in_ok-check_open.ensures.fault s R.rises R.failed)) tt) tt (E.page ∙ c.size.ensures.page)

@@ -20,7 +20,7 @@ use Rattle.fault_path.proofs.OnePage.FoundPage.{each_owner, itself_owner, owner_
 use Rattle.fault_path.specs.Coming.{IsOfWrite, OnlyCome}
 use Rattle.fault_path.specs.Answers.{OnlyVictim}
 use Rattle.fault_path.specs.Faults.{is_at_hand}
-use Rattle.fault_path.proofs.writing.make_ready.Goals as goal
+use Rattle.fault_path.proofs.write_faults.make_ready.Goals as goal
 
 pub returns-in-None-clause-ready : goal.returns-in-None-clause-ready
 returns-in-None-clause-ready g c =

@@ -34,9 +34,9 @@ use Rattle.fault_path.proofs.Translations.Given.{failed_leaves}
 use Rattle.fault_path.proofs.Translations.Whole.{dirtied_drops, may_before}
 use Rattle.fault_path.specs.Coming.{IsOfSave, IsOfWrite, OnlyCome}
 use Rattle.fault_path.proofs.Frames.ComingFrames.{come_owned, come_then, more_come, one_comes}
-use Rattle.fault_path.proofs.writing.hand_own.Given.{Over}
-use Rattle.fault_path.proofs.writing.hand_own.Goals.{After-bring_in, After-hand_over}
-use Rattle.fault_path.proofs.writing.hand_own.Goals as goal
+use Rattle.fault_path.proofs.write_faults.hand_own.Given.{Over}
+use Rattle.fault_path.proofs.write_faults.hand_own.Goals.{After-bring_in, After-hand_over}
+use Rattle.fault_path.proofs.write_faults.hand_own.Goals as goal
 
 pub returns-in_err-frame-clause-ready : goal.returns-in_err-frame-clause-ready
 returns-in_err-frame-clause-ready g c =

@@ -26,9 +26,9 @@ use Rattle.fault_path.proofs.Translations.Given.{failed_leaves, forgot_drops}
 use Rattle.fault_path.proofs.Translations.Whole.{dirtied_drops}
 use Rattle.fault_path.specs.Coming.{IsOfWrite, OnlyCome}
 use Rattle.fault_path.proofs.Frames.ComingFrames.{come_owned, more_come, one_comes}
-use Rattle.fault_path.proofs.writing.bring_dirty.Given.{Over}
-use Rattle.fault_path.proofs.writing.bring_dirty.Goals.{After-bring_in}
-use Rattle.fault_path.proofs.writing.bring_dirty.Goals as goal
+use Rattle.fault_path.proofs.write_faults.bring_dirty.Given.{Over}
+use Rattle.fault_path.proofs.write_faults.bring_dirty.Goals.{After-bring_in}
+use Rattle.fault_path.proofs.write_faults.bring_dirty.Goals as goal
 
 pub returns-in_err-frame-clause-ready : goal.returns-in_err-frame-clause-ready
 returns-in_err-frame-clause-ready g c =

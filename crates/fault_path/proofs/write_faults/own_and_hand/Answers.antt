@@ -36,11 +36,11 @@ use Rattle.fault_path.proofs.Translations.Homes.{stays_or_unseen}
 use Rattle.fault_path.proofs.Translations.Whole.{both_drops}
 use Rattle.fault_path.specs.Coming.{IsBroughtIn, IsOfWrite, OnlyCome}
 use Rattle.fault_path.proofs.Frames.ComingFrames.{come_by, come_settled, come_then, more_come}
-use Rattle.fault_path.proofs.writing.own_and_hand.Given.{Over}
-use Rattle.fault_path.proofs.writing.own_and_hand.Goals.{After-double}
+use Rattle.fault_path.proofs.write_faults.own_and_hand.Given.{Over}
+use Rattle.fault_path.proofs.write_faults.own_and_hand.Goals.{After-double}
 use Rattle.fault_path.proofs.Calls.Answered.{victim_from}
 use Rattle.fault_path.specs.Faults.{is_at_hand}
-use Rattle.fault_path.proofs.writing.own_and_hand.Goals as goal
+use Rattle.fault_path.proofs.write_faults.own_and_hand.Goals as goal
 
 pub returns-in_err-frame-clause-ready : goal.returns-in_err-frame-clause-ready
 returns-in_err-frame-clause-ready g c =
