@@ -2,7 +2,7 @@
 -- those after it.
 use Rattle.std.specs.Prelude.{◌≡◌, ℕ, true, List, Option, IfErr, IfOk, Result}
 use Rattle.vm_ids.specs.Counting.{MapperCounts}
-use Rattle.vm_ids.specs.Held.{Held}
+use Rattle.vm_port.specs.declared.traits.mapper.Mapper.{Ghosts}
 use Rattle.vm_ids.specs.declared.numbers.NodeId.{NodeId}
 use Rattle.vm_ids.specs.declared.node_name.NodeName.{NodeName}
 use Rattle.vm_ids.specs.Forest.Nodes.{Forest}
@@ -12,12 +12,13 @@ use Rattle.local_cache.specs.Arena.{Arena}
 use Rattle.local_cache.specs.Own.{own_of}
 use Rattle.local_cache.specs.Reading.{forest_of, name_of}
 use Rattle.local_cache.specs.Sound.{IsSound}
+use Rattle.residency.specs.Between.{world_at}
 use Rattle.residency.specs.Causes.{HasMissCause, Later}
 use Rattle.residency.specs.declared.miss.Miss.{Miss}
 use Rattle.residency.specs.declared.miss.Miss.TheVariants.{Victim}
 use Rattle.residency.specs.declared.store.Store.{Store}
 use Rattle.residency.specs.Pushing.{TellsOn}
-use Rattle.residency.specs.World.{IsFrameOf, IsStoreRight, Still, World, world}
+use Rattle.residency.specs.World.{IsFrameOf, IsStoreRight, Still, World}
 use Rattle.fault_path.specs.Faults.{Follows, Kept, SameForest}
 
 -- What a call asks: a right store, sound caches, and a page forest of the right shape.
@@ -28,9 +29,8 @@ pub record IsForestRight (w : World) : Type 0 where
 
 module _ {M : Type 0} where
   -- the store and the forest of its caches are right beside a mapper
-  abbrev pub RightForest : (M → Option Held) → (M → Option ℕ) → M → Arena → Store → Type 0
-  RightForest held size mapper caches store =
-      IsForestRight (world (held mapper) (size mapper) caches store)
+  abbrev pub RightForest : Ghosts M → M → Arena → Store → Type 0
+  RightForest G mapper caches store = IsForestRight (world_at G mapper caches store)
 
 -- After any answer a call has kept what each call keeps, no count fell, and pages that left their
 -- frames were pushed to their homes or to slots.

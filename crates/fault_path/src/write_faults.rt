@@ -40,7 +40,7 @@ pub fn write_fault<M: Mapper, C: Chooser>(
     mapper: &mut M,
     chooser: &mut C,
 ) -> Result<FrameId, Miss>
-    requires right { RightForest M.held M.page_bytes mapper.old caches.old store.old }
+    requires right { RightForest M.Mapper mapper.old caches.old store.old }
     requires node { HasNode caches.old node }
     requires owner { IsOwner caches.old node owner }
     requires own { HasOwnPage caches.old owner }
@@ -48,11 +48,11 @@ pub fn write_fault<M: Mapper, C: Chooser>(
     requires granted { MayWrite caches.old node }
     requires loose { HasLoose 3 store.old.frames }
     requires copies { caches.old.copies + 1 < 2 ^ 63 }
-    ensures answered { Across IsAnswered M.held M.page_bytes M.counts
+    ensures answered { Across IsAnswered M.Mapper
         mapper.old caches.old store.old mapper.new caches.new store.new }
-    ensures ready { IfOk result (λ f. Between (IsFramed readied node f.0) M.held M.page_bytes
+    ensures ready { IfOk result (λ f. Between (IsFramed readied node f.0) M.Mapper
         mapper.old caches.old store.old mapper.new caches.new store.new) }
-    ensures missed { IfErr result (λ miss. Across (IsMissed miss) M.held M.page_bytes M.counts
+    ensures missed { IfErr result (λ miss. Across (IsMissed miss) M.Mapper
         mapper.old caches.old store.old mapper.new caches.new store.new) }
     ensures drops { (o : NodeId) → IsOwner caches.old node o
         → Drops (MayCome caches.old o) caches.old store.old caches.new store.new }
@@ -60,7 +60,7 @@ pub fn write_fault<M: Mapper, C: Chooser>(
         → OnOk result (DropsHomes o node store.old store.new) }
     ensures alone { OnOk result (IsAlone caches.new (name_of caches.new node)) }
     ensures frames { (o : NodeId) → IsOwner caches.old node o
-        → Between (OnlyCome (IsOfWrite caches.old node o)) M.held M.page_bytes
+        → Between (OnlyCome (IsOfWrite caches.old node o)) M.Mapper
         mapper.old caches.old store.old mapper.new caches.new store.new }
     ensures copies { OnOk result (caches.new.copies ≤ caches.old.copies + 2) }
     ensures traffic { (o : NodeId) → IsOwner caches.old node o → OnOk result (Takes
@@ -88,7 +88,7 @@ fn make_ready<M: Mapper, C: Chooser>(
     mapper: &mut M,
     chooser: &mut C,
 ) -> Result<FrameId, Miss>
-    requires right { RightForest M.held M.page_bytes mapper.old caches.old store.old }
+    requires right { RightForest M.Mapper mapper.old caches.old store.old }
     requires node { HasNode caches.old node }
     requires owner { IsOwner caches.old node owner }
     requires own { HasOwnPage caches.old owner }
@@ -97,12 +97,12 @@ fn make_ready<M: Mapper, C: Chooser>(
     requires loose { HasLoose 3 store.old.frames }
     requires copies { caches.old.copies + 1 < 2 ^ 63 }
     ensures ready { Across (IsDoneOrMissed result (λ f. IsFramed readied node f.0))
-        M.held M.page_bytes M.counts
+        M.Mapper
         mapper.old caches.old store.old mapper.new caches.new store.new }
     ensures drops { (o : NodeId) → IsOwner caches.old node o →
         LeavesHomes result o node caches.old store.old caches.new store.new }
     ensures frames { (o : NodeId) → IsOwner caches.old node o
-        → Between (OnlyCome (IsOfWrite caches.old node o)) M.held M.page_bytes
+        → Between (OnlyCome (IsOfWrite caches.old node o)) M.Mapper
         mapper.old caches.old store.old mapper.new caches.new store.new }
     ensures copies { OnOk result (caches.new.copies ≤ caches.old.copies + 2) }
     ensures traffic { (o : NodeId) → IsOwner caches.old node o → OnOk result (Takes
@@ -138,7 +138,7 @@ fn own_and_hand<M: Mapper, C: Chooser>(
     mapper: &mut M,
     chooser: &mut C,
 ) -> Result<FrameId, Miss>
-    requires right { RightForest M.held M.page_bytes mapper.old caches.old store.old }
+    requires right { RightForest M.Mapper mapper.old caches.old store.old }
     requires node { HasNode caches.old node }
     requires owner { IsOwner caches.old node owner }
     requires own { HasOwnPage caches.old owner }
@@ -147,12 +147,12 @@ fn own_and_hand<M: Mapper, C: Chooser>(
     requires loose { HasLoose 3 store.old.frames }
     requires copies { caches.old.copies + 1 < 2 ^ 63 }
     ensures ready { Across (IsDoneOrMissed result (λ f. IsFramed readied node f.0))
-        M.held M.page_bytes M.counts
+        M.Mapper
         mapper.old caches.old store.old mapper.new caches.new store.new }
     ensures drops { (o : NodeId) → IsOwner caches.old node o →
         LeavesHomes result o node caches.old store.old caches.new store.new }
     ensures frames { (o : NodeId) → IsOwner caches.old node o
-        → Between (OnlyCome (IsOfWrite caches.old node o)) M.held M.page_bytes
+        → Between (OnlyCome (IsOfWrite caches.old node o)) M.Mapper
         mapper.old caches.old store.old mapper.new caches.new store.new }
     ensures copies { OnOk result (caches.new.copies ≡ caches.old.copies + 2) }
     ensures traffic { (o : NodeId) → IsOwner caches.old node o → OnOk result (Takes
@@ -185,17 +185,17 @@ fn hand_own<M: Mapper, C: Chooser>(
     mapper: &mut M,
     chooser: &mut C,
 ) -> Result<FrameId, Miss>
-    requires right { RightForest M.held M.page_bytes mapper.old caches.old store.old }
+    requires right { RightForest M.Mapper mapper.old caches.old store.old }
     requires own { HasOwnPage caches.old node }
     requires next { IsHeirOf caches.old node next }
     requires granted { MayWrite caches.old node }
     requires loose { HasLoose 2 store.old.frames }
     requires copies { caches.old.copies < 2 ^ 63 }
     ensures ready { Across (IsDoneOrMissed result (λ f. IsFramed readied node f.0))
-        M.held M.page_bytes M.counts
+        M.Mapper
         mapper.old caches.old store.old mapper.new caches.new store.new }
     ensures drops { LeavesHomes result node node caches.old store.old caches.new store.new }
-    ensures frames { Between (OnlyCome (IsOfWrite caches.old node node)) M.held M.page_bytes
+    ensures frames { Between (OnlyCome (IsOfWrite caches.old node node)) M.Mapper
         mapper.old caches.old store.old mapper.new caches.new store.new }
     ensures copies { OnOk result (caches.new.copies ≡ caches.old.copies + 1) }
     ensures traffic { OnOk result (Takes
@@ -219,16 +219,16 @@ fn bring_dirty<M: Mapper, C: Chooser>(
     mapper: &mut M,
     chooser: &mut C,
 ) -> Result<FrameId, Miss>
-    requires right { RightForest M.held M.page_bytes mapper.old caches.old store.old }
+    requires right { RightForest M.Mapper mapper.old caches.old store.old }
     requires own { HasOwnPage caches.old node }
     requires none { forest.heir (forest_of caches.old) (name_of caches.old node) ≡ None }
     requires granted { MayWrite caches.old node }
     requires loose { HasLoose 2 store.old.frames }
     ensures ready { Across (IsDoneOrMissed result (λ f. IsFramed readied node f.0))
-        M.held M.page_bytes M.counts
+        M.Mapper
         mapper.old caches.old store.old mapper.new caches.new store.new }
     ensures drops { LeavesHomes result node node caches.old store.old caches.new store.new }
-    ensures frames { Between (OnlyCome (IsOfWrite caches.old node node)) M.held M.page_bytes
+    ensures frames { Between (OnlyCome (IsOfWrite caches.old node node)) M.Mapper
         mapper.old caches.old store.old mapper.new caches.new store.new }
     ensures copies { OnOk result (caches.new.copies ≡ caches.old.copies) }
     ensures traffic { OnOk result (Takes

@@ -24,20 +24,20 @@ pub fn write_access<M: Mapper>(
     range: Extent,
     mapper: &mut M,
 ) -> Result<bool, PageNo>
-    requires right { (store : Store) × RightStore M.held M.page_bytes mapper.old caches.old store }
+    requires right { (store : Store) × RightStore M.Mapper mapper.old caches.old store }
     requires whole { IsWhole caches.old }
     requires range { HasRange caches.old range }
     requires named { IsNamed caches.old range }
     ensures access { (segment : SegId) → IsNamedBy caches.old range segment
         → IsAccess range (M.held mapper.old) segment caches.old caches.new result }
     ensures stay { GrantsStay caches.old caches.new }
-    ensures right { (store : Store) → RightStore M.held M.page_bytes mapper.old caches.old store
-        → RightStore M.held M.page_bytes mapper.new caches.new store }
+    ensures right { (store : Store) → RightStore M.Mapper mapper.old caches.old store
+        → RightStore M.Mapper mapper.new caches.new store }
     ensures whole { IsWhole caches.new }
     ensures sizes { SameCaches caches.old caches.new }
     ensures nodes { forest_of caches.new ≡ forest_of caches.old }
-    ensures forest { (store : Store) → RightStore M.held M.page_bytes mapper.old caches.old store
-        → Between SameForest M.held M.page_bytes
+    ensures forest { (store : Store) → RightStore M.Mapper mapper.old caches.old store
+        → Between SameForest M.Mapper
         mapper.old caches.old store mapper.new caches.new store }
     ensures held { M.held mapper.new ≡ M.held mapper.old }
     ensures given { M.given mapper.new ≡ M.given mapper.old }

@@ -8,7 +8,7 @@ ghost use Rattle.local_cache.specs.Home.{home_of};
 ghost use Rattle.local_cache.specs.Own.{is_resident, own_of};
 ghost use Rattle.local_cache.specs.Sound.{IsSound};
 ghost use Rattle.local_cache.specs.Whole.{IsWhole};
-ghost use Rattle.residency.specs.Between.{Across, Between, RightStore};
+ghost use Rattle.residency.specs.Between.{Across, Between, RightStore, world_at};
 ghost use Rattle.residency.specs.Causes.{Later, Traffic};
 ghost use Rattle.residency.specs.Translating.{Drops};
 ghost use Rattle.residency.specs.World.{HasUnpinned, OthersStay, Still, is_clean as is_page_clean, world};
@@ -40,19 +40,19 @@ fn push_page<M: Mapper, C: Chooser>(
     mapper: &mut M,
     chooser: &mut C,
 ) -> Result<(), Failed>
-    requires right { RightForest M.held M.page_bytes mapper.old caches.old store.old }
+    requires right { RightForest M.Mapper mapper.old caches.old store.old }
     requires home { home_of caches.old node ≡ Some home }
     requires unclean { is_page_clean (own_of caches.old node) ≡ false }
     requires unpinned { HasUnpinned store.old.frames }
-    ensures still { Between Still M.held M.page_bytes
+    ensures still { Between Still M.Mapper
         mapper.old caches.old store.old mapper.new caches.new store.new }
-    ensures told { Across TellsValues M.held M.page_bytes M.counts
+    ensures told { Across TellsValues M.Mapper
         mapper.old caches.old store.old mapper.new caches.new store.new }
     ensures pinned { store.new.frames.pinned ≡ store.old.frames.pinned }
     ensures later { Later (M.counts mapper.old) (M.counts mapper.new) }
     ensures clean { CleanStays caches.old caches.new }
     ensures synced { OnOk result (IsSynced
-        (world (M.held mapper.new) (M.page_bytes mapper.new) caches.new store.new) node) }
+        (world_at M.Mapper mapper.new caches.new store.new) node) }
     ensures most { TrafficAtMost 1 2 (M.counts mapper.old) (M.counts mapper.new) }
     ensures cause { OnErr result (HasFailed (M.counts mapper.old) (M.counts mapper.new)) }
     ensures drops { Drops (IsOwner caches.old node) caches.old store.old caches.new store.new }
@@ -76,18 +76,18 @@ fn sync_page<M: Mapper, C: Chooser>(
     mapper: &mut M,
     chooser: &mut C,
 ) -> Result<(), Failed>
-    requires right { RightForest M.held M.page_bytes mapper.old caches.old store.old }
+    requires right { RightForest M.Mapper mapper.old caches.old store.old }
     requires home { IsSome (home_of caches.old node) }
     requires unpinned { HasUnpinned store.old.frames }
-    ensures still { Between Still M.held M.page_bytes
+    ensures still { Between Still M.Mapper
         mapper.old caches.old store.old mapper.new caches.new store.new }
-    ensures told { Across TellsValues M.held M.page_bytes M.counts
+    ensures told { Across TellsValues M.Mapper
         mapper.old caches.old store.old mapper.new caches.new store.new }
     ensures pinned { store.new.frames.pinned ≡ store.old.frames.pinned }
     ensures later { Later (M.counts mapper.old) (M.counts mapper.new) }
     ensures clean { CleanStays caches.old caches.new }
     ensures synced { OnOk result (IsSynced
-        (world (M.held mapper.new) (M.page_bytes mapper.new) caches.new store.new) node) }
+        (world_at M.Mapper mapper.new caches.new store.new) node) }
     ensures most { TrafficAtMost (unclean (own_of caches.old node))
         (2 * unclean (own_of caches.old node)) (M.counts mapper.old) (M.counts mapper.new) }
     ensures cause { OnErr result (HasFailed (M.counts mapper.old) (M.counts mapper.new)) }
@@ -110,14 +110,14 @@ fn push_next<M: Mapper, C: Chooser>(
     mapper: &mut M,
     chooser: &mut C,
 ) -> Result<u32, Failed>
-    requires right { RightForest M.held M.page_bytes mapper.old caches.old store.old }
+    requires right { RightForest M.Mapper mapper.old caches.old store.old }
     requires node { IsSome (node_at caches.old range.cache.0 range.first.0) }
     requires named { IsNamed caches.old range }
     requires some { 0 < range.pages }
     requires unpinned { HasUnpinned store.old.frames }
-    ensures still { Between Still M.held M.page_bytes
+    ensures still { Between Still M.Mapper
         mapper.old caches.old store.old mapper.new caches.new store.new }
-    ensures told { Across TellsValues M.held M.page_bytes M.counts
+    ensures told { Across TellsValues M.Mapper
         mapper.old caches.old store.old mapper.new caches.new store.new }
     ensures pinned { store.new.frames.pinned ≡ store.old.frames.pinned }
     ensures later { Later (M.counts mapper.old) (M.counts mapper.new) }
@@ -125,7 +125,7 @@ fn push_next<M: Mapper, C: Chooser>(
     ensures some { IfOk result (λ pages. 0 < pages) }
     ensures few { IfOk result (λ pages. pages ≤ range.pages) }
     ensures synced { IfOk result (λ pages. AreSynced range (range.first.0 + pages)
-        (world (M.held mapper.new) (M.page_bytes mapper.new) caches.new store.new)) }
+        (world_at M.Mapper mapper.new caches.new store.new)) }
     ensures most { TrafficAtMost (unclean_at caches.old range.cache.0 range.first.0)
         (2 * unclean_at caches.old range.cache.0 range.first.0)
         (M.counts mapper.old) (M.counts mapper.new) }
@@ -150,21 +150,21 @@ fn push_pages<M: Mapper, C: Chooser>(
     mapper: &mut M,
     chooser: &mut C,
 ) -> Result<(), PageNo>
-    requires right { RightStore M.held M.page_bytes mapper.old caches.old store.old }
+    requires right { RightStore M.Mapper mapper.old caches.old store.old }
     requires whole { IsWhole caches.old }
     requires range { HasRange caches.old range }
     requires named { IsNamed caches.old range }
     requires unpinned { HasUnpinned store.old.frames }
-    ensures still { Between Still M.held M.page_bytes
+    ensures still { Between Still M.Mapper
         mapper.old caches.old store.old mapper.new caches.new store.new }
-    ensures told { Across TellsValues M.held M.page_bytes M.counts
+    ensures told { Across TellsValues M.Mapper
         mapper.old caches.old store.old mapper.new caches.new store.new }
     ensures pinned { store.new.frames.pinned ≡ store.old.frames.pinned }
     ensures later { Later (M.counts mapper.old) (M.counts mapper.new) }
     ensures synced { OnOk result (AreSynced range (range.first.0 + range.pages)
-        (world (M.held mapper.new) (M.page_bytes mapper.new) caches.new store.new)) }
+        (world_at M.Mapper mapper.new caches.new store.new)) }
     ensures failed { IfErr result (λ page. IsPageOf range page.0 × AreSynced range page.0
-        (world (M.held mapper.new) (M.page_bytes mapper.new) caches.new store.new)) }
+        (world_at M.Mapper mapper.new caches.new store.new)) }
     ensures most { TrafficAtMost
         (unclean_count caches.old range.cache.0 range.first.0 range.pages)
         (2 * unclean_count caches.old range.cache.0 range.first.0 range.pages)
@@ -190,14 +190,14 @@ fn push_pages<M: Mapper, C: Chooser>(
 
 // Gives up the frame of a page that its segment holds, where it is in one.
 fn let_go<M: Mapper>(store: &mut Store, caches: &mut Caches, node: NodeId, mapper: &mut M)
-    requires right { RightStore M.held M.page_bytes mapper.old caches.old store.old }
+    requires right { RightStore M.Mapper mapper.old caches.old store.old }
     requires home { IsSome (home_of caches.old node) }
     requires settled { is_settled (own_of caches.old node) ≡ true }
     requires loose { (f : ℕ) → node_of store.old.map f ≡ Some node
         → is_pinned store.old.frames f ≡ false }
-    ensures still { Between Still M.held M.page_bytes
+    ensures still { Between Still M.Mapper
         mapper.old caches.old store.old mapper.new caches.new store.new }
-    ensures others { Between OthersStay M.held M.page_bytes
+    ensures others { Between OthersStay M.Mapper
         mapper.old caches.old store.old mapper.new caches.new store.new }
     ensures held { M.held mapper.new ≡ M.held mapper.old }
     ensures pinned { store.new.frames.pinned ≡ store.old.frames.pinned }
@@ -219,18 +219,18 @@ fn give_up_next<M: Mapper>(
     range: Extent,
     mapper: &mut M,
 ) -> u32
-    requires right { RightStore M.held M.page_bytes mapper.old caches.old store.old }
+    requires right { RightStore M.Mapper mapper.old caches.old store.old }
     requires sound { IsSound caches.old }
     requires node { IsSome (node_at caches.old range.cache.0 range.first.0) }
     requires named { IsNamed caches.old range }
     requires some { 0 < range.pages }
     requires synced { AreSynced range (range.first.0 + range.pages)
-        (world (M.held mapper.old) (M.page_bytes mapper.old) caches.old store.old) }
+        (world_at M.Mapper mapper.old caches.old store.old) }
     requires loose { AreLoose range
-        (world (M.held mapper.old) (M.page_bytes mapper.old) caches.old store.old) }
-    ensures still { Between Still M.held M.page_bytes
+        (world_at M.Mapper mapper.old caches.old store.old) }
+    ensures still { Between Still M.Mapper
         mapper.old caches.old store.old mapper.new caches.new store.new }
-    ensures others { Between OthersStay M.held M.page_bytes
+    ensures others { Between OthersStay M.Mapper
         mapper.old caches.old store.old mapper.new caches.new store.new }
     ensures held { M.held mapper.new ≡ M.held mapper.old }
     ensures pinned { store.new.frames.pinned ≡ store.old.frames.pinned }
@@ -252,22 +252,22 @@ fn give_up_next<M: Mapper>(
 
 // The same for all pages of a range.
 fn give_up_pages<M: Mapper>(store: &mut Store, caches: &mut Caches, range: Extent, mapper: &mut M)
-    requires right { RightStore M.held M.page_bytes mapper.old caches.old store.old }
+    requires right { RightStore M.Mapper mapper.old caches.old store.old }
     requires whole { IsWhole caches.old }
     requires range { HasRange caches.old range }
     requires named { IsNamed caches.old range }
     requires synced { AreSynced range (range.first.0 + range.pages)
-        (world (M.held mapper.old) (M.page_bytes mapper.old) caches.old store.old) }
+        (world_at M.Mapper mapper.old caches.old store.old) }
     requires loose { AreLoose range
-        (world (M.held mapper.old) (M.page_bytes mapper.old) caches.old store.old) }
-    ensures still { Between Still M.held M.page_bytes
+        (world_at M.Mapper mapper.old caches.old store.old) }
+    ensures still { Between Still M.Mapper
         mapper.old caches.old store.old mapper.new caches.new store.new }
     ensures held { M.held mapper.new ≡ M.held mapper.old }
     ensures pinned { store.new.frames.pinned ≡ store.old.frames.pinned }
     ensures later { Later (M.counts mapper.old) (M.counts mapper.new) }
     ensures traffic { Traffic 0 0 (M.counts mapper.old) (M.counts mapper.new) }
     ensures synced { AreSynced range (range.first.0 + range.pages)
-        (world (M.held mapper.new) (M.page_bytes mapper.new) caches.new store.new) }
+        (world_at M.Mapper mapper.new caches.new store.new) }
     ensures out { AreOut range caches.new }
     ensures drops { Drops Nobody caches.old store.old caches.new store.new }
 {
@@ -297,24 +297,24 @@ pub fn push_range<M: Mapper, C: Chooser>(
     mapper: &mut M,
     chooser: &mut C,
 ) -> Result<(), PageNo>
-    requires right { RightStore M.held M.page_bytes mapper.old caches.old store.old }
+    requires right { RightStore M.Mapper mapper.old caches.old store.old }
     requires whole { IsWhole caches.old }
     requires range { HasRange caches.old range }
     requires named { IsNamed caches.old range }
     requires unpinned { HasUnpinned store.old.frames }
     requires loose { give_up ≡ true → AreLoose range
-        (world (M.held mapper.old) (M.page_bytes mapper.old) caches.old store.old) }
-    ensures stays { Across StaysWhole M.held M.page_bytes M.counts
+        (world_at M.Mapper mapper.old caches.old store.old) }
+    ensures stays { Across StaysWhole M.Mapper
         mapper.old caches.old store.old mapper.new caches.new store.new }
-    ensures still { Between Still M.held M.page_bytes
+    ensures still { Between Still M.Mapper
         mapper.old caches.old store.old mapper.new caches.new store.new }
-    ensures forest { Between SameForest M.held M.page_bytes
+    ensures forest { Between SameForest M.Mapper
         mapper.old caches.old store.old mapper.new caches.new store.new }
     ensures synced { OnOk result (AreSynced range (range.first.0 + range.pages)
-        (world (M.held mapper.new) (M.page_bytes mapper.new) caches.new store.new)) }
+        (world_at M.Mapper mapper.new caches.new store.new)) }
     ensures out { give_up ≡ true → OnOk result (AreOut range caches.new) }
     ensures failed { IfErr result (λ page. IsPageOf range page.0 × AreSynced range page.0
-        (world (M.held mapper.new) (M.page_bytes mapper.new) caches.new store.new)) }
+        (world_at M.Mapper mapper.new caches.new store.new)) }
     ensures most { TrafficAtMost
         (unclean_count caches.old range.cache.0 range.first.0 range.pages)
         (2 * unclean_count caches.old range.cache.0 range.first.0 range.pages)

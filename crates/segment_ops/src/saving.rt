@@ -87,17 +87,17 @@ pub fn save_range<M: Mapper, C: Chooser>(
     mapper: &mut M,
     chooser: &mut C,
 ) -> Result<(), u32>
-    requires right { RightStore M.held M.page_bytes mapper.old caches.old store.old }
+    requires right { RightStore M.Mapper mapper.old caches.old store.old }
     requires whole { IsWhole caches.old }
     requires range { HasRange caches.old range }
     requires loose { HasLoose 2 store.old.frames }
     requires copies { caches.old.copies + len (forest_of caches.old).nodes < 2 ^ 63 }
-    ensures stays { Across StaysWhole M.held M.page_bytes M.counts
+    ensures stays { Across StaysWhole M.Mapper
         mapper.old caches.old store.old mapper.new caches.new store.new }
-    ensures saved { OnOk result (Between (AreSaved (extent_names range)) M.held M.page_bytes
+    ensures saved { OnOk result (Between (AreSaved (extent_names range)) M.Mapper
         mapper.old caches.old store.old mapper.new caches.new store.new) }
     ensures failed { IfErr result (λ done. Between (SavesEnd (extent_names range) done)
-        M.held M.page_bytes mapper.old caches.old store.old mapper.new caches.new store.new) }
+        M.Mapper mapper.old caches.old store.old mapper.new caches.new store.new) }
     ensures cause { OnErr result (HasFailed (M.counts mapper.old) (M.counts mapper.new)) }
     ensures copies { caches.new.copies
         ≤ caches.old.copies + len (forest_of caches.old).nodes }
@@ -107,7 +107,7 @@ pub fn save_range<M: Mapper, C: Chooser>(
         × (mapper.new ≡ mapper.old) × (chooser.new ≡ chooser.old) }
     ensures drops { Drops (IsSavedOrAbsent caches.old range)
         caches.old store.old caches.new store.new }
-    ensures frames { Between (OnlySavedCome result (extent_names range)) M.held M.page_bytes
+    ensures frames { Between (OnlySavedCome result (extent_names range)) M.Mapper
         mapper.old caches.old store.old mapper.new caches.new store.new }
 {
     let mut done = 0;

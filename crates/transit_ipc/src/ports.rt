@@ -93,17 +93,11 @@ impl<G> Ports<G> {
         ensures { PortCall M.Mapper G.Gmi mapper.old self.old (PortCommand.Send port extent)
             (done_by result) mapper.new self.new }
     {
-        let place = match self.place_of(port) {
-            Ok(place) => place,
-            Err(refusal) => return Err(Trouble::Refused(refusal)),
-        };
+        let place = self.place_of(port)?;
         if self.is_full(place) {
             return Err(Trouble::Refused(Refusal::PortFull));
         }
-        let cache = match self.gmi.make_temp(extent.pages) {
-            Ok(cache) => cache,
-            Err(trouble) => return Err(trouble),
-        };
+        let cache = self.gmi.make_temp(extent.pages)?;
         let message = Message {
             cache,
             pages: extent.pages,
@@ -138,22 +132,12 @@ impl<G> Ports<G> {
         ensures { PortCall M.Mapper G.Gmi mapper.old self.old (PortCommand.Receive port cache page)
             (done_by result) mapper.new self.new }
     {
-        let place = match self.place_of(port) {
-            Ok(place) => place,
-            Err(refusal) => return Err(Trouble::Refused(refusal)),
-        };
-        let message = match self.first_of(place) {
-            Ok(message) => message,
-            Err(refusal) => return Err(Trouble::Refused(refusal)),
-        };
-        match self.take_out(message, cache, page, mapper, chooser) {
-            Ok(()) => {
-                self.take_first(place);
-                let _ = self.gmi.destroy(message.cache, mapper, chooser);
-                Ok(())
-            }
-            Err(trouble) => Err(trouble),
-        }
+        let place = self.place_of(port)?;
+        let message = self.first_of(place)?;
+        self.take_out(message, cache, page, mapper, chooser)?;
+        self.take_first(place);
+        let _ = self.gmi.destroy(message.cache, mapper, chooser);
+        Ok(())
     }
 
     /// Passes a command on to the manager. It finds no cache that is hidden.

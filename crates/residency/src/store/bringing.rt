@@ -4,7 +4,7 @@ ghost use Rattle.frame_pool.specs.Pool.{held_count, is_held};
 ghost use Rattle.global_map.specs.Pairs.{bound_times, node_of};
 ghost use Rattle.local_cache.specs.Arena.{HasNode, with_own};
 ghost use Rattle.local_cache.specs.Own.{is_resident, own_of};
-ghost use Rattle.residency.specs.Between.{Across, Between, RightStore};
+ghost use Rattle.residency.specs.Between.{Across, Between, RightStore, world_at};
 ghost use Rattle.residency.specs.Causes.{HasMissCause, Later, Traffic, dirtied, dirty_count, failed_victims, frames_to_bring, pulls_for, pushes_to_bring};
 ghost use Rattle.residency.specs.Filling.{Fills};
 ghost use Rattle.residency.specs.Frames.{with_held, with_pinned};
@@ -30,13 +30,13 @@ impl Store {
         mapper: &mut M,
         chooser: &mut C,
     ) -> Result<FrameId, Miss>
-        requires right { RightStore M.held M.page_bytes mapper.old caches.old self.old }
+        requires right { RightStore M.Mapper mapper.old caches.old self.old }
         requires own { HasOwnPage caches.old node }
         requires unpinned { is_resident (own_of caches.old node) ≡ false →
             HasUnpinned self.old.frames }
-        ensures still { Between Still M.held M.page_bytes
+        ensures still { Between Still M.Mapper
             mapper.old caches.old self.old mapper.new caches.new self.new }
-        ensures told { Across TellsOn M.held M.page_bytes M.counts
+        ensures told { Across TellsOn M.Mapper
             mapper.old caches.old self.old mapper.new caches.new self.new }
         ensures home { IfOk result (λ f. IsFrameOf self.new.map f.0 node) }
         ensures state { OnOk result (
@@ -46,9 +46,9 @@ impl Store {
         ensures idle { is_resident (own_of caches.old node) ≡ true →
             IsOk result × (self.new ≡ self.old) × (caches.new ≡ caches.old)
             × (mapper.new ≡ mapper.old) }
-        ensures others { Between (OthersStayBut node) M.held M.page_bytes
+        ensures others { Between (OthersStayBut node) M.Mapper
             mapper.old caches.old self.old mapper.new caches.new self.new }
-        ensures failed { OnErr result (Between OthersStay M.held M.page_bytes
+        ensures failed { OnErr result (Between OthersStay M.Mapper
             mapper.old caches.old self.old mapper.new caches.new self.new) }
         ensures tables { TablesAfter self.old self.new }
         ensures pinned { self.new.frames.pinned ≡ self.old.frames.pinned }
@@ -86,13 +86,13 @@ impl Store {
         frame: FrameId,
         mapper: &mut M,
     ) -> Result<FrameId, Miss>
-        requires right { RightStore M.held M.page_bytes mapper.old caches.old self.old }
+        requires right { RightStore M.Mapper mapper.old caches.old self.old }
         requires node { IsAway caches.old node }
         requires taken { IsTaken
-            (world (M.held mapper.old) (M.page_bytes mapper.old) caches.old self.old)
+            (world_at M.Mapper mapper.old caches.old self.old)
             frame.0 }
         ensures fills { Across (Fills result node frame.0 (M.given mapper.new))
-            M.held M.page_bytes M.counts
+            M.Mapper
             mapper.old caches.old self.old mapper.new caches.new self.new }
         ensures filled { is_pulled (own_of caches.old node) ≡ false → IsOk result }
         ensures tables { self.new.tables ≡ self.old.tables }
@@ -117,14 +117,14 @@ impl Store {
         frame: FrameId,
         mapper: &mut M,
     ) -> Result<FrameId, Miss>
-        requires right { RightStore M.held M.page_bytes mapper.old caches.old self.old }
+        requires right { RightStore M.Mapper mapper.old caches.old self.old }
         requires node { HasNode caches.old node }
         requires slot { own_of caches.old node ≡ OwnState.Slot slot }
         requires taken { IsTaken
-            (world (M.held mapper.old) (M.page_bytes mapper.old) caches.old self.old)
+            (world_at M.Mapper mapper.old caches.old self.old)
             frame.0 }
         ensures fills { Across (Fills result node frame.0 (M.given mapper.new))
-            M.held M.page_bytes M.counts
+            M.Mapper
             mapper.old caches.old self.old mapper.new caches.new self.new }
         ensures tables { self.new.tables ≡ self.old.tables }
     {
@@ -149,14 +149,14 @@ impl Store {
         frame: FrameId,
         mapper: &mut M,
     ) -> Result<FrameId, Miss>
-        requires right { RightStore M.held M.page_bytes mapper.old caches.old self.old }
+        requires right { RightStore M.Mapper mapper.old caches.old self.old }
         requires node { HasNode caches.old node }
         requires on_segment { own_of caches.old node ≡ OwnState.OnSegment }
         requires taken { IsTaken
-            (world (M.held mapper.old) (M.page_bytes mapper.old) caches.old self.old)
+            (world_at M.Mapper mapper.old caches.old self.old)
             frame.0 }
         ensures fills { Across (Fills result node frame.0 (M.given mapper.new))
-            M.held M.page_bytes M.counts
+            M.Mapper
             mapper.old caches.old self.old mapper.new caches.new self.new }
         ensures tables { self.new.tables ≡ self.old.tables }
     {

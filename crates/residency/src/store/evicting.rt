@@ -32,14 +32,14 @@ impl Store {
         frame: FrameId,
         mapper: &mut M,
     ) -> Result<(), Failed>
-        requires right { RightStore M.held M.page_bytes mapper.old caches.old self.old }
+        requires right { RightStore M.Mapper mapper.old caches.old self.old }
         requires held { is_held self.old.frames frame.0 ≡ true }
         requires unpinned { is_pinned self.old.frames frame.0 ≡ false }
-        ensures still { Between Still M.held M.page_bytes
+        ensures still { Between Still M.Mapper
             mapper.old caches.old self.old mapper.new caches.new self.new }
-        ensures told { Across TellsOn M.held M.page_bytes M.counts
+        ensures told { Across TellsOn M.Mapper
             mapper.old caches.old self.old mapper.new caches.new self.new }
-        ensures evicted { OnOk result (Between (IsEvicted frame.0) M.held M.page_bytes
+        ensures evicted { OnOk result (Between (IsEvicted frame.0) M.Mapper
             mapper.old caches.old self.old mapper.new caches.new self.new) }
         ensures free { OnOk result (self.new.frames.held
             ≡ slice_set self.old.frames.held frame.0 false) }
@@ -48,7 +48,7 @@ impl Store {
         ensures failed_caches { OnErr result (caches.new ≡ caches.old) }
         ensures failed_dirty { OnErr result (dirty_in caches.old self.old.map frame.0 ≡ 1) }
         ensures pinned { self.new.frames.pinned ≡ self.old.frames.pinned }
-        ensures others { Between OthersStay M.held M.page_bytes
+        ensures others { Between OthersStay M.Mapper
             mapper.old caches.old self.old mapper.new caches.new self.new }
         ensures dirty { OnOk result (
             dirty_count caches.new + dirty_in caches.old self.old.map frame.0
@@ -72,14 +72,14 @@ impl Store {
         home: Home,
         mapper: &mut M,
     ) -> Result<(), Failed>
-        requires right { RightStore M.held M.page_bytes mapper.old caches.old self.old }
+        requires right { RightStore M.Mapper mapper.old caches.old self.old }
         requires held { is_held self.old.frames frame.0 ≡ true }
         requires unpinned { is_pinned self.old.frames frame.0 ≡ false }
         requires bound { node_of self.old.map frame.0 ≡ Some node }
         requires home { home_of caches.old node ≡ Some home }
         ensures left { OnOk result (Between
             (HasLeft (Some home) (is_clean (own_of caches.old node)) frame.0 node)
-            M.held M.page_bytes
+            M.Mapper
             mapper.old caches.old self.old mapper.new caches.new self.new) }
         ensures emptied { OnOk result (IsEmptied frame.0 self.old self.new) }
         ensures failed { OnErr result (self.new ≡ self.old) }
@@ -105,12 +105,12 @@ impl Store {
         frame: FrameId,
         mapper: &mut M,
     ) -> Result<(), Failed>
-        requires right { RightStore M.held M.page_bytes mapper.old caches.old self.old }
+        requires right { RightStore M.Mapper mapper.old caches.old self.old }
         requires held { is_held self.old.frames frame.0 ≡ true }
         requires unpinned { is_pinned self.old.frames frame.0 ≡ false }
         requires bound { node_of self.old.map frame.0 ≡ Some node }
         requires home { home_of caches.old node ≡ None }
-        ensures left { OnOk result (Between (IsInSlot frame.0 node) M.held M.page_bytes
+        ensures left { OnOk result (Between (IsInSlot frame.0 node) M.Mapper
             mapper.old caches.old self.old mapper.new caches.new self.new) }
         ensures emptied { OnOk result (IsEmptied frame.0 self.old self.new) }
         ensures failed { OnErr result (self.new ≡ self.old) }
@@ -163,10 +163,10 @@ impl Store {
         mapper: &mut M,
         chooser: &mut C,
     ) -> Result<FrameId, Failed>
-        requires right { RightStore M.held M.page_bytes mapper.old caches.old self.old }
+        requires right { RightStore M.Mapper mapper.old caches.old self.old }
         requires unpinned { HasUnpinned self.old.frames }
         ensures free { Across (MakesFree result (pushes_for self.old.frames.held))
-            M.held M.page_bytes M.counts
+            M.Mapper
             mapper.old caches.old self.old mapper.new caches.new self.new }
         ensures tables { TablesAfter self.old self.new }
         ensures held { OnOk result (held_count self.new.frames + pushes_for self.old.frames.held
@@ -192,10 +192,10 @@ impl Store {
         mapper: &mut M,
         chooser: &mut C,
     ) -> Result<FrameId, Failed>
-        requires right { RightStore M.held M.page_bytes mapper.old caches.old self.old }
+        requires right { RightStore M.Mapper mapper.old caches.old self.old }
         requires unpinned { HasUnpinned self.old.frames }
         requires full { All (λ h. h ≡ true) self.old.frames.held }
-        ensures free { Across (MakesFree result 1) M.held M.page_bytes M.counts
+        ensures free { Across (MakesFree result 1) M.Mapper
             mapper.old caches.old self.old mapper.new caches.new self.new }
         ensures tables { TablesAfter self.old self.new }
         ensures held { held_count self.new.frames ≡ held_count self.old.frames }
@@ -217,10 +217,10 @@ impl Store {
         mapper: &mut M,
         chooser: &mut C,
     ) -> Result<(), Failed>
-        requires right { RightStore M.held M.page_bytes mapper.old caches.old self.old }
-        ensures still { Between Still M.held M.page_bytes
+        requires right { RightStore M.Mapper mapper.old caches.old self.old }
+        ensures still { Between Still M.Mapper
             mapper.old caches.old self.old mapper.new caches.new self.new }
-        ensures told { Across TellsOn M.held M.page_bytes M.counts
+        ensures told { Across TellsOn M.Mapper
             mapper.old caches.old self.old mapper.new caches.new self.new }
         ensures fewer { OnOk result (
             held_count self.new.frames + min count (evictable_count self.old.frames)
@@ -230,7 +230,7 @@ impl Store {
             < held_count self.new.frames + min count (evictable_count self.old.frames)) }
         ensures tables { TablesAfter self.old self.new }
         ensures pinned { self.new.frames.pinned ≡ self.old.frames.pinned }
-        ensures others { Between OthersStay M.held M.page_bytes
+        ensures others { Between OthersStay M.Mapper
             mapper.old caches.old self.old mapper.new caches.new self.new }
         ensures later { Later (M.counts mapper.old) (M.counts mapper.new) }
         ensures traffic { Traffic 0

@@ -1,7 +1,8 @@
 use Rattle.std.proofs.Common.{sym, ap, ◌∙◌, ◌≡◌, ◌<◌, arith, length, Some, ℕ}
 use Rattle.global_map.specs.Pairs.{node_of}
+use Rattle.residency.specs.Between.{world_at}
 use Rattle.residency.specs.declared.store.Store.{Store}
-use Rattle.residency.specs.World.{World, world}
+use Rattle.residency.specs.World.{World}
 use Rattle.residency.proofs.Worlds.Homes.{home}
 use Rattle.residency.proofs.Pushes.Told.{tells_then}
 use Rattle.residency.proofs.Worlds.Composed.{still_then}
@@ -23,9 +24,9 @@ use Rattle.fault_path.proofs.gathering.brought_out.Goals as goal
 
 pub returns-clause-copied : goal.returns-clause-copied
 returns-clause-copied g c =
-    let old : World = world (g.M.Mapper.held c.args.mapper.now) (g.M.Mapper.page_bytes c.args.mapper.now) c.args.caches.now c.args.store.now in
-    let v : World = world (g.M.Mapper.held c.bring_in.new.mapper) (g.M.Mapper.page_bytes c.bring_in.new.mapper) c.bring_in.new.caches c.bring_in.new.self in
-    let w : World = world (g.M.Mapper.held c.double.new.mapper) (g.M.Mapper.page_bytes c.double.new.mapper) c.double.new.caches c.double.new.store in
+    let old : World = world_at g.M.Mapper c.args.mapper.now c.args.caches.now c.args.store.now in
+    let v : World = world_at g.M.Mapper c.bring_in.new.mapper c.bring_in.new.caches c.bring_in.new.self in
+    let w : World = world_at g.M.Mapper c.double.new.mapper c.double.new.caches c.double.new.store in
     let own : OwnState = own_of c.args.caches.now c.args.node in
     let b = c.in_ok-home.ensures in
     let first = b.still in
@@ -83,10 +84,10 @@ pub returns-in_err-home-clause-drops : goal.returns-in_err-home-clause-drops
 returns-in_err-home-clause-drops g c = still_drops_but _ _ _ _ c.args.caches.now c.bring_in.new.caches c.args.store.now c.bring_in.new.self c.requires.right.tied c.bring_in.ensures.still.stays c.bring_in.ensures.tables c.args.node c.bring_in.ensures.others
 
 -- the page is brought in
-brought : (g : Over) (c : After-bring_in g) → OnlyCome (IsBroughtIn c.args.caches.now c.args.node) (world (g.M.Mapper.held c.args.mapper.now) (g.M.Mapper.page_bytes c.args.mapper.now) c.args.caches.now c.args.store.now) (world (g.M.Mapper.held c.bring_in.new.mapper) (g.M.Mapper.page_bytes c.bring_in.new.mapper) c.bring_in.new.caches c.bring_in.new.self)
+brought : (g : Over) (c : After-bring_in g) → OnlyCome (IsBroughtIn c.args.caches.now c.args.node) (world_at g.M.Mapper c.args.mapper.now c.args.caches.now c.args.store.now) (world_at g.M.Mapper c.bring_in.new.mapper c.bring_in.new.caches c.bring_in.new.self)
 brought g c =
-    let old : World = world (g.M.Mapper.held c.args.mapper.now) (g.M.Mapper.page_bytes c.args.mapper.now) c.args.caches.now c.args.store.now in
-    let w : World = world (g.M.Mapper.held c.bring_in.new.mapper) (g.M.Mapper.page_bytes c.bring_in.new.mapper) c.bring_in.new.caches c.bring_in.new.self in
+    let old : World = world_at g.M.Mapper c.args.mapper.now c.args.caches.now c.args.store.now in
+    let w : World = world_at g.M.Mapper c.bring_in.new.mapper c.bring_in.new.caches c.bring_in.new.self in
     let b = c.bring_in.ensures in
     brought_comes c.args.node old w c.requires.some b.others (λ here. (ap (λ (s : Store). s.map) (b.idle here).1, ap (λ (s : Store). s.frames.bytes) (b.idle here).1, (b.idle here).2))
 

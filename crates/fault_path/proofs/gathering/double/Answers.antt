@@ -2,8 +2,9 @@ use Rattle.std.proofs.Common.{◌≡◌, ◌+◌, ◌-◌, Bool, List, sym, subs
 use Rattle.std.specs.List.{count_by}
 use Rattle.frame_pool.specs.Pool.{bytes_of, held_count}
 use Rattle.fault_path.specs.Costs.{free_count}
+use Rattle.residency.specs.Between.{world_at}
 use Rattle.residency.specs.declared.store.Store.{Store}
-use Rattle.residency.specs.World.{World, world}
+use Rattle.residency.specs.World.{World}
 use Rattle.fault_path.specs.Gathering.{IsGathered}
 use Rattle.residency.proofs.Pushes.PushedPages.{tells_as}
 use Rattle.fault_path.proofs.Calls.Gathered.{done_gathers, failed_gathers}
@@ -17,16 +18,14 @@ use Rattle.fault_path.proofs.gathering.double.Goals as goal
 
 pub returns-clause-doubled : goal.returns-clause-doubled
 returns-clause-doubled g c =
-    let old : World = world (g.M.Mapper.held c.args.mapper.now) (g.M.Mapper.page_bytes c.args.mapper.now) c.args.caches.now c.args.store.now in
-    let told = g.M.Mapper.held c.make_free_beside.new.mapper in
-    let size = g.M.Mapper.page_bytes c.make_free_beside.new.mapper in
-    let w : World = world told size c.make_free_beside.new.caches c.make_free_beside.new.store in
-    let v : World = world told size c.make_free_beside.new.caches c.copy.new.self in
+    let old : World = world_at g.M.Mapper c.args.mapper.now c.args.caches.now c.args.store.now in
+    let w : World = world_at g.M.Mapper c.make_free_beside.new.mapper c.make_free_beside.new.caches c.make_free_beside.new.store in
+    let v : World = world_at g.M.Mapper c.make_free_beside.new.mapper c.make_free_beside.new.caches c.copy.new.self in
     let e = c.in_ok-fresh.ensures.gathered in
     let same : c.copy.new.self.frames.held ≡ w.frames.held = ap (λ (s : Store). s.frames.held) c.copy.ensures in
     let held = subst (λ (hs : List Bool). count_by (λ h. h) hs + (1 - free_count old.frames) ≡ held_count old.frames + 1) (sym same) e.held in
     done_gathers _ _ old v _ _ (tells_as _ _ _ _ _ refl e.told) e.later _ (record {
-      gathered = subst (λ (s : Store). IsGathered c.in_ok-fresh.fresh.0 old (world told size c.make_free_beside.new.caches s)) (sym c.copy.ensures)
+      gathered = subst (λ (s : Store). IsGathered c.in_ok-fresh.fresh.0 old (world_at g.M.Mapper c.make_free_beside.new.mapper c.make_free_beside.new.caches s)) (sym c.copy.ensures)
           (filled_gathered old w c.in_ok-fresh.fresh.0 (bytes_of w.frames c.args.frame.0) e.done);
       apart = c.in_ok-fresh.ensures.apart;
       stays = search rules;
@@ -47,9 +46,7 @@ returns-clause-tables g c = subst (TablesAfter c.args.store.now) (sym c.copy.ens
 
 pub returns-clause-frames : goal.returns-clause-frames
 returns-clause-frames g c =
-    let old : World = world (g.M.Mapper.held c.args.mapper.now) (g.M.Mapper.page_bytes c.args.mapper.now) c.args.caches.now c.args.store.now in
-    let told = g.M.Mapper.held c.make_free_beside.new.mapper in
-    let size = g.M.Mapper.page_bytes c.make_free_beside.new.mapper in
-    let w : World = world told size c.make_free_beside.new.caches c.make_free_beside.new.store in
-    subst (λ (s : Store). OnlyCome Nobody old (world told size c.make_free_beside.new.caches s)) (sym c.copy.ensures)
+    let old : World = world_at g.M.Mapper c.args.mapper.now c.args.caches.now c.args.store.now in
+    let w : World = world_at g.M.Mapper c.make_free_beside.new.mapper c.make_free_beside.new.caches c.make_free_beside.new.store in
+    subst (λ (s : Store). OnlyCome Nobody old (world_at g.M.Mapper c.make_free_beside.new.mapper c.make_free_beside.new.caches s)) (sym c.copy.ensures)
     (come_filled Nobody old w c.in_ok-fresh.fresh.0 (bytes_of w.frames c.args.frame.0) c.in_ok-fresh.ensures.gathered.done.taken.unbound c.make_free_beside.ensures.frames)

@@ -1,9 +1,10 @@
 use Rattle.frame_pool.specs.Pool.{held_count}
+use Rattle.residency.specs.Between.{world_at}
 use Rattle.residency.specs.Causes.{pushes_for}
 use Rattle.std.proofs.Common.{sym, ap, subst, ◌∙◌, ◌≡◌, ◌+◌, true, false, replicate, rules, refl}
 use Rattle.local_cache.specs.Own.{is_resident}
 use Rattle.residency.specs.declared.store.Store.{Store}
-use Rattle.residency.specs.World.{World, world}
+use Rattle.residency.specs.World.{World}
 use Rattle.residency.proofs.Worlds.Homes.{home}
 use Rattle.fault_path.specs.Gathering.{IsGathered}
 use Rattle.residency.proofs.Pushes.PushedPages.{tells_as}
@@ -17,15 +18,13 @@ use Rattle.fault_path.proofs.gathering.zeroed.Goals as goal
 
 pub returns-clause-copied : goal.returns-clause-copied
 returns-clause-copied g c =
-    let old : World = world (g.M.Mapper.held c.args.mapper.now) (g.M.Mapper.page_bytes c.args.mapper.now) c.args.caches.now c.args.store.now in
-    let told = g.M.Mapper.held c.make_free.new.mapper in
-    let size = g.M.Mapper.page_bytes c.make_free.new.mapper in
-    let w : World = world told size c.make_free.new.caches c.make_free.new.self in
-    let v : World = world told size c.make_free.new.caches c.zero.new.self in
+    let old : World = world_at g.M.Mapper c.args.mapper.now c.args.caches.now c.args.store.now in
+    let w : World = world_at g.M.Mapper c.make_free.new.mapper c.make_free.new.caches c.make_free.new.self in
+    let v : World = world_at g.M.Mapper c.make_free.new.mapper c.make_free.new.caches c.zero.new.self in
     let e = c.make_free.ensures.free in
     let held = subst (λ (s : Store). held_count s.frames + pushes_for old.frames.held ≡ held_count old.frames + 1) (sym c.zero.ensures) c.in-Ok.ensures.held in
     one_gathers _ old v _ _ (record {
-      gathered = subst (λ (s : Store). IsGathered c.in-Ok.fresh.0 old (world told size c.make_free.new.caches s)) (sym c.zero.ensures)
+      gathered = subst (λ (s : Store). IsGathered c.in-Ok.fresh.0 old (world_at g.M.Mapper c.make_free.new.mapper c.make_free.new.caches s)) (sym c.zero.ensures)
           (filled_gathered old w c.in-Ok.fresh.0 (replicate w.frames.page 0) (free_gathered old w c.in-Ok.fresh.0 c.requires.right c.in-Ok.ensures.free.still c.in-Ok.ensures.free.done));
       page = search rules;
       home = λ f at. absurd (
@@ -49,11 +48,9 @@ returns-in_default-clause-drops g c = still_drops _ _ _ _ c.args.caches.now c.ma
 
 pub returns-clause-frames : goal.returns-clause-frames
 returns-clause-frames g c =
-    let old : World = world (g.M.Mapper.held c.args.mapper.now) (g.M.Mapper.page_bytes c.args.mapper.now) c.args.caches.now c.args.store.now in
-    let told = g.M.Mapper.held c.make_free.new.mapper in
-    let size = g.M.Mapper.page_bytes c.make_free.new.mapper in
-    let w : World = world told size c.make_free.new.caches c.make_free.new.self in
-    subst (λ (s : Store). OnlyCome Nobody old (world told size c.make_free.new.caches s)) (sym c.zero.ensures)
+    let old : World = world_at g.M.Mapper c.args.mapper.now c.args.caches.now c.args.store.now in
+    let w : World = world_at g.M.Mapper c.make_free.new.mapper c.make_free.new.caches c.make_free.new.self in
+    subst (λ (s : Store). OnlyCome Nobody old (world_at g.M.Mapper c.make_free.new.mapper c.make_free.new.caches s)) (sym c.zero.ensures)
     (come_filled Nobody old w c.in-Ok.fresh.0 (replicate w.frames.page 0) c.in-Ok.ensures.free.done.unbound (none_come old w c.make_free.ensures.free.others))
 
 pub returns-in_default-clause-frames : goal.returns-in_default-clause-frames

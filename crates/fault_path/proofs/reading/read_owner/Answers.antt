@@ -1,7 +1,8 @@
 use Rattle.std.proofs.Common.{sym, ap, ◌∙◌, ◌≡◌, true, false, Some}
 use Rattle.std.proofs.lemmas.Bool.{false≢true}
 use Rattle.local_cache.specs.Own.{own_of}
-use Rattle.residency.specs.World.{World, world}
+use Rattle.residency.specs.Between.{world_at}
+use Rattle.residency.specs.World.{World}
 use Rattle.residency.specs.declared.store.Store.{Store}
 use Rattle.residency.proofs.Forests.StillForest.{still_forest}
 use Rattle.residency.proofs.Translations.Kept.{same_drops, still_drops_but}
@@ -27,7 +28,7 @@ returns-then-is_zero-clause-frame g c = record { zero = sym (zeros g (goal.at.re
 pub returns-then-is_zero-clause-value : goal.returns-then-is_zero-clause-value
 returns-then-is_zero-clause-value g c =
     let zero = zeros g (goal.at.returns-then-is_zero-clause-value g c).Then-is_zero in
-    let old : World = world (g.M.Mapper.held c.args.mapper.now) (g.M.Mapper.page_bytes c.args.mapper.now) c.args.caches.now c.args.store.now in
+    let old : World = world_at g.M.Mapper c.args.mapper.now c.args.caches.now c.args.store.now in
     λ n there owns. found_zero old c.requires.right.sound c.requires.right.shaped n c.args.owner there owns (zero_is (own_of c.args.caches.now c.args.owner) zero)
 
 pub returns-in-Ok-clause-answered : goal.returns-in-Ok-clause-answered
@@ -49,8 +50,8 @@ returns-in-Ok-clause-frame g c =
 
 pub returns-in-Ok-clause-value : goal.returns-in-Ok-clause-value
 returns-in-Ok-clause-value g c =
-    let old : World = world (g.M.Mapper.held c.args.mapper.now) (g.M.Mapper.page_bytes c.args.mapper.now) c.args.caches.now c.args.store.now in
-    let w : World = world (g.M.Mapper.held c.bring_in.new.mapper) (g.M.Mapper.page_bytes c.bring_in.new.mapper) c.bring_in.new.caches c.bring_in.new.self in
+    let old : World = world_at g.M.Mapper c.args.mapper.now c.args.caches.now c.args.store.now in
+    let w : World = world_at g.M.Mapper c.bring_in.new.mapper c.bring_in.new.caches c.bring_in.new.self in
     let e = c.in-Ok.ensures in
     λ n there owns. found_frame old c.requires.right.sound c.requires.right.shaped n c.args.owner there owns w e.still c.in-Ok.frame.0 e.home.0 e.home.1
 
@@ -102,11 +103,11 @@ pub returns-then-is_zero-clause-drops : goal.returns-then-is_zero-clause-drops
 returns-then-is_zero-clause-drops g c = same_drops (λ n. n ≡ c.args.owner) c.args.caches.now c.args.store.now c.requires.right.store.tied.placed
 
 -- the page is brought in, where it isn't at hand
-owner_comes : (g : Over) (c : After-bring_in g) → OnlyCome (IsBroughtIn c.args.caches.now c.args.owner) (world (g.M.Mapper.held c.args.mapper.now) (g.M.Mapper.page_bytes c.args.mapper.now) c.args.caches.now c.args.store.now) (world (g.M.Mapper.held c.bring_in.new.mapper) (g.M.Mapper.page_bytes c.bring_in.new.mapper) c.bring_in.new.caches c.bring_in.new.self)
+owner_comes : (g : Over) (c : After-bring_in g) → OnlyCome (IsBroughtIn c.args.caches.now c.args.owner) (world_at g.M.Mapper c.args.mapper.now c.args.caches.now c.args.store.now) (world_at g.M.Mapper c.bring_in.new.mapper c.bring_in.new.caches c.bring_in.new.self)
 owner_comes g c =
     let some = filled g (goal.at.After-bring_in g c).Else-is_zero in
-    let old : World = world (g.M.Mapper.held c.args.mapper.now) (g.M.Mapper.page_bytes c.args.mapper.now) c.args.caches.now c.args.store.now in
-    let w : World = world (g.M.Mapper.held c.bring_in.new.mapper) (g.M.Mapper.page_bytes c.bring_in.new.mapper) c.bring_in.new.caches c.bring_in.new.self in
+    let old : World = world_at g.M.Mapper c.args.mapper.now c.args.caches.now c.args.store.now in
+    let w : World = world_at g.M.Mapper c.bring_in.new.mapper c.bring_in.new.caches c.bring_in.new.self in
     let b = c.bring_in.ensures in
     brought_comes c.args.owner old w some b.others (λ here. (ap (λ (s : Store). s.map) (b.idle here).1, ap (λ (s : Store). s.frames.bytes) (b.idle here).1, (b.idle here).2))
 

@@ -3,9 +3,10 @@ use Rattle.std.proofs.Common.{Err, refl, sym, ap, subst, ◌∙◌, ◌≡◌, a
 use Rattle.vm_ids.proofs.Forest.Owning.{apart_of_heir}
 use Rattle.global_map.specs.Pairs.{bound_times, node_of}
 use Rattle.local_cache.specs.Reading.{forest_of, name_of}
+use Rattle.residency.specs.Between.{world_at}
 use Rattle.residency.specs.declared.store.Store.{Store}
 use Rattle.residency.specs.StoreForest.{store_forest}
-use Rattle.residency.specs.World.{Still, World, world}
+use Rattle.residency.specs.World.{Still, World}
 use Rattle.residency.proofs.Worlds.Composed.{still_then}
 use Rattle.residency.proofs.Forests.StillForest.{still_caches_sound, still_like}
 use Rattle.fault_path.specs.Faults.{IsOwner, Kept}
@@ -44,30 +45,10 @@ use Rattle.fault_path.proofs.write_faults.own_and_hand.Goals as goal
 
 pub returns-in_err-frame-clause-ready : goal.returns-in_err-frame-clause-ready
 returns-in_err-frame-clause-ready g c =
-    let told = g.M.Mapper.held c.copy_out.new.mapper in
-    let size = g.M.Mapper.page_bytes c.copy_out.new.mapper in
-    let old : World = world (g.M.Mapper.held c.args.mapper.now) (g.M.Mapper.page_bytes c.args.mapper.now) c.args.caches.now c.args.store.now in
-    let w : World = world told size c.copy_out.new.caches c.copy_out.new.store in
+    let old : World = world_at g.M.Mapper c.args.mapper.now c.args.caches.now c.args.store.now in
+    let w : World = world_at g.M.Mapper c.copy_out.new.mapper c.copy_out.new.caches c.copy_out.new.store in
     let n = c.in_err-frame.ensures.copied.none in
     miss_by old w n.still (g.M.Mapper.counts c.args.mapper.now) _ c.requires.right.sound c.requires.right.shaped n.pinned c.in_err-frame.ensures.copied.later c.in_err-frame.ensures.copied.told _ c.from_residual.result c.from_residual.ensures.1 (search rules)
-
-pub returns-in_default-clause-ready : goal.returns-in_default-clause-ready
-returns-in_default-clause-ready g c =
-    let told = g.M.Mapper.held c.copy_out.new.mapper in
-    let size = g.M.Mapper.page_bytes c.copy_out.new.mapper in
-    let told2 = g.M.Mapper.held c.double.new.mapper in
-    let size2 = g.M.Mapper.page_bytes c.double.new.mapper in
-    let before = g.M.Mapper.counts c.args.mapper.now in
-    let now = g.M.Mapper.counts c.double.new.mapper in
-    let old : World = world (g.M.Mapper.held c.args.mapper.now) (g.M.Mapper.page_bytes c.args.mapper.now) c.args.caches.now c.args.store.now in
-    let w : World = world told size c.copy_out.new.caches c.copy_out.new.store in
-    let v : World = world told2 size2 c.double.new.caches c.double.new.store in
-    let one = c.in_ok-frame.ensures.copied.done.gathered in
-    let first = c.in_ok-frame.ensures.copied in
-    let then = c.in_default.ensures.doubled in
-    subst (λ (s : Store). IsDoneOrMissed (Err Victim) (λ (f : FrameId). IsFramed readied c.args.node f.0) old (world told2 size2 c.double.new.caches s) before now) (sym c.release.ensures)
-    (miss_with old _ (released_still old w v c.in_ok-frame.frame.0 one then.none) before now c.requires.right.sound c.requires.right.shaped (released_pins old w v c.in_ok-frame.frame.0 one then.none) (later_then _ _ _ first.later then.later)
-    (tells_as _ _ _ _ _ refl (tells_then old w one.still.stays v _ _ _ then.later first.told then.told)) Victim (cause_then _ _ _ Victim first.later c.in_default.ensures.cause))
 
 pub own_page-requires-clause-sound : goal.own_page-requires-clause-sound
 own_page-requires-clause-sound g c =
@@ -98,66 +79,6 @@ settle_in-requires-2-clause-away g c =
     let next_is = step_heir c.requires.right c.in_ok-frame.ensures.copied.done c.in-Ok.ensures.doubled.done c.requires.node c.requires.bare c.requires.owner c.own_page.ensures c.args.next c.requires.next.name in
     ap (λ (s : Store). bound_times s.map c.args.next.0) c.settle_in.ensures ∙ unbound _ step.right c.args.next (heir_absent c.own_page.new.caches step.sound _ c.args.next next_there next_is)
 
-pub returns-clause-ready : goal.returns-clause-ready
-returns-clause-ready g c =
-    let told = g.M.Mapper.held c.double.new.mapper in
-    let size = g.M.Mapper.page_bytes c.double.new.mapper in
-    let old : World = world (g.M.Mapper.held c.args.mapper.now) (g.M.Mapper.page_bytes c.args.mapper.now) c.args.caches.now c.args.store.now in
-    record {
-      answered = let store : c.settle_in-2.new.store ≡ record c.double.new.store { frames = record c.double.new.store.frames { pinned = set (set c.double.new.store.frames.pinned c.in_ok-frame.frame.0 false) c.in-Ok.second.0 false }; map = set (set c.double.new.store.map c.in_ok-frame.frame.0 (Some c.args.node)) c.in-Ok.second.0 (Some c.args.next) }
-          = c.settle_in-2.ensures ∙ ap (λ (s : Store). record s { frames = record s.frames { pinned = set s.frames.pinned c.in-Ok.second.0 false }; map = set s.map c.in-Ok.second.0 (Some c.args.next) }) c.settle_in.ensures in
-          let kept = two_kept c.requires.right c.in_ok-frame.ensures.copied.done c.in-Ok.ensures.doubled.done c.requires.node c.requires.bare c.requires.owner c.own_page.ensures c.requires.next.held c.requires.next.name c.hand_page.ensures in
-          record {
-            kept = subst (λ (s : Store). Kept old (world told size c.hand_page.new.caches s)) (sym store) kept;
-            later = later_then _ _ _ c.in_ok-frame.ensures.copied.later c.in-Ok.ensures.doubled.later;
-            told = tells_as _ _ _ _ _ refl (tells_then _ _ (c.in_ok-frame.ensures.copied.done.gathered).still.stays _ _ _ _ c.in-Ok.ensures.doubled.later c.in_ok-frame.ensures.copied.told c.in-Ok.ensures.doubled.told);
-          };
-      done = let store : c.settle_in-2.new.store ≡ record c.double.new.store { frames = record c.double.new.store.frames { pinned = set (set c.double.new.store.frames.pinned c.in_ok-frame.frame.0 false) c.in-Ok.second.0 false }; map = set (set c.double.new.store.map c.in_ok-frame.frame.0 (Some c.args.node)) c.in-Ok.second.0 (Some c.args.next) }
-          = c.settle_in-2.ensures ∙ ap (λ (s : Store). record s { frames = record s.frames { pinned = set s.frames.pinned c.in-Ok.second.0 false }; map = set s.map c.in-Ok.second.0 (Some c.args.next) }) c.settle_in.ensures in
-          let bound = two_bound c.requires.right c.in_ok-frame.ensures.copied.done c.in-Ok.ensures.doubled.done c.requires.node c.requires.bare c.requires.owner c.own_page.ensures c.requires.next.held c.requires.next.name c.hand_page.ensures in
-          record {
-            forest = ap (λ (s : Store). store_forest (world told size c.hand_page.new.caches s)) store ∙ two_forest c.requires.right c.in_ok-frame.ensures.copied.done c.in-Ok.ensures.doubled.done c.requires.node c.requires.bare c.requires.owner c.own_page.ensures c.requires.next.held c.requires.next.name c.hand_page.ensures;
-            bound = search rules;
-            resident = two_resident c.requires.right c.in_ok-frame.ensures.copied.done c.in-Ok.ensures.doubled.done c.requires.node c.requires.bare c.requires.owner c.own_page.ensures c.requires.next.held c.requires.next.name c.hand_page.ensures (λ e. apart_of_heir (forest_of c.args.caches.now) c.requires.right.sound.linked (name_of c.args.caches.now c.args.node) (name_of c.args.caches.now c.args.next) c.requires.next.name (ap (name_of c.args.caches.now) (sym e)));
-          };
-      missed = tt;
-    }
-
-pub returns-clause-copies : goal.returns-clause-copies
-returns-clause-copies g c =
-    two_copies c.requires.right c.in_ok-frame.ensures.copied.done c.in-Ok.ensures.doubled.done c.requires.node c.requires.bare c.requires.owner c.own_page.ensures c.requires.next.held c.requires.next.name c.hand_page.ensures
-
-pub returns-clause-traffic : goal.returns-clause-traffic
-returns-clause-traffic g c = λ o is. (
-    let own : OwnState = own_of c.args.caches.now c.args.owner in
-    let first = c.in_ok-frame.ensures in
-    let gathered = first.copied.done.gathered in
-    let whole = gathered.still in
-    let sum : Pulls (pulls_to_copy own) (frames_to_copy own + 1 - free_count c.args.store.now.frames) (g.M.Mapper.counts c.args.mapper.now) (g.M.Mapper.counts c.double.new.mapper) = pulls_more (frames_to_copy own) (pulls_to_copy own) c.args.store.now.frames.held c.copy_out.new.store.frames.held _ _ _ whole.stays.frames first.copied.held first.copied.traffic c.in-Ok.ensures.doubled.traffic c.double.ensures.doubled.later in
-    subst (λ (m : NodeId). Pulls (pulls_to_copy (own_of c.args.caches.now m)) (frames_to_copy (own_of c.args.caches.now m) + 1 - free_count c.args.store.now.frames) (g.M.Mapper.counts c.args.mapper.now) (g.M.Mapper.counts c.double.new.mapper)) (sym (owner_same c.args.caches.now c.requires.right.sound c.args.node o c.args.owner is c.requires.owner)) sum)
-
-pub returns-clause-most : goal.returns-clause-most
-returns-clause-most g c =
-    let own : OwnState = own_of c.args.caches.now c.args.owner in
-    let first = c.in_ok-frame.ensures in
-    let gathered = first.copied.done.gathered in
-    let whole = gathered.still in
-    let sum : Pulls (pulls_to_copy own) (frames_to_copy own + 1 - free_count c.args.store.now.frames) (g.M.Mapper.counts c.args.mapper.now) (g.M.Mapper.counts c.double.new.mapper) = pulls_more (frames_to_copy own) (pulls_to_copy own) c.args.store.now.frames.held c.copy_out.new.store.frames.held _ _ _ whole.stays.frames first.copied.held first.copied.traffic c.in-Ok.ensures.doubled.traffic c.double.ensures.doubled.later in
-    let bounds = copy_most own in
-    each_owner (λ (m : NodeId). TakesAtMost (pulls_to_copy (own_of c.args.caches.now m)) 3 c.args.store.now.frames (g.M.Mapper.counts c.args.mapper.now) (g.M.Mapper.counts c.double.new.mapper)) c.args.caches.now c.requires.right.sound c.args.node c.args.owner c.requires.owner
-    (pulls_most _ _ _ _ _ _ sum (omega arith) (omega (arith, bounds.1)))
-
-pub returns-in_default-clause-most : goal.returns-in_default-clause-most
-returns-in_default-clause-most g c =
-    let own : OwnState = own_of c.args.caches.now c.args.owner in
-    let first = c.in_ok-frame.ensures.copied in
-    let then = c.in_default.ensures.doubled in
-    let one = c.in_ok-frame.ensures.copied.done.gathered in
-    let bounds = copy_most own in
-    each_owner (λ (m : NodeId). TakesAtMost (pulls_to_copy (own_of c.args.caches.now m)) 3 c.args.store.now.frames (g.M.Mapper.counts c.args.mapper.now) (g.M.Mapper.counts c.double.new.mapper)) c.args.caches.now c.requires.right.sound c.args.node c.args.owner c.requires.owner
-    (most_then _ _ _ _ _ _ _ _ _ first.traffic then.most then.later (omega arith)
-    (omega (arith, bounds.1, pushes_then (frames_to_copy own) c.args.store.now.frames.held c.copy_out.new.store.frames.held one.still.stays.frames first.held)))
-
 pub returns-in_err-frame-clause-most : goal.returns-in_err-frame-clause-most
 returns-in_err-frame-clause-most g c =
     each_owner (λ (m : NodeId). TakesAtMost (pulls_to_copy (own_of c.args.caches.now m)) 3 c.args.store.now.frames (g.M.Mapper.counts c.args.mapper.now) (g.M.Mapper.counts c.copy_out.new.mapper)) c.args.caches.now c.requires.right.sound c.args.node c.args.owner c.requires.owner
@@ -167,62 +88,9 @@ pub returns-in_err-frame-clause-drops : goal.returns-in_err-frame-clause-drops
 returns-in_err-frame-clause-drops g c =
     λ o is. failed_leaves _ c.from_residual.result _ _ _ _ _ _ c.from_residual.ensures.1 (drops_more (λ n. n ≡ c.args.owner) (MayCome c.args.caches.now o) c.args.caches.now c.copy_out.new.caches c.args.store.now c.copy_out.new.store (λ n e. inl (e ∙ sym (owner_same c.args.caches.now c.requires.right.sound c.args.node o c.args.owner is c.requires.owner))) c.copy_out.ensures.drops)
 
-pub returns-in_default-clause-drops : goal.returns-in_default-clause-drops
-returns-in_default-clause-drops g c =
-    let gathered : Drops (λ n. n ≡ c.args.owner) c.args.caches.now c.args.store.now c.double.new.caches c.double.new.store = drops_trans (λ n. n ≡ c.args.owner) Nobody (λ n. n ≡ c.args.owner) c.args.caches.now c.copy_out.new.caches c.double.new.caches c.args.store.now c.copy_out.new.store c.double.new.store (λ n e. e) (λ n e. absurd e) c.copy_out.ensures.drops c.double.ensures.drops in
-    λ o is. record {
-      left = tt;
-      home = tt;
-      failed = drops_by (MayCome c.args.caches.now o) c.args.caches.now c.double.new.caches c.args.store.now c.double.new.store c.args.store.now c.release.new.store refl refl (ap (λ (s : Store). s.map) c.release.ensures) (ap (λ (s : Store). s.tables) c.release.ensures)
-          (drops_more (λ n. n ≡ c.args.owner) (MayCome c.args.caches.now o) c.args.caches.now c.double.new.caches c.args.store.now c.double.new.store (λ n e. inl (e ∙ sym (owner_same c.args.caches.now c.requires.right.sound c.args.node o c.args.owner is c.requires.owner))) gathered);
-    }
-
-pub returns-clause-drops : goal.returns-clause-drops
-returns-clause-drops g c =
-    let old : World = world (g.M.Mapper.held c.args.mapper.now) (g.M.Mapper.page_bytes c.args.mapper.now) c.args.caches.now c.args.store.now in
-    let v : World = world (g.M.Mapper.held c.double.new.mapper) (g.M.Mapper.page_bytes c.double.new.mapper) c.hand_page.new.caches c.settle_in-2.new.store in
-    let one = c.in_ok-frame.ensures.copied.done.gathered in
-    let two = c.in-Ok.ensures.doubled.done in
-    let gathered = two.gathered in
-    let whole = still_then _ _ _ one.still gathered.still in
-    let f1 : ℕ = c.in_ok-frame.frame.0 in
-    let f2 : ℕ = c.in-Ok.second.0 in
-    let free1 : node_of c.double.new.store.map f1 ≡ None = two.stays.node ∙ one.taken.unbound in
-    let within1 : f1 < length c.double.new.store.map = omega (arith, one.taken.within, gathered.still.stays.frames, gathered.still.stays.right.tied.fitted.map_frames) in
-    let map1 : c.settle_in.new.store.map ≡ set c.double.new.store.map f1 (Some c.args.node) = ap (λ (s : Store). s.map) c.settle_in.ensures in
-    let free2 : node_of c.settle_in.new.store.map f2 ≡ None = ap (λ (m : List (Option NodeId)). node_of m f2) map1 ∙ get_or-set_other c.double.new.store.map f1 f2 (Some c.args.node) None two.apart ∙ gathered.taken.unbound in
-    let within2 : f2 < length c.settle_in.new.store.map = omega (arith, gathered.taken.within, gathered.still.stays.right.tied.fitted.map_frames, ap (λ (m : List (Option NodeId)). length m) map1, length-set c.double.new.store.map f1 (Some c.args.node)) in
-    let map2 : c.settle_in-2.new.store.map ≡ set c.settle_in.new.store.map f2 (Some c.args.next) = ap (λ (s : Store). s.map) c.settle_in-2.ensures in
-    let absent = ap is_absent (heir_absent c.args.caches.now c.requires.right.sound _ c.args.next c.requires.next.held c.requires.next.name) in
-    let stays : (f : ℕ) (p : NodeId) → node_of c.double.new.store.map f ≡ Some p → node_of c.settle_in-2.new.store.map f ≡ Some p = λ f p at. ap (λ (m : List (Option NodeId)). node_of m f) map2 ∙ settled_stays c.settle_in.new.store.map f2 c.args.next free2 f p
-    (ap (λ (m : List (Option NodeId)). node_of m f) map1 ∙ settled_stays c.double.new.store.map f1 c.args.node free1 f p at) in
-    let tables : c.settle_in-2.new.store.tables ≡ c.double.new.store.tables = ap (λ (s : Store). s.tables) c.settle_in-2.ensures ∙ ap (λ (s : Store). s.tables) c.settle_in.ensures in
-    let both = returns-clause-ready g c in
-    let answered : IsAnswered old v (g.M.Mapper.counts c.args.mapper.now) (g.M.Mapper.counts c.double.new.mapper) = both.answered in
-    let framed : IsFramed readied c.args.node f1 old v = both.done in
-    let all : Drops (MayCome c.args.caches.now c.args.owner) c.args.caches.now c.args.store.now c.hand_page.new.caches (without_homes c.args.owner c.args.node c.settle_in-2.new.store) =
-    both_drops c.args.caches.now c.double.new.caches c.hand_page.new.caches c.args.store.now c.double.new.store c.settle_in-2.new.store c.requires.right whole answered.kept c.args.node c.args.owner c.requires.node c.requires.owner
-    (drops_trans (λ n. n ≡ c.args.owner) Nobody (λ n. n ≡ c.args.owner) c.args.caches.now c.copy_out.new.caches c.double.new.caches c.args.store.now c.copy_out.new.store c.double.new.store (λ n e. e) (λ n e. absurd e) c.copy_out.ensures.drops c.double.ensures.drops)
-    stays
-    (λ f p at. elim (settled_comes c.settle_in.new.store.map f2 c.args.next within2 f p (ap (λ (m : List (Option NodeId)). node_of m f) (sym map2) ∙ at)) [
-      | inl there ↦ may_come c.args.caches.now c.args.owner c.args.node p (ap is_absent c.requires.bare) (settled_comes c.double.new.store.map f1 c.args.node within1 f p (ap (λ (m : List (Option NodeId)). node_of m f) (sym map1) ∙ there))
-      | inr e ↦ may_come c.args.caches.now c.args.owner c.args.next p absent (inr e)
-    ])
-    (inr (ap is_absent c.requires.bare)) tables
-    (framed.forest ∙ sym (readied_bare (store_forest old) (name_of c.args.caches.now c.args.node) (store_page old c.requires.right.sound c.args.node c.requires.node ∙ absent_none old c.args.node c.requires.bare))) in
-    λ o is. record {
-      left = each_owner (λ (m : NodeId). Drops (MayCome c.args.caches.now m) c.args.caches.now c.args.store.now c.hand_page.new.caches (without_homes m c.args.node c.settle_in-2.new.store)) c.args.caches.now c.requires.right.sound c.args.node c.args.owner c.requires.owner all o is;
-      home = each_owner (λ (m : NodeId). StaysOrUnseen m c.args.store.now c.settle_in-2.new.store) c.args.caches.now c.requires.right.sound c.args.node c.args.owner c.requires.owner
-          (λ f at. elim (stays_or_unseen c.args.owner c.copy_out.new.store c.double.new.store c.double.ensures.tables f (c.in_ok-frame.ensures.copied.done.home f at)) [
-            | inl there ↦ inl (stays f c.args.owner there)
-            | inr none ↦ inr (subst (NoneLeadTo f) (sym tables) none)
-          ]) o is;
-      failed = tt;
-    }
-
 -- the page of the owner was copied out, and doubled or not
-both_come : (g : Over) (c : After-double g) (still : Still (world (g.M.Mapper.held c.args.mapper.now) (g.M.Mapper.page_bytes c.args.mapper.now) c.args.caches.now c.args.store.now) (world (g.M.Mapper.held c.copy_out.new.mapper) (g.M.Mapper.page_bytes c.copy_out.new.mapper) c.copy_out.new.caches c.copy_out.new.store))
-    → OnlyCome (IsOfWrite c.args.caches.now c.args.node c.args.owner) (world (g.M.Mapper.held c.args.mapper.now) (g.M.Mapper.page_bytes c.args.mapper.now) c.args.caches.now c.args.store.now) (world (g.M.Mapper.held c.double.new.mapper) (g.M.Mapper.page_bytes c.double.new.mapper) c.double.new.caches c.double.new.store)
+both_come : (g : Over) (c : After-double g) (still : Still (world_at g.M.Mapper c.args.mapper.now c.args.caches.now c.args.store.now) (world_at g.M.Mapper c.copy_out.new.mapper c.copy_out.new.caches c.copy_out.new.store))
+    → OnlyCome (IsOfWrite c.args.caches.now c.args.node c.args.owner) (world_at g.M.Mapper c.args.mapper.now c.args.caches.now c.args.store.now) (world_at g.M.Mapper c.double.new.mapper c.double.new.caches c.double.new.store)
 both_come g c still =
     let may = IsOfWrite c.args.caches.now c.args.node c.args.owner in
     come_then may _ _ _ (still_like c.args.caches.now c.copy_out.new.caches still.stays.caches) (more_come (IsBroughtIn c.args.caches.now c.args.owner) may _ _ (λ m e. inr (inr e)) c.copy_out.ensures.frames)
@@ -230,46 +98,140 @@ both_come g c still =
 
 pub returns-in_err-frame-clause-frames : goal.returns-in_err-frame-clause-frames
 returns-in_err-frame-clause-frames g c =
-    let old : World = world (g.M.Mapper.held c.args.mapper.now) (g.M.Mapper.page_bytes c.args.mapper.now) c.args.caches.now c.args.store.now in
-    let w : World = world (g.M.Mapper.held c.copy_out.new.mapper) (g.M.Mapper.page_bytes c.copy_out.new.mapper) c.copy_out.new.caches c.copy_out.new.store in
+    let old : World = world_at g.M.Mapper c.args.mapper.now c.args.caches.now c.args.store.now in
+    let w : World = world_at g.M.Mapper c.copy_out.new.mapper c.copy_out.new.caches c.copy_out.new.store in
     each_owner (λ (m : NodeId). OnlyCome (IsOfWrite c.args.caches.now c.args.node m) old w) c.args.caches.now c.requires.right.sound c.args.node c.args.owner c.requires.owner
     (more_come (IsBroughtIn c.args.caches.now c.args.owner) (IsOfWrite c.args.caches.now c.args.node c.args.owner) old w (λ m e. inr (inr e)) c.copy_out.ensures.frames)
 
-pub returns-in_default-clause-frames : goal.returns-in_default-clause-frames
-returns-in_default-clause-frames g c =
-    let told = g.M.Mapper.held c.double.new.mapper in
-    let size = g.M.Mapper.page_bytes c.double.new.mapper in
-    let old : World = world (g.M.Mapper.held c.args.mapper.now) (g.M.Mapper.page_bytes c.args.mapper.now) c.args.caches.now c.args.store.now in
-    let v : World = world told size c.double.new.caches c.double.new.store in
-    let u : World = world told size c.double.new.caches c.release.new.store in
+pub returns-in_default : goal.returns-in_default
+returns-in_default g c =
+    let before = g.M.Mapper.counts c.args.mapper.now in
+    let now = g.M.Mapper.counts c.double.new.mapper in
+    let old : World = world_at g.M.Mapper c.args.mapper.now c.args.caches.now c.args.store.now in
+    let w : World = world_at g.M.Mapper c.copy_out.new.mapper c.copy_out.new.caches c.copy_out.new.store in
+    let v : World = world_at g.M.Mapper c.double.new.mapper c.double.new.caches c.double.new.store in
     let one = c.in_ok-frame.ensures.copied.done.gathered in
-    each_owner (λ (m : NodeId). OnlyCome (IsOfWrite c.args.caches.now c.args.node m) old u) c.args.caches.now c.requires.right.sound c.args.node c.args.owner c.requires.owner
-    (come_by (IsOfWrite c.args.caches.now c.args.node c.args.owner) old v old u refl refl refl (ap (λ (s : Store). s.map) c.release.ensures) (ap (λ (s : Store). s.frames.bytes) c.release.ensures) refl
-    (both_come g (goal.at.returns-in_default-clause-frames g c).After-double one.still))
+    let first = c.in_ok-frame.ensures.copied in
+    let then = c.in_default.ensures.doubled in
+    let own : OwnState = own_of c.args.caches.now c.args.owner in
+    let bounds = copy_most own in
+    let gathered : Drops (λ n. n ≡ c.args.owner) c.args.caches.now c.args.store.now c.double.new.caches c.double.new.store = drops_trans (λ n. n ≡ c.args.owner) Nobody (λ n. n ≡ c.args.owner) c.args.caches.now c.copy_out.new.caches c.double.new.caches c.args.store.now c.copy_out.new.store c.double.new.store (λ n e. e) (λ n e. absurd e) c.copy_out.ensures.drops c.double.ensures.drops in
+    let u : World = world_at g.M.Mapper c.double.new.mapper c.double.new.caches c.release.new.store in
+    record {
+      ready = (subst (λ (s : Store). IsDoneOrMissed (Err Victim) (λ (f : FrameId). IsFramed readied c.args.node f.0) old (world_at g.M.Mapper c.double.new.mapper c.double.new.caches s) before now) (sym c.release.ensures)
+          (miss_with old _ (released_still old w v c.in_ok-frame.frame.0 one then.none) before now c.requires.right.sound c.requires.right.shaped (released_pins old w v c.in_ok-frame.frame.0 one then.none) (later_then _ _ _ first.later then.later)
+          (tells_as _ _ _ _ _ refl (tells_then old w one.still.stays v _ _ _ then.later first.told then.told)) Victim (cause_then _ _ _ Victim first.later c.in_default.ensures.cause)));
+      drops = (λ o is. record {
+        left = tt;
+        home = tt;
+        failed = drops_by (MayCome c.args.caches.now o) c.args.caches.now c.double.new.caches c.args.store.now c.double.new.store c.args.store.now c.release.new.store refl refl (ap (λ (s : Store). s.map) c.release.ensures) (ap (λ (s : Store). s.tables) c.release.ensures)
+            (drops_more (λ n. n ≡ c.args.owner) (MayCome c.args.caches.now o) c.args.caches.now c.double.new.caches c.args.store.now c.double.new.store (λ n e. inl (e ∙ sym (owner_same c.args.caches.now c.requires.right.sound c.args.node o c.args.owner is c.requires.owner))) gathered);
+      });
+      frames = (each_owner (λ (m : NodeId). OnlyCome (IsOfWrite c.args.caches.now c.args.node m) old u) c.args.caches.now c.requires.right.sound c.args.node c.args.owner c.requires.owner
+          (come_by (IsOfWrite c.args.caches.now c.args.node c.args.owner) old v old u refl refl refl (ap (λ (s : Store). s.map) c.release.ensures) (ap (λ (s : Store). s.frames.bytes) c.release.ensures) refl
+          (both_come g (goal.at.returns-in_default g c).After-double one.still)));
+      copies = search rules;
+      traffic = search rules;
+      most = (each_owner (λ (m : NodeId). TakesAtMost (pulls_to_copy (own_of c.args.caches.now m)) 3 c.args.store.now.frames (g.M.Mapper.counts c.args.mapper.now) (g.M.Mapper.counts c.double.new.mapper)) c.args.caches.now c.requires.right.sound c.args.node c.args.owner c.requires.owner
+          (most_then _ _ _ _ _ _ _ _ _ first.traffic then.most then.later (omega arith)
+          (omega (arith, bounds.1, pushes_then (frames_to_copy own) c.args.store.now.frames.held c.copy_out.new.store.frames.held one.still.stays.frames first.held))));
+      victim = search rules;
+    }
 
-pub returns-clause-frames : goal.returns-clause-frames
-returns-clause-frames g c =
+pub returns : goal.returns
+returns g c =
     let told = g.M.Mapper.held c.double.new.mapper in
-    let size = g.M.Mapper.page_bytes c.double.new.mapper in
-    let old : World = world (g.M.Mapper.held c.args.mapper.now) (g.M.Mapper.page_bytes c.args.mapper.now) c.args.caches.now c.args.store.now in
-    let v : World = world told size c.double.new.caches c.double.new.store in
-    let u : World = world told size c.own_page.new.caches c.settle_in.new.store in
-    let x : World = world told size c.hand_page.new.caches c.settle_in-2.new.store in
+    let old : World = world_at g.M.Mapper c.args.mapper.now c.args.caches.now c.args.store.now in
+    let own : OwnState = own_of c.args.caches.now c.args.owner in
+    let first = c.in_ok-frame.ensures in
+    let gathered = first.copied.done.gathered in
+    let whole = gathered.still in
+    let sum : Pulls (pulls_to_copy own) (frames_to_copy own + 1 - free_count c.args.store.now.frames) (g.M.Mapper.counts c.args.mapper.now) (g.M.Mapper.counts c.double.new.mapper) = pulls_more (frames_to_copy own) (pulls_to_copy own) c.args.store.now.frames.held c.copy_out.new.store.frames.held _ _ _ whole.stays.frames first.copied.held first.copied.traffic c.in-Ok.ensures.doubled.traffic c.double.ensures.doubled.later in
+    let bounds = copy_most own in
+    let v : World = world_at g.M.Mapper c.double.new.mapper c.hand_page.new.caches c.settle_in-2.new.store in
     let one = c.in_ok-frame.ensures.copied.done.gathered in
     let two = c.in-Ok.ensures.doubled.done in
-    let gathered = two.gathered in
     let f1 : ℕ = c.in_ok-frame.frame.0 in
     let f2 : ℕ = c.in-Ok.second.0 in
-    let within1 : f1 < length c.double.new.store.map = omega (arith, one.taken.within, gathered.still.stays.frames, gathered.still.stays.right.tied.fitted.map_frames) in
+    let free1 : node_of c.double.new.store.map f1 ≡ None = two.stays.node ∙ one.taken.unbound in
     let map1 : c.settle_in.new.store.map ≡ set c.double.new.store.map f1 (Some c.args.node) = ap (λ (s : Store). s.map) c.settle_in.ensures in
-    let within2 : f2 < length c.settle_in.new.store.map = omega (arith, gathered.taken.within, gathered.still.stays.right.tied.fitted.map_frames, ap (λ (m : List (Option NodeId)). length m) map1, length-set c.double.new.store.map f1 (Some c.args.node)) in
+    let map2 : c.settle_in-2.new.store.map ≡ set c.settle_in.new.store.map f2 (Some c.args.next) = ap (λ (s : Store). s.map) c.settle_in-2.ensures in
+    let absent = ap is_absent (heir_absent c.args.caches.now c.requires.right.sound _ c.args.next c.requires.next.held c.requires.next.name) in
+    let tables : c.settle_in-2.new.store.tables ≡ c.double.new.store.tables = ap (λ (s : Store). s.tables) c.settle_in-2.ensures ∙ ap (λ (s : Store). s.tables) c.settle_in.ensures in
+    let both = returns-clause-ready g c in
+    let answered : IsAnswered old v (g.M.Mapper.counts c.args.mapper.now) (g.M.Mapper.counts c.double.new.mapper) = both.answered in
+    let framed : IsFramed readied c.args.node f1 old v = both.done in
+    let u : World = world_at g.M.Mapper c.double.new.mapper c.own_page.new.caches c.settle_in.new.store in
+    let x : World = world_at g.M.Mapper c.double.new.mapper c.hand_page.new.caches c.settle_in-2.new.store in
     let may = IsOfWrite c.args.caches.now c.args.node c.args.owner in
     let gives = step_gives c.requires.right c.in_ok-frame.ensures.copied.done c.in-Ok.ensures.doubled.done c.requires.node c.requires.bare c.requires.owner c.own_page.ensures in
     let handed = hands c.requires.right c.in_ok-frame.ensures.copied.done c.in-Ok.ensures.doubled.done c.requires.node c.requires.bare c.requires.owner c.own_page.ensures c.requires.next.held c.requires.next.name c.hand_page.ensures in
-    each_owner (λ (m : NodeId). OnlyCome (IsOfWrite c.args.caches.now c.args.node m) old x) c.args.caches.now c.requires.right.sound c.args.node c.args.owner c.requires.owner
-    (come_settled may old u x f2 c.args.next within2 (inr (inl c.requires.next.name)) (ap (λ (s : Store). s.map) c.settle_in-2.ensures) (ap (λ (s : Store). s.frames.bytes) c.settle_in-2.ensures) handed.others
-    (come_settled may old v u f1 c.args.node within1 (inl refl) map1 (ap (λ (s : Store). s.frames.bytes) c.settle_in.ensures) gives.others
-    (both_come g (goal.at.returns-clause-frames g c).After-double one.still)))
+    record {
+      ready = (record {
+        answered = let store : c.settle_in-2.new.store ≡ record c.double.new.store { frames = record c.double.new.store.frames { pinned = set (set c.double.new.store.frames.pinned c.in_ok-frame.frame.0 false) c.in-Ok.second.0 false }; map = set (set c.double.new.store.map c.in_ok-frame.frame.0 (Some c.args.node)) c.in-Ok.second.0 (Some c.args.next) }
+            = c.settle_in-2.ensures ∙ ap (λ (s : Store). record s { frames = record s.frames { pinned = set s.frames.pinned c.in-Ok.second.0 false }; map = set s.map c.in-Ok.second.0 (Some c.args.next) }) c.settle_in.ensures in
+            let kept = two_kept c.requires.right c.in_ok-frame.ensures.copied.done c.in-Ok.ensures.doubled.done c.requires.node c.requires.bare c.requires.owner c.own_page.ensures c.requires.next.held c.requires.next.name c.hand_page.ensures in
+            record {
+              kept = subst (λ (s : Store). Kept old (world_at g.M.Mapper c.double.new.mapper c.hand_page.new.caches s)) (sym store) kept;
+              later = later_then _ _ _ c.in_ok-frame.ensures.copied.later c.in-Ok.ensures.doubled.later;
+              told = tells_as _ _ _ _ _ refl (tells_then _ _ (c.in_ok-frame.ensures.copied.done.gathered).still.stays _ _ _ _ c.in-Ok.ensures.doubled.later c.in_ok-frame.ensures.copied.told c.in-Ok.ensures.doubled.told);
+            };
+        done = let store : c.settle_in-2.new.store ≡ record c.double.new.store { frames = record c.double.new.store.frames { pinned = set (set c.double.new.store.frames.pinned c.in_ok-frame.frame.0 false) c.in-Ok.second.0 false }; map = set (set c.double.new.store.map c.in_ok-frame.frame.0 (Some c.args.node)) c.in-Ok.second.0 (Some c.args.next) }
+            = c.settle_in-2.ensures ∙ ap (λ (s : Store). record s { frames = record s.frames { pinned = set s.frames.pinned c.in-Ok.second.0 false }; map = set s.map c.in-Ok.second.0 (Some c.args.next) }) c.settle_in.ensures in
+            let bound = two_bound c.requires.right c.in_ok-frame.ensures.copied.done c.in-Ok.ensures.doubled.done c.requires.node c.requires.bare c.requires.owner c.own_page.ensures c.requires.next.held c.requires.next.name c.hand_page.ensures in
+            record {
+              forest = ap (λ (s : Store). store_forest (world_at g.M.Mapper c.double.new.mapper c.hand_page.new.caches s)) store ∙ two_forest c.requires.right c.in_ok-frame.ensures.copied.done c.in-Ok.ensures.doubled.done c.requires.node c.requires.bare c.requires.owner c.own_page.ensures c.requires.next.held c.requires.next.name c.hand_page.ensures;
+              bound = search rules;
+              resident = two_resident c.requires.right c.in_ok-frame.ensures.copied.done c.in-Ok.ensures.doubled.done c.requires.node c.requires.bare c.requires.owner c.own_page.ensures c.requires.next.held c.requires.next.name c.hand_page.ensures (λ e. apart_of_heir (forest_of c.args.caches.now) c.requires.right.sound.linked (name_of c.args.caches.now c.args.node) (name_of c.args.caches.now c.args.next) c.requires.next.name (ap (name_of c.args.caches.now) (sym e)));
+            };
+        missed = tt;
+      });
+      drops = (let gathered = two.gathered in
+          let whole = still_then _ _ _ one.still gathered.still in
+          let within1 : f1 < length c.double.new.store.map = omega (arith, one.taken.within, gathered.still.stays.frames, gathered.still.stays.right.tied.fitted.map_frames) in
+          let free2 : node_of c.settle_in.new.store.map f2 ≡ None = ap (λ (m : List (Option NodeId)). node_of m f2) map1 ∙ get_or-set_other c.double.new.store.map f1 f2 (Some c.args.node) None two.apart ∙ gathered.taken.unbound in
+          let within2 : f2 < length c.settle_in.new.store.map = omega (arith, gathered.taken.within, gathered.still.stays.right.tied.fitted.map_frames, ap (λ (m : List (Option NodeId)). length m) map1, length-set c.double.new.store.map f1 (Some c.args.node)) in
+          let stays : (f : ℕ) (p : NodeId) → node_of c.double.new.store.map f ≡ Some p → node_of c.settle_in-2.new.store.map f ≡ Some p = λ f p at. ap (λ (m : List (Option NodeId)). node_of m f) map2 ∙ settled_stays c.settle_in.new.store.map f2 c.args.next free2 f p
+          (ap (λ (m : List (Option NodeId)). node_of m f) map1 ∙ settled_stays c.double.new.store.map f1 c.args.node free1 f p at) in
+          let all : Drops (MayCome c.args.caches.now c.args.owner) c.args.caches.now c.args.store.now c.hand_page.new.caches (without_homes c.args.owner c.args.node c.settle_in-2.new.store) =
+          both_drops c.args.caches.now c.double.new.caches c.hand_page.new.caches c.args.store.now c.double.new.store c.settle_in-2.new.store c.requires.right whole answered.kept c.args.node c.args.owner c.requires.node c.requires.owner
+          (drops_trans (λ n. n ≡ c.args.owner) Nobody (λ n. n ≡ c.args.owner) c.args.caches.now c.copy_out.new.caches c.double.new.caches c.args.store.now c.copy_out.new.store c.double.new.store (λ n e. e) (λ n e. absurd e) c.copy_out.ensures.drops c.double.ensures.drops)
+          stays
+          (λ f p at. elim (settled_comes c.settle_in.new.store.map f2 c.args.next within2 f p (ap (λ (m : List (Option NodeId)). node_of m f) (sym map2) ∙ at)) [
+            | inl there ↦ may_come c.args.caches.now c.args.owner c.args.node p (ap is_absent c.requires.bare) (settled_comes c.double.new.store.map f1 c.args.node within1 f p (ap (λ (m : List (Option NodeId)). node_of m f) (sym map1) ∙ there))
+            | inr e ↦ may_come c.args.caches.now c.args.owner c.args.next p absent (inr e)
+          ])
+          (inr (ap is_absent c.requires.bare)) tables
+          (framed.forest ∙ sym (readied_bare (store_forest old) (name_of c.args.caches.now c.args.node) (store_page old c.requires.right.sound c.args.node c.requires.node ∙ absent_none old c.args.node c.requires.bare))) in
+          λ o is. record {
+            left = each_owner (λ (m : NodeId). Drops (MayCome c.args.caches.now m) c.args.caches.now c.args.store.now c.hand_page.new.caches (without_homes m c.args.node c.settle_in-2.new.store)) c.args.caches.now c.requires.right.sound c.args.node c.args.owner c.requires.owner all o is;
+            home = each_owner (λ (m : NodeId). StaysOrUnseen m c.args.store.now c.settle_in-2.new.store) c.args.caches.now c.requires.right.sound c.args.node c.args.owner c.requires.owner
+                (λ f at. elim (stays_or_unseen c.args.owner c.copy_out.new.store c.double.new.store c.double.ensures.tables f (c.in_ok-frame.ensures.copied.done.home f at)) [
+                  | inl there ↦ inl (stays f c.args.owner there)
+                  | inr none ↦ inr (subst (NoneLeadTo f) (sym tables) none)
+                ]) o is;
+            failed = tt;
+          });
+      frames = (let v : World = world_at g.M.Mapper c.double.new.mapper c.double.new.caches c.double.new.store in
+          let gathered = two.gathered in
+          let within1 : f1 < length c.double.new.store.map = omega (arith, one.taken.within, gathered.still.stays.frames, gathered.still.stays.right.tied.fitted.map_frames) in
+          let within2 : f2 < length c.settle_in.new.store.map = omega (arith, gathered.taken.within, gathered.still.stays.right.tied.fitted.map_frames, ap (λ (m : List (Option NodeId)). length m) map1, length-set c.double.new.store.map f1 (Some c.args.node)) in
+          each_owner (λ (m : NodeId). OnlyCome (IsOfWrite c.args.caches.now c.args.node m) old x) c.args.caches.now c.requires.right.sound c.args.node c.args.owner c.requires.owner
+          (come_settled may old u x f2 c.args.next within2 (inr (inl c.requires.next.name)) (ap (λ (s : Store). s.map) c.settle_in-2.ensures) (ap (λ (s : Store). s.frames.bytes) c.settle_in-2.ensures) handed.others
+          (come_settled may old v u f1 c.args.node within1 (inl refl) map1 (ap (λ (s : Store). s.frames.bytes) c.settle_in.ensures) gives.others
+          (both_come g (goal.at.returns g c).After-double one.still))));
+      copies = two_copies c.requires.right c.in_ok-frame.ensures.copied.done c.in-Ok.ensures.doubled.done c.requires.node c.requires.bare c.requires.owner c.own_page.ensures c.requires.next.held c.requires.next.name c.hand_page.ensures;
+      traffic = (λ o is. (
+          let own : OwnState = own_of c.args.caches.now c.args.owner in
+          let first = c.in_ok-frame.ensures in
+          let gathered = first.copied.done.gathered in
+          let whole = gathered.still in
+          let sum : Pulls (pulls_to_copy own) (frames_to_copy own + 1 - free_count c.args.store.now.frames) (g.M.Mapper.counts c.args.mapper.now) (g.M.Mapper.counts c.double.new.mapper) = pulls_more (frames_to_copy own) (pulls_to_copy own) c.args.store.now.frames.held c.copy_out.new.store.frames.held _ _ _ whole.stays.frames first.copied.held first.copied.traffic c.in-Ok.ensures.doubled.traffic c.double.ensures.doubled.later in
+          subst (λ (m : NodeId). Pulls (pulls_to_copy (own_of c.args.caches.now m)) (frames_to_copy (own_of c.args.caches.now m) + 1 - free_count c.args.store.now.frames) (g.M.Mapper.counts c.args.mapper.now) (g.M.Mapper.counts c.double.new.mapper)) (sym (owner_same c.args.caches.now c.requires.right.sound c.args.node o c.args.owner is c.requires.owner)) sum));
+      most = (each_owner (λ (m : NodeId). TakesAtMost (pulls_to_copy (own_of c.args.caches.now m)) 3 c.args.store.now.frames (g.M.Mapper.counts c.args.mapper.now) (g.M.Mapper.counts c.double.new.mapper)) c.args.caches.now c.requires.right.sound c.args.node c.args.owner c.requires.owner
+          (pulls_most _ _ _ _ _ _ sum (omega arith) (omega (arith, bounds.1))));
+      victim = search rules;
+    }
 
 pub returns-in_err-frame-clause-victim : goal.returns-in_err-frame-clause-victim
 returns-in_err-frame-clause-victim g c = λ o is hand.

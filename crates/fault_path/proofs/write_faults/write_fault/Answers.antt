@@ -1,6 +1,7 @@
 use Rattle.std.proofs.Common.{◌∙◌, ap, sym, subst, arith}
 use Rattle.fault_path.specs.Answers.{IsAnswered}
-use Rattle.residency.specs.World.{World, world}
+use Rattle.residency.specs.Between.{world_at}
+use Rattle.residency.specs.World.{World}
 use Rattle.residency.specs.declared.store.Store.{Store}
 use Rattle.vm_ids.specs.declared.numbers.NodeId.{NodeId}
 use Rattle.fault_path.specs.Faults.{IsOwner}
@@ -24,14 +25,14 @@ drop_translations-requires g c =
 
 pub returns-clause-answered : goal.returns-clause-answered
 returns-clause-answered g c =
-    let old : World = world (g.M.Mapper.held c.args.mapper.now) (g.M.Mapper.page_bytes c.args.mapper.now) c.args.caches.now c.args.store.now in
-    let same = forgot_world (g.M.Mapper.held c.make_ready.new.mapper) (g.M.Mapper.page_bytes c.make_ready.new.mapper) c.make_ready.new.caches c.make_ready.new.store c.drop_translations.new.store c.args.owner c.args.node c.drop_translations.ensures in
+    let old : World = world_at g.M.Mapper c.args.mapper.now c.args.caches.now c.args.store.now in
+    let same = forgot_world_at g.M.Mapper c.make_ready.new.mapper c.make_ready.new.caches c.make_ready.new.store c.drop_translations.new.store c.args.owner c.args.node c.drop_translations.ensures in
     subst (λ (w : World). IsAnswered old w (g.M.Mapper.counts c.args.mapper.now) (g.M.Mapper.counts c.make_ready.new.mapper)) (sym same) c.make_ready.ensures.ready.answered
 
 pub returns-clause-ready : goal.returns-clause-ready
 returns-clause-ready g c =
-    let old : World = world (g.M.Mapper.held c.args.mapper.now) (g.M.Mapper.page_bytes c.args.mapper.now) c.args.caches.now c.args.store.now in
-    let same = forgot_world (g.M.Mapper.held c.make_ready.new.mapper) (g.M.Mapper.page_bytes c.make_ready.new.mapper) c.make_ready.new.caches c.make_ready.new.store c.drop_translations.new.store c.args.owner c.args.node c.drop_translations.ensures in
+    let old : World = world_at g.M.Mapper c.args.mapper.now c.args.caches.now c.args.store.now in
+    let same = forgot_world_at g.M.Mapper c.make_ready.new.mapper c.make_ready.new.caches c.make_ready.new.store c.drop_translations.new.store c.args.owner c.args.node c.drop_translations.ensures in
     subst (λ (w : World). IsFramed readied c.args.node c.in_ok-frame.frame.0 old w) (sym same) c.in_ok-frame.ensures.ready.done
 
 pub returns-clause-drops : goal.returns-clause-drops
@@ -45,8 +46,8 @@ returns-in_err-frame-clause-drops g c = λ o is. (let e = c.in_err-frame.ensures
 
 pub returns-clause-alone : goal.returns-clause-alone
 returns-clause-alone g c =
-    let old : World = world (g.M.Mapper.held c.args.mapper.now) (g.M.Mapper.page_bytes c.args.mapper.now) c.args.caches.now c.args.store.now in
-    let w : World = world (g.M.Mapper.held c.make_ready.new.mapper) (g.M.Mapper.page_bytes c.make_ready.new.mapper) c.make_ready.new.caches c.make_ready.new.store in
+    let old : World = world_at g.M.Mapper c.args.mapper.now c.args.caches.now c.args.store.now in
+    let w : World = world_at g.M.Mapper c.make_ready.new.mapper c.make_ready.new.caches c.make_ready.new.store in
     ready_alone old w c.requires.right.sound c.requires.right.shaped c.in_ok-frame.ensures.ready.answered.kept c.args.node c.requires.node c.requires.live c.in_ok-frame.frame.0 c.in_ok-frame.ensures.ready.done
 
 pub returns-clause-homes : goal.returns-clause-homes
@@ -72,6 +73,6 @@ returns-in_err-frame-clause-no_pull g c = λ o is. at_hand_pulls (own_of c.args.
 
 pub returns-clause-frames : goal.returns-clause-frames
 returns-clause-frames g c =
-    let old : World = world (g.M.Mapper.held c.args.mapper.now) (g.M.Mapper.page_bytes c.args.mapper.now) c.args.caches.now c.args.store.now in
-    let same = forgot_world (g.M.Mapper.held c.make_ready.new.mapper) (g.M.Mapper.page_bytes c.make_ready.new.mapper) c.make_ready.new.caches c.make_ready.new.store c.drop_translations.new.store c.args.owner c.args.node c.drop_translations.ensures in
+    let old : World = world_at g.M.Mapper c.args.mapper.now c.args.caches.now c.args.store.now in
+    let same = forgot_world_at g.M.Mapper c.make_ready.new.mapper c.make_ready.new.caches c.make_ready.new.store c.drop_translations.new.store c.args.owner c.args.node c.drop_translations.ensures in
     λ o is. subst (OnlyCome (IsOfWrite c.args.caches.now c.args.node o) old) (sym same) (c.make_ready.ensures.frames o is)

@@ -1,7 +1,8 @@
 use Rattle.std.proofs.Common.{◌≡◌, List, Option, inl, inr, refl, sym, ap, subst, ◌∙◌, rules, ◌<◌, length, arith}
+use Rattle.residency.specs.Between.{world_at}
 use Rattle.residency.specs.declared.store.Store.{Store}
 use Rattle.residency.specs.StoreForest.{store_forest}
-use Rattle.residency.specs.World.{World, world}
+use Rattle.residency.specs.World.{World}
 use Rattle.residency.proofs.Forests.StillForest.{still_caches_sound}
 use Rattle.fault_path.specs.Faults.{Kept}
 use Rattle.fault_path.proofs.Calls.Kept.{still_absent}
@@ -26,10 +27,8 @@ use Rattle.fault_path.proofs.writing.hand_over.Goals as goal
 
 pub returns-in_err-frame-clause-handed : goal.returns-in_err-frame-clause-handed
 returns-in_err-frame-clause-handed g c =
-    let told = g.M.Mapper.held c.copy_out.new.mapper in
-    let size = g.M.Mapper.page_bytes c.copy_out.new.mapper in
-    let old : World = world (g.M.Mapper.held c.args.mapper.now) (g.M.Mapper.page_bytes c.args.mapper.now) c.args.caches.now c.args.store.now in
-    let w : World = world told size c.copy_out.new.caches c.copy_out.new.store in
+    let old : World = world_at g.M.Mapper c.args.mapper.now c.args.caches.now c.args.store.now in
+    let w : World = world_at g.M.Mapper c.copy_out.new.mapper c.copy_out.new.caches c.copy_out.new.store in
     let n = c.in_err-frame.ensures.copied.none in
     miss_by old w n.still (g.M.Mapper.counts c.args.mapper.now) _ c.requires.right.sound c.requires.right.shaped n.pinned c.in_err-frame.ensures.copied.later c.in_err-frame.ensures.copied.told _ c.from_residual.result c.from_residual.ensures.1 (search rules)
 
@@ -43,52 +42,27 @@ hand_page-requires-clause-heir g c =
 
 pub settle_in-requires-clause-away : goal.settle_in-requires-clause-away
 settle_in-requires-clause-away g c =
-    let told = g.M.Mapper.held c.copy_out.new.mapper in
-    let size = g.M.Mapper.page_bytes c.copy_out.new.mapper in
-    let old : World = world (g.M.Mapper.held c.args.mapper.now) (g.M.Mapper.page_bytes c.args.mapper.now) c.args.caches.now c.args.store.now in
-    let w : World = world told size c.copy_out.new.caches c.copy_out.new.store in
+    let old : World = world_at g.M.Mapper c.args.mapper.now c.args.caches.now c.args.store.now in
+    let w : World = world_at g.M.Mapper c.copy_out.new.mapper c.copy_out.new.caches c.copy_out.new.store in
     let k = c.in_ok-frame.ensures.copied.done.gathered in
     unbound w k.still.stays.right c.args.next (still_absent old w k.still c.requires.right.sound c.args.next (heir_absent c.args.caches.now c.requires.right.sound _ c.args.next c.requires.next.held c.requires.next.name))
-
-pub returns-clause-handed : goal.returns-clause-handed
-returns-clause-handed g c =
-    let told = g.M.Mapper.held c.copy_out.new.mapper in
-    let size = g.M.Mapper.page_bytes c.copy_out.new.mapper in
-    let old : World = world (g.M.Mapper.held c.args.mapper.now) (g.M.Mapper.page_bytes c.args.mapper.now) c.args.caches.now c.args.store.now in
-    let w : World = world told size c.copy_out.new.caches c.copy_out.new.store in
-    let k = c.in_ok-frame.ensures.copied.done.gathered in
-    record {
-      answered = record {
-        kept = subst (Kept old) (sym (ap (λ (s : Store). world told size c.hand_page.new.caches s) c.settle_in.ensures)) (hand_kept old w c.in_ok-frame.frame.0 k.still k.taken c.requires.right.sound c.requires.right.shaped c.args.node c.args.next c.requires.own.node (has_own old c.args.node c.requires.own.own_page) c.requires.next.held c.requires.next.name
-            (heir_absent c.args.caches.now c.requires.right.sound _ c.args.next c.requires.next.held c.requires.next.name) c.in_ok-frame.ensures.copied.done.page c.hand_page.new.caches c.hand_page.ensures k);
-        later = c.in_ok-frame.ensures.copied.later;
-        told = tells_as _ _ _ _ _ refl c.in_ok-frame.ensures.copied.told;
-      };
-      done = ap (λ (s : Store). store_forest (world told size c.hand_page.new.caches s)) c.settle_in.ensures ∙ (hand_forest old w c.in_ok-frame.frame.0 k.still k.taken c.requires.right.sound c.requires.right.shaped c.args.node c.args.next c.requires.own.node (has_own old c.args.node c.requires.own.own_page) c.requires.next.held c.requires.next.name
-          (heir_absent c.args.caches.now c.requires.right.sound _ c.args.next c.requires.next.held c.requires.next.name) c.in_ok-frame.ensures.copied.done.page c.hand_page.new.caches c.hand_page.ensures);
-      missed = tt;
-    }
-
-pub returns-clause-copies : goal.returns-clause-copies
-returns-clause-copies g c =
-    let told = g.M.Mapper.held c.copy_out.new.mapper in
-    let size = g.M.Mapper.page_bytes c.copy_out.new.mapper in
-    let old : World = world (g.M.Mapper.held c.args.mapper.now) (g.M.Mapper.page_bytes c.args.mapper.now) c.args.caches.now c.args.store.now in
-    let w : World = world told size c.copy_out.new.caches c.copy_out.new.store in
-    let k = c.in_ok-frame.ensures.copied.done.gathered in
-    hand_copies old w c.in_ok-frame.frame.0 k.still k.taken c.requires.right.sound c.requires.right.shaped c.args.node c.args.next c.requires.own.node (has_own old c.args.node c.requires.own.own_page) c.requires.next.held c.requires.next.name
-    (heir_absent c.args.caches.now c.requires.right.sound _ c.args.next c.requires.next.held c.requires.next.name) c.in_ok-frame.ensures.copied.done.page c.hand_page.new.caches c.hand_page.ensures
 
 pub returns-in_err-frame-clause-drops : goal.returns-in_err-frame-clause-drops
 returns-in_err-frame-clause-drops g c =
     failed_leaves _ c.from_residual.result _ _ _ _ _ _ c.from_residual.ensures.1
     (drops_more (λ n. n ≡ c.args.node) (MayCome c.args.caches.now c.args.node) c.args.caches.now c.copy_out.new.caches c.args.store.now c.copy_out.new.store (λ n e. inl e) c.copy_out.ensures.drops)
 
-pub returns-clause-drops : goal.returns-clause-drops
-returns-clause-drops g c =
-    let old : World = world (g.M.Mapper.held c.args.mapper.now) (g.M.Mapper.page_bytes c.args.mapper.now) c.args.caches.now c.args.store.now in
-    let v : World = world (g.M.Mapper.held c.copy_out.new.mapper) (g.M.Mapper.page_bytes c.copy_out.new.mapper) c.hand_page.new.caches c.settle_in.new.store in
+pub returns-in_err-frame-clause-frames : goal.returns-in_err-frame-clause-frames
+returns-in_err-frame-clause-frames g c =
+    more_come (IsBroughtIn c.args.caches.now c.args.node) (IsOfSave c.args.caches.now c.args.node) _ _ (λ m e. record { heir_name = name_of c.args.caches.now c.args.next; is_heir = c.requires.next.name; one = inl e.0 }) c.copy_out.ensures.frames
+
+pub returns : goal.returns
+returns g c =
+    let told = g.M.Mapper.held c.copy_out.new.mapper in
+    let old : World = world_at g.M.Mapper c.args.mapper.now c.args.caches.now c.args.store.now in
+    let w : World = world_at g.M.Mapper c.copy_out.new.mapper c.copy_out.new.caches c.copy_out.new.store in
     let k = c.in_ok-frame.ensures.copied.done.gathered in
+    let v : World = world_at g.M.Mapper c.copy_out.new.mapper c.hand_page.new.caches c.settle_in.new.store in
     let all = returns-clause-handed g c in
     let answered : IsAnswered old v (g.M.Mapper.counts c.args.mapper.now) (g.M.Mapper.counts c.copy_out.new.mapper) = all.answered in
     let within : c.in_ok-frame.frame.0 < length c.copy_out.new.store.map = omega (arith, k.taken.within, k.still.stays.right.tied.fitted.map_frames) in
@@ -99,28 +73,33 @@ returns-clause-drops g c =
     (λ f p at. ap (λ (m : List (Option NodeId)). node_of m f) map ∙ settled_stays c.copy_out.new.store.map c.in_ok-frame.frame.0 c.args.next k.taken.unbound f p at)
     (λ f p at. may_come c.args.caches.now c.args.node c.args.next p absent (settled_comes c.copy_out.new.store.map c.in_ok-frame.frame.0 c.args.next within f p (ap (λ (m : List (Option NodeId)). node_of m f) (sym map) ∙ at)))
     (inl refl) (ap (λ (s : Store). s.tables) c.settle_in.ensures) c.requires.own.own_page refl all.done in
-    record {
-      left = whole;
-      home = λ f at. inl (ap (λ (m : List (Option NodeId)). node_of m f) map ∙ settled_stays c.copy_out.new.store.map c.in_ok-frame.frame.0 c.args.next k.taken.unbound f c.args.node (c.in_ok-frame.ensures.copied.done.home f at));
-      failed = tt;
-    }
-
-pub returns-in_err-frame-clause-frames : goal.returns-in_err-frame-clause-frames
-returns-in_err-frame-clause-frames g c =
-    more_come (IsBroughtIn c.args.caches.now c.args.node) (IsOfSave c.args.caches.now c.args.node) _ _ (λ m e. record { heir_name = name_of c.args.caches.now c.args.next; is_heir = c.requires.next.name; one = inl e.0 }) c.copy_out.ensures.frames
-
-pub returns-clause-frames : goal.returns-clause-frames
-returns-clause-frames g c =
-    let old : World = world (g.M.Mapper.held c.args.mapper.now) (g.M.Mapper.page_bytes c.args.mapper.now) c.args.caches.now c.args.store.now in
-    let told = g.M.Mapper.held c.copy_out.new.mapper in
-    let size = g.M.Mapper.page_bytes c.copy_out.new.mapper in
-    let w : World = world told size c.copy_out.new.caches c.copy_out.new.store in
-    let v : World = world told size c.hand_page.new.caches c.settle_in.new.store in
     let may = IsOfSave c.args.caches.now c.args.node in
-    let k = c.in_ok-frame.ensures.copied.done.gathered in
-    let within : c.in_ok-frame.frame.0 < length c.copy_out.new.store.map = omega (arith, k.taken.within, k.still.stays.right.tied.fitted.map_frames) in
     let heir = name_of c.args.caches.now c.args.next in
     let gives = hand_gives old w c.in_ok-frame.frame.0 k.still k.taken c.requires.right.sound c.requires.right.shaped c.args.node c.args.next c.requires.own.node (has_own old c.args.node c.requires.own.own_page) c.requires.next.held c.requires.next.name
     (heir_absent c.args.caches.now c.requires.right.sound _ c.args.next c.requires.next.held c.requires.next.name) c.in_ok-frame.ensures.copied.done.page c.hand_page.new.caches c.hand_page.ensures in
-    come_settled may old w v c.in_ok-frame.frame.0 c.args.next within (record { heir_name = heir; is_heir = c.requires.next.name; one = inr refl }) (ap (λ (s : Store). s.map) c.settle_in.ensures) (ap (λ (s : Store). s.frames.bytes) c.settle_in.ensures) gives.others
-    (more_come (IsBroughtIn c.args.caches.now c.args.node) may old w (λ m e. record { heir_name = heir; is_heir = c.requires.next.name; one = inl e.0 }) c.copy_out.ensures.frames)
+    record {
+      handed = (record {
+        answered = record {
+          kept = subst (Kept old) (sym (ap (λ (s : Store). world_at g.M.Mapper c.copy_out.new.mapper c.hand_page.new.caches s) c.settle_in.ensures)) (hand_kept old w c.in_ok-frame.frame.0 k.still k.taken c.requires.right.sound c.requires.right.shaped c.args.node c.args.next c.requires.own.node (has_own old c.args.node c.requires.own.own_page) c.requires.next.held c.requires.next.name
+              (heir_absent c.args.caches.now c.requires.right.sound _ c.args.next c.requires.next.held c.requires.next.name) c.in_ok-frame.ensures.copied.done.page c.hand_page.new.caches c.hand_page.ensures k);
+          later = c.in_ok-frame.ensures.copied.later;
+          told = tells_as _ _ _ _ _ refl c.in_ok-frame.ensures.copied.told;
+        };
+        done = ap (λ (s : Store). store_forest (world_at g.M.Mapper c.copy_out.new.mapper c.hand_page.new.caches s)) c.settle_in.ensures ∙ (hand_forest old w c.in_ok-frame.frame.0 k.still k.taken c.requires.right.sound c.requires.right.shaped c.args.node c.args.next c.requires.own.node (has_own old c.args.node c.requires.own.own_page) c.requires.next.held c.requires.next.name
+            (heir_absent c.args.caches.now c.requires.right.sound _ c.args.next c.requires.next.held c.requires.next.name) c.in_ok-frame.ensures.copied.done.page c.hand_page.new.caches c.hand_page.ensures);
+        missed = tt;
+      });
+      home = search rules;
+      drops = (record {
+        left = whole;
+        home = λ f at. inl (ap (λ (m : List (Option NodeId)). node_of m f) map ∙ settled_stays c.copy_out.new.store.map c.in_ok-frame.frame.0 c.args.next k.taken.unbound f c.args.node (c.in_ok-frame.ensures.copied.done.home f at));
+        failed = tt;
+      });
+      frames = (come_settled may old w v c.in_ok-frame.frame.0 c.args.next within (record { heir_name = heir; is_heir = c.requires.next.name; one = inr refl }) (ap (λ (s : Store). s.map) c.settle_in.ensures) (ap (λ (s : Store). s.frames.bytes) c.settle_in.ensures) gives.others
+          (more_come (IsBroughtIn c.args.caches.now c.args.node) may old w (λ m e. record { heir_name = heir; is_heir = c.requires.next.name; one = inl e.0 }) c.copy_out.ensures.frames));
+      copies = (hand_copies old w c.in_ok-frame.frame.0 k.still k.taken c.requires.right.sound c.requires.right.shaped c.args.node c.args.next c.requires.own.node (has_own old c.args.node c.requires.own.own_page) c.requires.next.held c.requires.next.name
+          (heir_absent c.args.caches.now c.requires.right.sound _ c.args.next c.requires.next.held c.requires.next.name) c.in_ok-frame.ensures.copied.done.page c.hand_page.new.caches c.hand_page.ensures);
+      traffic = search rules;
+      most = search rules;
+      victim = search rules;
+    }

@@ -1,6 +1,7 @@
 use Rattle.std.proofs.Common.{inl, refl, rules, sym}
 use Rattle.local_cache.specs.Reading.{name_of}
-use Rattle.residency.specs.World.{World, world}
+use Rattle.residency.specs.Between.{world_at}
+use Rattle.residency.specs.World.{World}
 use Rattle.fault_path.proofs.Rules.Heirs.{no_heir}
 use Rattle.fault_path.specs.Translating.{MayCome}
 use Rattle.fault_path.proofs.Translations.Given.{forgot_drops}
@@ -10,7 +11,7 @@ use Rattle.fault_path.proofs.writing.save_to_heir.Goals as goal
 
 pub returns-in-None-clause-handed : goal.returns-in-None-clause-handed
 returns-in-None-clause-handed g c =
-    let old : World = world (g.M.Mapper.held c.args.mapper.now) (g.M.Mapper.page_bytes c.args.mapper.now) c.args.caches.now c.args.store.now in
+    let old : World = world_at g.M.Mapper c.args.mapper.now c.args.caches.now c.args.store.now in
     record { answered = search rules; done = no_heir old c.requires.right.sound (name_of c.args.caches.now c.args.node) (sym c.in-None.ensures.heir); missed = tt }
 
 pub returns-in-None-clause-drops : goal.returns-in-None-clause-drops

@@ -1,4 +1,4 @@
-use Rattle.std.proofs.Common.{◌+◌, ◌-◌, sym, ap, ◌∙◌, subst, refl, inl, inr, arith}
+use Rattle.std.proofs.Common.{rules, ◌+◌, ◌-◌, sym, ap, ◌∙◌, subst, refl, inl, inr, arith}
 use Rattle.vm_ids.specs.Forest.Commands.{page_name}
 use Rattle.vm_ids.specs.Forest.Laws.Linking.{ArePages}
 use Rattle.vm_ids.specs.Forest.Shape.{IsConsistent}
@@ -46,8 +46,8 @@ move_alike-requires-clause-can c =
     (many.ensures.leaves (omega (arith, c.if-pages-gt1.true))) (many.ensures.alike (omega (arith, c.if-pages-gt1.true))) c.requires.consistent many.ensures.most in
     (part, refl, subst (λ (x : Arena). CanMoveMany x c.node_of-node.result c.node_of-source.result part) (sym many.ensures.same) can)
 
-pub returns-then-pages-gt1-clause-forest : goal.returns-then-pages-gt1-clause-forest
-returns-then-pages-gt1-clause-forest c =
+pub returns-then-pages-gt1 : goal.returns-then-pages-gt1
+returns-then-pages-gt1 c =
     let s = c.args.span in
     let k = c.args.done in
     let many = c.moved_at_once-pages in
@@ -56,67 +56,16 @@ returns-then-pages-gt1-clause-forest c =
     (many.ensures.leaves (omega (arith, c.if-pages-gt1.true))) (many.ensures.alike (omega (arith, c.if-pages-gt1.true))) c.requires.consistent many.ensures.most in
     let all = subst (λ (x : Arena). AreMoved x c.move_alike.new.caches part) many.ensures.same
     (c.move_alike.ensures part refl (subst (λ (x : Arena). CanMoveMany x c.node_of-node.result c.node_of-source.result part) (sym many.ensures.same) can)) in
-    all.forest
-
-pub returns-then-pages-gt1-clause-sound : goal.returns-then-pages-gt1-clause-sound
-returns-then-pages-gt1-clause-sound c =
-    let s = c.args.span in
-    let k = c.args.done in
-    let many = c.moved_at_once-pages in
-    let part = part_of s k many.result in
-    let can = can_move c.args.caches.now c.requires.sound s k c.requires.can c.node_of-node.result c.node_of-source.result c.node_of-node.ensures c.node_of-source.ensures many.result
-    (many.ensures.leaves (omega (arith, c.if-pages-gt1.true))) (many.ensures.alike (omega (arith, c.if-pages-gt1.true))) c.requires.consistent many.ensures.most in
-    let all = subst (λ (x : Arena). AreMoved x c.move_alike.new.caches part) many.ensures.same
-    (c.move_alike.ensures part refl (subst (λ (x : Arena). CanMoveMany x c.node_of-node.result c.node_of-source.result part) (sym many.ensures.same) can)) in
-    all.sound
-
-pub returns-then-pages-gt1-clause-consistent : goal.returns-then-pages-gt1-clause-consistent
-returns-then-pages-gt1-clause-consistent c =
-    let s = c.args.span in
-    let k = c.args.done in
-    let many = c.moved_at_once-pages in
-    let part = part_of s k many.result in
-    let can = can_move c.args.caches.now c.requires.sound s k c.requires.can c.node_of-node.result c.node_of-source.result c.node_of-node.ensures c.node_of-source.ensures many.result
-    (many.ensures.leaves (omega (arith, c.if-pages-gt1.true))) (many.ensures.alike (omega (arith, c.if-pages-gt1.true))) c.requires.consistent many.ensures.most in
-    let all = subst (λ (x : Arena). AreMoved x c.move_alike.new.caches part) many.ensures.same
-    (c.move_alike.ensures part refl (subst (λ (x : Arena). CanMoveMany x c.node_of-node.result c.node_of-source.result part) (sym many.ensures.same) can)) in
-    all.consistent
-
-pub returns-then-pages-gt1-clause-moved : goal.returns-then-pages-gt1-clause-moved
-returns-then-pages-gt1-clause-moved c =
-    let s = c.args.span in
-    let k = c.args.done in
-    let many = c.moved_at_once-pages in
-    let part = part_of s k many.result in
-    let can = can_move c.args.caches.now c.requires.sound s k c.requires.can c.node_of-node.result c.node_of-source.result c.node_of-node.ensures c.node_of-source.ensures many.result
-    (many.ensures.leaves (omega (arith, c.if-pages-gt1.true))) (many.ensures.alike (omega (arith, c.if-pages-gt1.true))) c.requires.consistent many.ensures.most in
-    let all = subst (λ (x : Arena). AreMoved x c.move_alike.new.caches part) many.ensures.same
-    (c.move_alike.ensures part refl (subst (λ (x : Arena). CanMoveMany x c.node_of-node.result c.node_of-source.result part) (sym many.ensures.same) can)) in
-    inl (all, refl)
-
-pub returns-then-pages-gt1-clause-sizes : goal.returns-then-pages-gt1-clause-sizes
-returns-then-pages-gt1-clause-sizes c =
-    let s = c.args.span in
-    let k = c.args.done in
-    let many = c.moved_at_once-pages in
-    let part = part_of s k many.result in
-    let can = can_move c.args.caches.now c.requires.sound s k c.requires.can c.node_of-node.result c.node_of-source.result c.node_of-node.ensures c.node_of-source.ensures many.result
-    (many.ensures.leaves (omega (arith, c.if-pages-gt1.true))) (many.ensures.alike (omega (arith, c.if-pages-gt1.true))) c.requires.consistent many.ensures.most in
-    let all = subst (λ (x : Arena). AreMoved x c.move_alike.new.caches part) many.ensures.same
-    (c.move_alike.ensures part refl (subst (λ (x : Arena). CanMoveMany x c.node_of-node.result c.node_of-source.result part) (sym many.ensures.same) can)) in
-    all.sizes
-
-pub returns-then-pages-gt1-clause-room : goal.returns-then-pages-gt1-clause-room
-returns-then-pages-gt1-clause-room c =
-    let s = c.args.span in
-    let k = c.args.done in
-    let many = c.moved_at_once-pages in
-    let part = part_of s k many.result in
-    let can = can_move c.args.caches.now c.requires.sound s k c.requires.can c.node_of-node.result c.node_of-source.result c.node_of-node.ensures c.node_of-source.ensures many.result
-    (many.ensures.leaves (omega (arith, c.if-pages-gt1.true))) (many.ensures.alike (omega (arith, c.if-pages-gt1.true))) c.requires.consistent many.ensures.most in
-    let all = subst (λ (x : Arena). AreMoved x c.move_alike.new.caches part) many.ensures.same
-    (c.move_alike.ensures part refl (subst (λ (x : Arena). CanMoveMany x c.node_of-node.result c.node_of-source.result part) (sym many.ensures.same) can)) in
-    all.room
+    record {
+      some = search rules;
+      few = search rules;
+      forest = all.forest;
+      sound = all.sound;
+      consistent = all.consistent;
+      moved = inl (all, refl);
+      sizes = all.sizes;
+      room = all.room;
+    }
 
 -- One is moved alone.
 
@@ -156,8 +105,8 @@ move_node-released-requires-clause-room c = omega (arith, ap (λ (x : Arena). x.
 pub move_node-released-requires-clause-made : goal.move_node-released-requires-clause-made
 move_node-released-requires-clause-made c = omega (arith, ap (λ (x : Arena). x.made) c.moved_at_once-pages.ensures.same, c.requires.made)
 
-pub returns-else-pages-gt1-clause-forest : goal.returns-else-pages-gt1-clause-forest
-returns-else-pages-gt1-clause-forest c =
+pub returns-else-pages-gt1 : goal.returns-else-pages-gt1
+returns-else-pages-gt1 c =
     let s = c.args.span in
     let k = c.args.done in
     let same = c.moved_at_once-pages.ensures.same in
@@ -169,79 +118,13 @@ returns-else-pages-gt1-clause-forest c =
     let one = subst (λ (x : Arena). IsMovedAlone x r.new.caches s.from (page_after s.from_page k) s.to (page_after s.to_page k) r.result) same
     (r.ensures s.from (page_after s.from_page k) s.to (page_after s.to_page k)
     (ap (λ (x : Arena). name_of x d) same ∙ named_d) (ap (λ (x : Arena). name_of x o) same ∙ named_o)) in
-    one.forest
-
-pub returns-else-pages-gt1-clause-sound : goal.returns-else-pages-gt1-clause-sound
-returns-else-pages-gt1-clause-sound c =
-    let s = c.args.span in
-    let k = c.args.done in
-    let same = c.moved_at_once-pages.ensures.same in
-    let r = c.move_node-released in
-    let d = c.node_of-node.result in
-    let o = c.node_of-source.result in
-    let named_d = (c.requires.sound.kept.listed.nodes s.to.0 (s.to_page.0 + k) d c.node_of-node.ensures).1 in
-    let named_o = (c.requires.sound.kept.listed.nodes s.from.0 (s.from_page.0 + k) o c.node_of-source.ensures).1 in
-    let one = subst (λ (x : Arena). IsMovedAlone x r.new.caches s.from (page_after s.from_page k) s.to (page_after s.to_page k) r.result) same
-    (r.ensures s.from (page_after s.from_page k) s.to (page_after s.to_page k)
-    (ap (λ (x : Arena). name_of x d) same ∙ named_d) (ap (λ (x : Arena). name_of x o) same ∙ named_o)) in
-    one.sound
-
-pub returns-else-pages-gt1-clause-consistent : goal.returns-else-pages-gt1-clause-consistent
-returns-else-pages-gt1-clause-consistent c =
-    let s = c.args.span in
-    let k = c.args.done in
-    let same = c.moved_at_once-pages.ensures.same in
-    let r = c.move_node-released in
-    let d = c.node_of-node.result in
-    let o = c.node_of-source.result in
-    let named_d = (c.requires.sound.kept.listed.nodes s.to.0 (s.to_page.0 + k) d c.node_of-node.ensures).1 in
-    let named_o = (c.requires.sound.kept.listed.nodes s.from.0 (s.from_page.0 + k) o c.node_of-source.ensures).1 in
-    let one = subst (λ (x : Arena). IsMovedAlone x r.new.caches s.from (page_after s.from_page k) s.to (page_after s.to_page k) r.result) same
-    (r.ensures s.from (page_after s.from_page k) s.to (page_after s.to_page k)
-    (ap (λ (x : Arena). name_of x d) same ∙ named_d) (ap (λ (x : Arena). name_of x o) same ∙ named_o)) in
-    one.consistent
-
-pub returns-else-pages-gt1-clause-moved : goal.returns-else-pages-gt1-clause-moved
-returns-else-pages-gt1-clause-moved c =
-    let s = c.args.span in
-    let k = c.args.done in
-    let same = c.moved_at_once-pages.ensures.same in
-    let r = c.move_node-released in
-    let d = c.node_of-node.result in
-    let o = c.node_of-source.result in
-    let named_d = (c.requires.sound.kept.listed.nodes s.to.0 (s.to_page.0 + k) d c.node_of-node.ensures).1 in
-    let named_o = (c.requires.sound.kept.listed.nodes s.from.0 (s.from_page.0 + k) o c.node_of-source.ensures).1 in
-    let one = subst (λ (x : Arena). IsMovedAlone x r.new.caches s.from (page_after s.from_page k) s.to (page_after s.to_page k) r.result) same
-    (r.ensures s.from (page_after s.from_page k) s.to (page_after s.to_page k)
-    (ap (λ (x : Arena). name_of x d) same ∙ named_d) (ap (λ (x : Arena). name_of x o) same ∙ named_o)) in
-    inr (refl, one.moved)
-
-pub returns-else-pages-gt1-clause-sizes : goal.returns-else-pages-gt1-clause-sizes
-returns-else-pages-gt1-clause-sizes c =
-    let s = c.args.span in
-    let k = c.args.done in
-    let same = c.moved_at_once-pages.ensures.same in
-    let r = c.move_node-released in
-    let d = c.node_of-node.result in
-    let o = c.node_of-source.result in
-    let named_d = (c.requires.sound.kept.listed.nodes s.to.0 (s.to_page.0 + k) d c.node_of-node.ensures).1 in
-    let named_o = (c.requires.sound.kept.listed.nodes s.from.0 (s.from_page.0 + k) o c.node_of-source.ensures).1 in
-    let one = subst (λ (x : Arena). IsMovedAlone x r.new.caches s.from (page_after s.from_page k) s.to (page_after s.to_page k) r.result) same
-    (r.ensures s.from (page_after s.from_page k) s.to (page_after s.to_page k)
-    (ap (λ (x : Arena). name_of x d) same ∙ named_d) (ap (λ (x : Arena). name_of x o) same ∙ named_o)) in
-    one.sizes
-
-pub returns-else-pages-gt1-clause-room : goal.returns-else-pages-gt1-clause-room
-returns-else-pages-gt1-clause-room c =
-    let s = c.args.span in
-    let k = c.args.done in
-    let same = c.moved_at_once-pages.ensures.same in
-    let r = c.move_node-released in
-    let d = c.node_of-node.result in
-    let o = c.node_of-source.result in
-    let named_d = (c.requires.sound.kept.listed.nodes s.to.0 (s.to_page.0 + k) d c.node_of-node.ensures).1 in
-    let named_o = (c.requires.sound.kept.listed.nodes s.from.0 (s.from_page.0 + k) o c.node_of-source.ensures).1 in
-    let one = subst (λ (x : Arena). IsMovedAlone x r.new.caches s.from (page_after s.from_page k) s.to (page_after s.to_page k) r.result) same
-    (r.ensures s.from (page_after s.from_page k) s.to (page_after s.to_page k)
-    (ap (λ (x : Arena). name_of x d) same ∙ named_d) (ap (λ (x : Arena). name_of x o) same ∙ named_o)) in
-    one.room
+    record {
+      some = search rules;
+      few = search rules;
+      forest = one.forest;
+      sound = one.sound;
+      consistent = one.consistent;
+      moved = inr (refl, one.moved);
+      sizes = one.sizes;
+      room = one.room;
+    }

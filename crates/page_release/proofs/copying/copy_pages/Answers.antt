@@ -22,36 +22,25 @@ copy_and_settle-requires-clause-ready c =
     let t = c.narrow_own.new.store in
     ready_behind s t (tables_twice s c.drop_seen_where_mapped.new.store t _ _ c.drop_seen_where_mapped.ensures c.narrow_own.ensures) c.args.caches.now _ c.args.span.to (firsts (span_pairs c.args.span)) c.requires.ready
 
-pub returns-clause-rule : goal.returns-clause-rule
-returns-clause-rule c =
+pub returns : goal.returns
+returns c =
     let s = c.args.store.now in
     let t = c.narrow_own.new.store in
-    goes_behind s t (tables_twice s c.drop_seen_where_mapped.new.store t _ _ c.drop_seen_where_mapped.ensures c.narrow_own.ensures) c.args.caches.now c.copy_and_settle.new.store c.copy_and_settle.new.caches _ c.copy_and_settle.ensures.rule
-
-pub returns-clause-kept : goal.returns-clause-kept
-returns-clause-kept c =
-    let s = c.args.store.now in
-    let t = c.narrow_own.new.store in
-    kept_behind s t (tables_twice s c.drop_seen_where_mapped.new.store t _ _ c.drop_seen_where_mapped.ensures c.narrow_own.ensures) c.args.caches.now c.copy_and_settle.new.store c.copy_and_settle.new.caches (firsts (span_pairs c.args.span)) c.copy_and_settle.ensures.kept
-
-pub returns-clause-pages : goal.returns-clause-pages
-returns-clause-pages c =
-    let s = c.args.store.now in
-    let t = c.narrow_own.new.store in
-    pages_behind s t (tables_twice s c.drop_seen_where_mapped.new.store t _ _ c.drop_seen_where_mapped.ensures c.narrow_own.ensures) c.args.caches.now c.copy_and_settle.new.store c.copy_and_settle.new.caches _ c.copy_and_settle.ensures.pages
-
-pub returns-clause-translations : goal.returns-clause-translations
-returns-clause-translations c =
-    let s = c.args.span in
     let a = c.args.caches.now in
     let r = c.args.store.now in
-    let t = c.drop_seen_where_mapped.new.store in
     let u = c.narrow_own.new.store in
     let mapped = c.args.mapped in
-    let to = where_mapped mapped (page_names s.to s.to_page.0 s.pages) in
-    let from = page_names s.from s.from_page.0 s.pages in
-    let one = ready_first a to r t c.drop_seen_where_mapped.ensures in
-    let two = ready_shared a from (λ x. x ∈ to) r t u one c.requires.ready.retire.whole.sound c.requires.ready.retire.whole.consistent c.narrow_own.ensures in
-    let by_firsts = subst (λ (xs : List NodeName). AreReady (λ x. x ∈ where_mapped mapped xs) (λ x. x ∈ from) a r u) (sym (destination_names s)) two in
-    let ready = subst (λ (xs : List NodeName). AreReady (λ x. x ∈ where_mapped mapped (firsts (span_pairs s))) (λ x. x ∈ xs) a r u) (sym (source_names s)) by_firsts in
-    leaves (λ x. x ∈ firsts (span_pairs s)) (λ x. x ∈ where_mapped mapped (firsts (span_pairs s))) (λ x. x ∈ seconds (span_pairs s)) a r u c.copy_and_settle.new.caches c.copy_and_settle.new.store ready c.copy_and_settle.ensures.translations
+    record {
+      rule = goes_behind s t (tables_twice s c.drop_seen_where_mapped.new.store t _ _ c.drop_seen_where_mapped.ensures c.narrow_own.ensures) c.args.caches.now c.copy_and_settle.new.store c.copy_and_settle.new.caches _ c.copy_and_settle.ensures.rule;
+      kept = kept_behind s t (tables_twice s c.drop_seen_where_mapped.new.store t _ _ c.drop_seen_where_mapped.ensures c.narrow_own.ensures) c.args.caches.now c.copy_and_settle.new.store c.copy_and_settle.new.caches (firsts (span_pairs c.args.span)) c.copy_and_settle.ensures.kept;
+      pages = pages_behind s t (tables_twice s c.drop_seen_where_mapped.new.store t _ _ c.drop_seen_where_mapped.ensures c.narrow_own.ensures) c.args.caches.now c.copy_and_settle.new.store c.copy_and_settle.new.caches _ c.copy_and_settle.ensures.pages;
+      translations = (let s = c.args.span in
+          let t = c.drop_seen_where_mapped.new.store in
+          let to = where_mapped mapped (page_names s.to s.to_page.0 s.pages) in
+          let from = page_names s.from s.from_page.0 s.pages in
+          let one = ready_first a to r t c.drop_seen_where_mapped.ensures in
+          let two = ready_shared a from (λ x. x ∈ to) r t u one c.requires.ready.retire.whole.sound c.requires.ready.retire.whole.consistent c.narrow_own.ensures in
+          let by_firsts = subst (λ (xs : List NodeName). AreReady (λ x. x ∈ where_mapped mapped xs) (λ x. x ∈ from) a r u) (sym (destination_names s)) two in
+          let ready = subst (λ (xs : List NodeName). AreReady (λ x. x ∈ where_mapped mapped (firsts (span_pairs s))) (λ x. x ∈ xs) a r u) (sym (source_names s)) by_firsts in
+          leaves (λ x. x ∈ firsts (span_pairs s)) (λ x. x ∈ where_mapped mapped (firsts (span_pairs s))) (λ x. x ∈ seconds (span_pairs s)) a r u c.copy_and_settle.new.caches c.copy_and_settle.new.store ready c.copy_and_settle.ensures.translations);
+    }

@@ -1,4 +1,4 @@
-use Rattle.std.proofs.Common.{◌≡◌, ◌+◌, IsSome, sym, subst, arith}
+use Rattle.std.proofs.Common.{rules, ◌≡◌, ◌+◌, IsSome, sym, subst, arith}
 use Rattle.vm_ids.specs.declared.numbers.PageNo.{PageNo}
 use Rattle.local_cache.specs.Arena.{Arena, node_at}
 use Rattle.page_release.proofs.PassedOver.Retiring.{untouched_go}
@@ -42,26 +42,18 @@ follow-requires c =
     let step = c.retire_step-step in
     cache_can c.args.store.now c.args.caches.now step.new.caches c.args.cache c.args.pages c.args.done step.result step.ensures.step c.requires.sound c.requires.tied c.requires.unpinned c.requires.may
 
-pub returns-clause-rule : goal.returns-clause-rule
-returns-clause-rule c =
+pub returns : goal.returns
+returns c =
     let step = c.retire_step-step in
-    (cache_retires c.args.store.now c.args.caches.now step.new.caches c.args.cache c.args.pages c.args.done step.result step.ensures.step c.requires.sound c.requires.tied c.requires.unpinned c.requires.may
-    c.follow.new.store c.follow.ensures.store c.follow.ensures.tables c.follow.ensures.nothing).rule
-
-pub returns-clause-kept : goal.returns-clause-kept
-returns-clause-kept c =
-    let step = c.retire_step-step in
-    (cache_retires c.args.store.now c.args.caches.now step.new.caches c.args.cache c.args.pages c.args.done step.result step.ensures.step c.requires.sound c.requires.tied c.requires.unpinned c.requires.may
-    c.follow.new.store c.follow.ensures.store c.follow.ensures.tables c.follow.ensures.nothing).kept
-
-pub returns-clause-room : goal.returns-clause-room
-returns-clause-room c =
-    let step = c.retire_step-step in
-    (cache_retires c.args.store.now c.args.caches.now step.new.caches c.args.cache c.args.pages c.args.done step.result step.ensures.step c.requires.sound c.requires.tied c.requires.unpinned c.requires.may
-    c.follow.new.store c.follow.ensures.store c.follow.ensures.tables c.follow.ensures.nothing).room
-
-pub returns-clause-fewer : goal.returns-clause-fewer
-returns-clause-fewer c =
-    let step = c.retire_step-step in
-    (cache_retires c.args.store.now c.args.caches.now step.new.caches c.args.cache c.args.pages c.args.done step.result step.ensures.step c.requires.sound c.requires.tied c.requires.unpinned c.requires.may
-    c.follow.new.store c.follow.ensures.store c.follow.ensures.tables c.follow.ensures.nothing).fewer
+    record {
+      some = search rules;
+      few = search rules;
+      rule = ((cache_retires c.args.store.now c.args.caches.now step.new.caches c.args.cache c.args.pages c.args.done step.result step.ensures.step c.requires.sound c.requires.tied c.requires.unpinned c.requires.may
+          c.follow.new.store c.follow.ensures.store c.follow.ensures.tables c.follow.ensures.nothing).rule);
+      kept = ((cache_retires c.args.store.now c.args.caches.now step.new.caches c.args.cache c.args.pages c.args.done step.result step.ensures.step c.requires.sound c.requires.tied c.requires.unpinned c.requires.may
+          c.follow.new.store c.follow.ensures.store c.follow.ensures.tables c.follow.ensures.nothing).kept);
+      room = ((cache_retires c.args.store.now c.args.caches.now step.new.caches c.args.cache c.args.pages c.args.done step.result step.ensures.step c.requires.sound c.requires.tied c.requires.unpinned c.requires.may
+          c.follow.new.store c.follow.ensures.store c.follow.ensures.tables c.follow.ensures.nothing).room);
+      fewer = ((cache_retires c.args.store.now c.args.caches.now step.new.caches c.args.cache c.args.pages c.args.done step.result step.ensures.step c.requires.sound c.requires.tied c.requires.unpinned c.requires.may
+          c.follow.new.store c.follow.ensures.store c.follow.ensures.tables c.follow.ensures.nothing).fewer);
+    }

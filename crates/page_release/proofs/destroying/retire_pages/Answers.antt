@@ -1,4 +1,4 @@
-use Rattle.std.proofs.Common.{◌≡◌, ◌+◌, ◌≤◌, ℕ, [], Some, refl, sym, ap, ◌∙◌, subst, inl, inr, arith}
+use Rattle.std.proofs.Common.{rules, ◌≡◌, ◌+◌, ◌≤◌, ℕ, [], Some, refl, sym, ap, ◌∙◌, subst, inl, inr, arith}
 use Rattle.vm_ids.specs.declared.numbers.CacheId.{CacheId}
 use Rattle.vm_ids.specs.Forest.Commands.{page_name, page_names}
 use Rattle.vm_ids.specs.Forest.NameLists.{◌∈◌}
@@ -85,26 +85,19 @@ loop-done-preserved c =
       few = e.few;
     }
 
-pub returns-clause-rule : goal.returns-clause-rule
-returns-clause-rule c =
+pub returns : goal.returns
+returns c =
     let i = c.loop-done.invariant in
     let all : c.loop-done.done ≡ c.args.pages = omega (arith, c.loop-done-test.false, i.few) in
-    (subst (λ k. RetiresPages c.args.cache 0 k c.args.store.now c.args.caches.now c.loop-done.store c.loop-done.caches) all i.retired).rule
-
-pub returns-clause-consistent : goal.returns-clause-consistent
-returns-clause-consistent c =
-    let i = c.loop-done.invariant in
-    (left c.args.store.now c.args.caches.now c.loop-done.store c.loop-done.caches c.requires.retire.whole c.args.cache c.args.pages c.loop-done.done c.requires.pages i.few i.retired).consistent
-
-pub returns-clause-made : goal.returns-clause-made
-returns-clause-made c =
-    let i = c.loop-done.invariant in
     let a = c.args.caches.now in
     let b = c.loop-done.caches in
     let still = left c.args.store.now a c.loop-done.store b c.requires.retire.whole c.args.cache c.args.pages c.loop-done.done c.requires.pages i.few i.retired in
-    omega (arith, i.few, still.made, forest_of-made a, forest_of-made b)
-
-pub returns-clause-few : goal.returns-clause-few
-returns-clause-few c =
-    let i = c.loop-done.invariant in
-    (left c.args.store.now c.args.caches.now c.loop-done.store c.loop-done.caches c.requires.retire.whole c.args.cache c.args.pages c.loop-done.done c.requires.pages i.few i.retired).few
+    record {
+      rule = (subst (λ k. RetiresPages c.args.cache 0 k c.args.store.now c.args.caches.now c.loop-done.store c.loop-done.caches) all i.retired).rule;
+      kept = search rules;
+      consistent = (left c.args.store.now c.args.caches.now c.loop-done.store c.loop-done.caches c.requires.retire.whole c.args.cache c.args.pages c.loop-done.done c.requires.pages i.few i.retired).consistent;
+      made = omega (arith, i.few, still.made, forest_of-made a, forest_of-made b);
+      few = (left c.args.store.now c.args.caches.now c.loop-done.store c.loop-done.caches c.requires.retire.whole c.args.cache c.args.pages c.loop-done.done c.requires.pages i.few i.retired).few;
+      room = search rules;
+      fewer = search rules;
+    }

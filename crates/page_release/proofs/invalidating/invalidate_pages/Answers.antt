@@ -11,28 +11,15 @@ invalidate_and_settle-requires-clause-ready c =
     let t = c.drop_seen.new.store in
     ready_behind s t (tables_mapped s t _ c.drop_seen.ensures) c.args.caches.now c.args.extent.pages c.args.extent.cache (extent_names c.args.extent) c.requires.ready
 
-pub returns-clause-rule : goal.returns-clause-rule
-returns-clause-rule c =
+pub returns : goal.returns
+returns c =
     let s = c.args.store.now in
     let t = c.drop_seen.new.store in
-    goes_behind s t (tables_mapped s t _ c.drop_seen.ensures) c.args.caches.now c.invalidate_and_settle.new.store c.invalidate_and_settle.new.caches _ c.invalidate_and_settle.ensures.rule
-
-pub returns-clause-kept : goal.returns-clause-kept
-returns-clause-kept c =
-    let s = c.args.store.now in
-    let t = c.drop_seen.new.store in
-    kept_behind s t (tables_mapped s t _ c.drop_seen.ensures) c.args.caches.now c.invalidate_and_settle.new.store c.invalidate_and_settle.new.caches (extent_names c.args.extent) c.invalidate_and_settle.ensures.kept
-
-pub returns-clause-pages : goal.returns-clause-pages
-returns-clause-pages c =
-    let s = c.args.store.now in
-    let t = c.drop_seen.new.store in
-    pages_behind s t (tables_mapped s t _ c.drop_seen.ensures) c.args.caches.now c.invalidate_and_settle.new.store c.invalidate_and_settle.new.caches c.args.extent.pages c.invalidate_and_settle.ensures.pages
-
-pub returns-clause-translations : goal.returns-clause-translations
-returns-clause-translations c =
     let a = c.args.caches.now in
-    let s = c.args.store.now in
-    let t = c.drop_seen.new.store in
     let names = extent_names c.args.extent in
-    leaves (λ x. x ∈ names) (λ x. x ∈ names) (λ x. ⊥) a s t c.invalidate_and_settle.new.caches c.invalidate_and_settle.new.store (ready_first a names s t c.drop_seen.ensures) c.invalidate_and_settle.ensures.translations
+    record {
+      rule = goes_behind s t (tables_mapped s t _ c.drop_seen.ensures) c.args.caches.now c.invalidate_and_settle.new.store c.invalidate_and_settle.new.caches _ c.invalidate_and_settle.ensures.rule;
+      kept = kept_behind s t (tables_mapped s t _ c.drop_seen.ensures) c.args.caches.now c.invalidate_and_settle.new.store c.invalidate_and_settle.new.caches (extent_names c.args.extent) c.invalidate_and_settle.ensures.kept;
+      pages = pages_behind s t (tables_mapped s t _ c.drop_seen.ensures) c.args.caches.now c.invalidate_and_settle.new.store c.invalidate_and_settle.new.caches c.args.extent.pages c.invalidate_and_settle.ensures.pages;
+      translations = leaves (λ x. x ∈ names) (λ x. x ∈ names) (λ x. ⊥) a s t c.invalidate_and_settle.new.caches c.invalidate_and_settle.new.store (ready_first a names s t c.drop_seen.ensures) c.invalidate_and_settle.ensures.translations;
+    }

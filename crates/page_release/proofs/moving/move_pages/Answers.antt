@@ -22,38 +22,27 @@ move_and_settle-requires-clause-ready c =
     let t = c.drop_seen_where_mapped-2.new.store in
     ready_behind s t (tables_twice s c.drop_seen_where_mapped.new.store t _ _ c.drop_seen_where_mapped.ensures c.drop_seen_where_mapped-2.ensures) c.args.caches.now c.args.span.pages c.args.span.to (firsts (span_pairs c.args.span)) c.requires.ready
 
-pub returns-clause-rule : goal.returns-clause-rule
-returns-clause-rule c =
+pub returns : goal.returns
+returns c =
     let s = c.args.store.now in
     let t = c.drop_seen_where_mapped-2.new.store in
-    goes_behind s t (tables_twice s c.drop_seen_where_mapped.new.store t _ _ c.drop_seen_where_mapped.ensures c.drop_seen_where_mapped-2.ensures) c.args.caches.now c.move_and_settle.new.store c.move_and_settle.new.caches _ c.move_and_settle.ensures.rule
-
-pub returns-clause-kept : goal.returns-clause-kept
-returns-clause-kept c =
-    let s = c.args.store.now in
-    let t = c.drop_seen_where_mapped-2.new.store in
-    kept_behind s t (tables_twice s c.drop_seen_where_mapped.new.store t _ _ c.drop_seen_where_mapped.ensures c.drop_seen_where_mapped-2.ensures) c.args.caches.now c.move_and_settle.new.store c.move_and_settle.new.caches (firsts (span_pairs c.args.span)) c.move_and_settle.ensures.kept
-
-pub returns-clause-pages : goal.returns-clause-pages
-returns-clause-pages c =
-    let s = c.args.store.now in
-    let t = c.drop_seen_where_mapped-2.new.store in
-    pages_behind s t (tables_twice s c.drop_seen_where_mapped.new.store t _ _ c.drop_seen_where_mapped.ensures c.drop_seen_where_mapped-2.ensures) c.args.caches.now c.move_and_settle.new.store c.move_and_settle.new.caches c.args.span.pages c.move_and_settle.ensures.pages
-
-pub returns-clause-translations : goal.returns-clause-translations
-returns-clause-translations c =
-    let s = c.args.span in
     let a = c.args.caches.now in
     let r = c.args.store.now in
-    let t = c.drop_seen_where_mapped.new.store in
     let u = c.drop_seen_where_mapped-2.new.store in
     let to_mapped = c.args.to_mapped in
     let from_mapped = c.args.from_mapped in
-    let to = where_mapped to_mapped (page_names s.to s.to_page.0 s.pages) in
-    let from = where_mapped from_mapped (page_names s.from s.from_page.0 s.pages) in
-    let one = ready_first a to r t c.drop_seen_where_mapped.ensures in
-    let two = ready_more a from (λ x. x ∈ to) r t u one c.drop_seen_where_mapped-2.ensures in
-    let by_firsts = subst (λ (xs : List NodeName). AreReady (λ x. (x ∈ where_mapped to_mapped xs) ⊎ (x ∈ from)) (λ x. ⊥) a r u) (sym (destination_names s)) two in
-    let ready = subst (λ (xs : List NodeName). AreReady (λ x. (x ∈ where_mapped to_mapped (firsts (span_pairs s))) ⊎ (x ∈ where_mapped from_mapped xs)) (λ x. ⊥) a r u) (sym (source_names s)) by_firsts in
-    leaves (λ x. (x ∈ firsts (span_pairs s)) ⊎ (x ∈ seconds (span_pairs s)))
-    (λ x. (x ∈ where_mapped to_mapped (firsts (span_pairs s))) ⊎ (x ∈ where_mapped from_mapped (seconds (span_pairs s)))) (λ x. ⊥) a r u c.move_and_settle.new.caches c.move_and_settle.new.store ready c.move_and_settle.ensures.translations
+    record {
+      rule = goes_behind s t (tables_twice s c.drop_seen_where_mapped.new.store t _ _ c.drop_seen_where_mapped.ensures c.drop_seen_where_mapped-2.ensures) c.args.caches.now c.move_and_settle.new.store c.move_and_settle.new.caches _ c.move_and_settle.ensures.rule;
+      kept = kept_behind s t (tables_twice s c.drop_seen_where_mapped.new.store t _ _ c.drop_seen_where_mapped.ensures c.drop_seen_where_mapped-2.ensures) c.args.caches.now c.move_and_settle.new.store c.move_and_settle.new.caches (firsts (span_pairs c.args.span)) c.move_and_settle.ensures.kept;
+      pages = pages_behind s t (tables_twice s c.drop_seen_where_mapped.new.store t _ _ c.drop_seen_where_mapped.ensures c.drop_seen_where_mapped-2.ensures) c.args.caches.now c.move_and_settle.new.store c.move_and_settle.new.caches c.args.span.pages c.move_and_settle.ensures.pages;
+      translations = (let s = c.args.span in
+          let t = c.drop_seen_where_mapped.new.store in
+          let to = where_mapped to_mapped (page_names s.to s.to_page.0 s.pages) in
+          let from = where_mapped from_mapped (page_names s.from s.from_page.0 s.pages) in
+          let one = ready_first a to r t c.drop_seen_where_mapped.ensures in
+          let two = ready_more a from (λ x. x ∈ to) r t u one c.drop_seen_where_mapped-2.ensures in
+          let by_firsts = subst (λ (xs : List NodeName). AreReady (λ x. (x ∈ where_mapped to_mapped xs) ⊎ (x ∈ from)) (λ x. ⊥) a r u) (sym (destination_names s)) two in
+          let ready = subst (λ (xs : List NodeName). AreReady (λ x. (x ∈ where_mapped to_mapped (firsts (span_pairs s))) ⊎ (x ∈ where_mapped from_mapped xs)) (λ x. ⊥) a r u) (sym (source_names s)) by_firsts in
+          leaves (λ x. (x ∈ firsts (span_pairs s)) ⊎ (x ∈ seconds (span_pairs s)))
+          (λ x. (x ∈ where_mapped to_mapped (firsts (span_pairs s))) ⊎ (x ∈ where_mapped from_mapped (seconds (span_pairs s)))) (λ x. ⊥) a r u c.move_and_settle.new.caches c.move_and_settle.new.store ready c.move_and_settle.ensures.translations);
+    }

@@ -12,13 +12,13 @@ abbrev pub invariant-loop-number : goal.invariant-loop-number
 invariant-loop-number g l =
     let M = g.M.Mapper in
     record {
-      right : (s : Store) → RightStore M.held M.page_bytes l.fn.mapper l.fn.caches s → RightStore M.held M.page_bytes l.mapper l.caches s;
+      right : (s : Store) → RightStore M l.fn.mapper l.fn.caches s → RightStore M l.mapper l.caches s;
       whole : IsWhole l.caches;
       sizes : SameCaches l.fn.caches l.caches;
       grants : GrantsBefore l.range l.number l.fn.caches l.caches;
       allows : AllowsBefore l.range l.number (M.held l.fn.mapper) l.segment;
       nodes : forest_of l.caches ≡ forest_of l.fn.caches;
-      forest : (s : Store) → RightStore M.held M.page_bytes l.fn.mapper l.fn.caches s → Between SameForest M.held M.page_bytes l.fn.mapper l.fn.caches s l.mapper l.caches s;
+      forest : (s : Store) → RightStore M l.fn.mapper l.fn.caches s → Between SameForest M l.fn.mapper l.fn.caches s l.mapper l.caches s;
       held : M.held l.mapper ≡ M.held l.fn.mapper;
       given : M.given l.mapper ≡ M.given l.fn.mapper;
       page_bytes : M.page_bytes l.mapper ≡ M.page_bytes l.fn.mapper;

@@ -3,7 +3,8 @@ use Rattle.vm_ids.specs.declared.numbers.NodeId.{NodeId}
 use Rattle.local_cache.specs.Arena.{node_at}
 use Rattle.local_cache.specs.Own.{is_resident, own_of}
 use Rattle.fault_path.specs.Translating.{Nobody}
-use Rattle.residency.specs.World.{World, world}
+use Rattle.residency.specs.Between.{world_at}
+use Rattle.residency.specs.World.{World}
 use Rattle.residency.proofs.Forests.StillForest.{still_like}
 use Rattle.residency.proofs.Translations.Kept.{same_drops}
 use Rattle.segment_ops.proofs.AlikePages.{alike_out}
@@ -36,8 +37,8 @@ let_go-requires-clause-loose g c = λ f at. c.requires.loose c.args.range.first.
 pub returns-clause-out : goal.returns-clause-out
 returns-clause-out g c page n is at =
     let M = g.M.Mapper in
-    let w : World = world (M.held c.args.mapper.now) (M.page_bytes c.args.mapper.now) c.args.caches.now c.args.store.now in
-    let v : World = world (M.held c.let_go.new.mapper) (M.page_bytes c.let_go.new.mapper) c.let_go.new.caches c.let_go.new.store in
+    let w : World = world_at M c.args.mapper.now c.args.caches.now c.args.store.now in
+    let v : World = world_at M c.let_go.new.mapper c.let_go.new.caches c.let_go.new.store in
     let e = c.let_go.ensures in
     let place : page ≡ c.args.range.first.0 = omega (arith, is.0, is.1) in
     let here : node_at w.caches c.args.range.cache.0 c.args.range.first.0 ≡ Some n =

@@ -2,7 +2,8 @@ use Rattle.std.proofs.Common.{◌+◌, ℕ, refl, sym, ap, ◌∙◌, arith, inl
 use Rattle.std.proofs.lemmas.Bool.{cases_lt}
 use Rattle.vm_ids.specs.Held.{segments_of}
 use Rattle.local_cache.specs.Own.{is_resident}
-use Rattle.residency.specs.World.{World, world}
+use Rattle.residency.specs.Between.{world_at}
+use Rattle.residency.specs.World.{World}
 use Rattle.residency.proofs.Worlds.Composed.{still, still_then}
 use Rattle.residency.proofs.Forests.StillForest.{still_like}
 use Rattle.fault_path.proofs.Calls.Answered.{later_then}
@@ -23,7 +24,7 @@ overflow_add-end g c = omega (arith, range_fits c.args.caches.now c.requires.who
 pub loop-page-init : goal.loop-page-init
 loop-page-init g c =
     let M = g.M.Mapper in
-    let old : World = world (M.held c.args.mapper.now) (M.page_bytes c.args.mapper.now) c.args.caches.now c.args.store.now in
+    let old : World = world_at M c.args.mapper.now c.args.caches.now c.args.store.now in
     record {
       first = omega arith;
       end = omega arith;
@@ -60,8 +61,8 @@ give_up_next-page-requires-clause-loose g c = λ page n f is at bound.
 pub loop-page-preserved : goal.loop-page-preserved
 loop-page-preserved g c =
     let M = g.M.Mapper in
-    let w : World = world (M.held c.loop-page.mapper) (M.page_bytes c.loop-page.mapper) c.loop-page.caches c.loop-page.store in
-    let v : World = world (M.held c.give_up_next-page.new.mapper) (M.page_bytes c.give_up_next-page.new.mapper) c.give_up_next-page.new.caches c.give_up_next-page.new.store in
+    let w : World = world_at M c.loop-page.mapper c.loop-page.caches c.loop-page.store in
+    let v : World = world_at M c.give_up_next-page.new.mapper c.give_up_next-page.new.caches c.give_up_next-page.new.store in
     let i = c.loop-page.invariant in
     let e = c.give_up_next-page.ensures in
     let told : TellsValues w v (M.counts c.loop-page.mapper) (M.counts c.give_up_next-page.new.mapper) = tells_none w v (M.counts c.loop-page.mapper) (M.counts c.give_up_next-page.new.mapper) (ap segments_of e.held) e.later.pushes in

@@ -1,6 +1,7 @@
 use Rattle.std.proofs.Common.{◌≡◌, ◌+◌, ◌-◌, ◌≤◌}
+use Rattle.residency.specs.Between.{world_at}
 use Rattle.residency.specs.Causes.{Later, Traffic}
-use Rattle.residency.specs.World.{Still, World, world}
+use Rattle.residency.specs.World.{Still, World}
 use Rattle.residency.specs.Translating.{Drops}
 use Rattle.segment_ops.specs.Synced.{AreLoose, AreOut, AreSynced}
 use Rattle.fault_path.specs.Translating.{Nobody}
@@ -9,8 +10,8 @@ use Rattle.segment_ops.proofs.pushing.give_up_pages.Given as goal
 abbrev pub invariant-loop-page : goal.invariant-loop-page
 invariant-loop-page g l =
     let M = g.M.Mapper in
-    let old : World = world (M.held l.fn.mapper) (M.page_bytes l.fn.mapper) l.fn.caches l.fn.store in
-    let now : World = world (M.held l.mapper) (M.page_bytes l.mapper) l.caches l.store in
+    let old : World = world_at M l.fn.mapper l.fn.caches l.fn.store in
+    let now : World = world_at M l.mapper l.caches l.store in
     record {
       first : l.range.first.0 ≤ l.page;
       end : l.page ≤ l.range.first.0 + l.range.pages;

@@ -1,5 +1,6 @@
 use Rattle.std.proofs.Common.{rules}
-use Rattle.residency.specs.World.{World, world}
+use Rattle.residency.specs.Between.{world_at}
+use Rattle.residency.specs.World.{World}
 use Rattle.fault_path.specs.Translating.{Nobody}
 use Rattle.residency.proofs.Translations.Kept.{same_drops, still_drops}
 use Rattle.segment_ops.proofs.GivenUp.{evicted_out}
@@ -8,8 +9,8 @@ use Rattle.segment_ops.proofs.pushing.let_go.Goals as goal
 pub returns-in-Some-clause-out : goal.returns-in-Some-clause-out
 returns-in-Some-clause-out g c =
     let M = g.M.Mapper in
-    let old : World = world (M.held c.args.mapper.now) (M.page_bytes c.args.mapper.now) c.args.caches.now c.args.store.now in
-    let v : World = world (M.held c.evict.new.mapper) (M.page_bytes c.evict.new.mapper) c.evict.new.caches c.evict.new.self in
+    let old : World = world_at M c.args.mapper.now c.args.caches.now c.args.store.now in
+    let v : World = world_at M c.evict.new.mapper c.evict.new.caches c.evict.new.self in
     evicted_out old v c.in-Some.frame.0 c.args.node c.evict.result _ c.unwrap.ensures c.evict.ensures.evicted (search rules)
 
 pub returns-in-Some-clause-drops : goal.returns-in-Some-clause-drops

@@ -1,7 +1,8 @@
 use Rattle.std.proofs.Common.{ap, is_some, arith}
 use Rattle.vm_ids.specs.declared.numbers.NodeId.{NodeId}
 use Rattle.fault_path.specs.Faults.{IsOwner}
-use Rattle.residency.specs.World.{World, world}
+use Rattle.residency.specs.Between.{world_at}
+use Rattle.residency.specs.World.{World}
 use Rattle.residency.proofs.Translations.Kept.{drops_more, same_drops}
 use Rattle.segment_ops.specs.Translating.{IsReadBy}
 use Rattle.segment_ops.proofs.AlikePages.{alike_synced}
@@ -16,7 +17,7 @@ clean_nodes-clean-requires g c = (c.requires.right.sound.kept.listed.nodes c.arg
 pub returns-then-clean-gt0-clause-synced : goal.returns-then-clean-gt0-clause-synced
 returns-then-clean-gt0-clause-synced g c =
     let M = g.M.Mapper in
-    let w : World = world (M.held c.args.mapper.now) (M.page_bytes c.args.mapper.now) c.args.caches.now c.args.store.now in
+    let w : World = world_at M c.args.mapper.now c.args.caches.now c.args.store.now in
     let r = c.requires.right in
     let e = c.clean_nodes-clean.ensures in
     alike_synced w r.store r.sound r.shaped c.args.range c.node_of-node.result c.node_of-node.ensures c.clean_nodes-clean.result e.alike (e.clean c.if-clean-gt0.true)

@@ -1,6 +1,7 @@
-use Rattle.std.proofs.Common.{◌≤◌, ◌+◌, ◌-◌, Bool, List, length, ◌<◌, refl, sym, ◌∙◌, subst, arith}
+use Rattle.std.proofs.Common.{rules, ◌≤◌, ◌+◌, ◌-◌, Bool, List, length, ◌<◌, refl, sym, ◌∙◌, subst, arith}
 use Rattle.std.specs.List.{count_by}
-use Rattle.residency.specs.World.{World, world}
+use Rattle.residency.specs.Between.{world_at}
+use Rattle.residency.specs.World.{World}
 use Rattle.residency.proofs.Forests.StillForest.{still_like}
 use Rattle.residency.proofs.Worlds.Composed.{still, still_then}
 use Rattle.fault_path.proofs.Calls.Answered.{later_then}
@@ -20,7 +21,7 @@ overflow_add-end g c = omega (arith, range_fits c.args.caches.now c.requires.who
 pub loop-page-init : goal.loop-page-init
 loop-page-init g c =
     let M = g.M.Mapper in
-    let old : World = world (M.held c.args.mapper.now) (M.page_bytes c.args.mapper.now) c.args.caches.now c.args.store.now in
+    let old : World = world_at M c.args.mapper.now c.args.caches.now c.args.store.now in
     record {
       first = omega arith;
       end = omega arith;
@@ -76,38 +77,25 @@ loop-page-preserved g c =
 pub overflow_add-page : goal.overflow_add-page
 overflow_add-page g c = omega (arith, range_fits c.args.caches.now c.requires.whole c.args.range c.requires.range, c.in-Ok.ensures.few, c.loop-page-test.true)
 
-pub returns-in_default-clause-still : goal.returns-in_default-clause-still
-returns-in_default-clause-still g c = still_then _ _ _ c.loop-page.invariant.still c.push_next.ensures.still
-
-pub returns-in_default-clause-told : goal.returns-in_default-clause-told
-returns-in_default-clause-told g c =
-    let i = c.loop-page.invariant in
-    let e = c.push_next.ensures in
-    values_then _ _ (still_reads _ _ i.still) _ _ _ _ e.later i.told e.told
-
-pub returns-in_default-clause-failed : goal.returns-in_default-clause-failed
-returns-in_default-clause-failed g c =
-    let i = c.loop-page.invariant in
-    let e = c.push_next.ensures in
-    ((i.first, c.loop-page-test.true), synced_kept c.args.range c.loop-page.page _ _ i.still.stays.right e.still (now_sound i.still c.requires.whole) (now_shaped i.still c.requires.whole) e.clean _ _ e.told (now_named i.still c.requires.whole c.args.range c.requires.named) i.synced)
-
-pub returns-in_default-clause-most : goal.returns-in_default-clause-most
-returns-in_default-clause-most g c =
+pub returns-in_default : goal.returns-in_default
+returns-in_default g c =
     let i = c.loop-page.invariant in
     let e = c.push_next.ensures in
     let like = still_like c.args.caches.now c.loop-page.caches i.still.stays.caches in
-    costs_most c.args.caches.now c.args.range (c.loop-page.page + 1 - c.args.range.first.0) _ _ (omega (arith, c.loop-page-test.true, i.first))
-    (costs_then c.args.caches.now c.args.range c.loop-page.page 1 _ _ _ _ i.first (omega arith) (unclean_stays c.args.caches.now c.loop-page.caches like i.clean c.args.range.cache.0 c.loop-page.page) i.most e.most e.later)
-
-pub returns-in_default-clause-cause : goal.returns-in_default-clause-cause
-returns-in_default-clause-cause g c = failed_then _ _ _ c.loop-page.invariant.later c.in_default.ensures.cause
-
-pub returns-in_default-clause-drops : goal.returns-in_default-clause-drops
-returns-in_default-clause-drops g c =
-    let i = c.loop-page.invariant in
     let left = c.args.range.first.0 + c.args.range.pages - c.loop-page.page in
-    drops_trans (IsReadBy c.args.caches.now c.args.range) (IsReadBy c.loop-page.caches (record c.args.range { first = record { 0 = c.loop-page.page }; pages = left })) (IsReadBy c.args.caches.now c.args.range) c.args.caches.now c.loop-page.caches c.push_next.new.caches c.args.store.now c.loop-page.store c.push_next.new.store
-    (λ n came. came) (read_first i.still c.requires.whole c.args.range c.loop-page.page left i.first (omega (arith, c.loop-page-test.true))) i.drops c.push_next.ensures.drops
+    record {
+      still = still_then _ _ _ c.loop-page.invariant.still c.push_next.ensures.still;
+      told = values_then _ _ (still_reads _ _ i.still) _ _ _ _ e.later i.told e.told;
+      pinned = search rules;
+      later = search rules;
+      synced = search rules;
+      failed = ((i.first, c.loop-page-test.true), synced_kept c.args.range c.loop-page.page _ _ i.still.stays.right e.still (now_sound i.still c.requires.whole) (now_shaped i.still c.requires.whole) e.clean _ _ e.told (now_named i.still c.requires.whole c.args.range c.requires.named) i.synced);
+      most = (costs_most c.args.caches.now c.args.range (c.loop-page.page + 1 - c.args.range.first.0) _ _ (omega (arith, c.loop-page-test.true, i.first))
+          (costs_then c.args.caches.now c.args.range c.loop-page.page 1 _ _ _ _ i.first (omega arith) (unclean_stays c.args.caches.now c.loop-page.caches like i.clean c.args.range.cache.0 c.loop-page.page) i.most e.most e.later));
+      cause = failed_then _ _ _ c.loop-page.invariant.later c.in_default.ensures.cause;
+      drops = (drops_trans (IsReadBy c.args.caches.now c.args.range) (IsReadBy c.loop-page.caches (record c.args.range { first = record { 0 = c.loop-page.page }; pages = left })) (IsReadBy c.args.caches.now c.args.range) c.args.caches.now c.loop-page.caches c.push_next.new.caches c.args.store.now c.loop-page.store c.push_next.new.store
+          (λ n came. came) (read_first i.still c.requires.whole c.args.range c.loop-page.page left i.first (omega (arith, c.loop-page-test.true))) i.drops c.push_next.ensures.drops);
+    }
 
 pub returns-clause-synced : goal.returns-clause-synced
 returns-clause-synced g c =

@@ -1,4 +1,4 @@
-use Rattle.std.proofs.Common.{◌≡◌, ℕ, ◌+◌, ◌<◌, ◌≤◌, Bool, List, length, true, Some, Ok, Err, refl, sym, ap, ◌∙◌, subst, arith}
+use Rattle.std.proofs.Common.{rules, ◌≡◌, ℕ, ◌+◌, ◌<◌, ◌≤◌, Bool, List, length, true, Some, Ok, Err, refl, sym, ap, ◌∙◌, subst, arith}
 use Rattle.std.specs.List.{count_by}
 use Rattle.vm_ids.specs.Forest.Commands.{extent_names, page_name}
 use Rattle.vm_ids.specs.Forest.NameMap.{len}
@@ -8,8 +8,9 @@ use Rattle.vm_ids.specs.Forest.Saving.{is_unsaved, saves}
 use Rattle.local_cache.specs.Arena.{HasNode}
 use Rattle.local_cache.specs.Reading.{forest_of, name_of}
 use Rattle.local_cache.specs.Sound.{IsSound}
+use Rattle.residency.specs.Between.{world_at}
 use Rattle.residency.specs.StoreForest.{store_forest}
-use Rattle.residency.specs.World.{World, world}
+use Rattle.residency.specs.World.{World}
 use Rattle.residency.proofs.Worlds.Composed.{still}
 use Rattle.fault_path.proofs.Calls.Kept.{still_kept, store_heir, store_shaped}
 use Rattle.fault_path.specs.Translating.{MayCome}
@@ -32,7 +33,7 @@ overflow_add-end g c = omega (arith, range_fits c.args.caches.now c.requires.who
 pub loop-page-init : goal.loop-page-init
 loop-page-init g c =
     let M = g.M.Mapper in
-    let old : World = world (M.held c.args.mapper.now) (M.page_bytes c.args.mapper.now) c.args.caches.now c.args.store.now in
+    let old : World = world_at M c.args.mapper.now c.args.caches.now c.args.store.now in
     record {
       stays = record {
         kept = still_kept old old (still old c.requires.right) c.requires.whole.sound c.requires.whole.consistent.shaped refl;
@@ -63,17 +64,17 @@ named : (g : Over) (c : After-node_of-node g) → HasNode c.loop-page.caches c.n
 named g c = node_named c.loop-page.caches c.loop-page.invariant.stays.whole.sound c.args.range.cache c.loop-page.page c.node_of-node.result c.node_of-node.ensures
 
 -- the page isn't saved yet
-unsaved : (g : Over) (c : In-Some g) → is_unsaved (store_forest (world (g.M.Mapper.held c.loop-page.mapper) (g.M.Mapper.page_bytes c.loop-page.mapper) c.loop-page.caches c.loop-page.store)) (page_name c.args.range.cache c.loop-page.page) ≡ true
+unsaved : (g : Over) (c : In-Some g) → is_unsaved (store_forest (world_at g.M.Mapper c.loop-page.mapper c.loop-page.caches c.loop-page.store)) (page_name c.args.range.cache c.loop-page.page) ≡ true
 unsaved g c =
-    let w : World = world (g.M.Mapper.held c.loop-page.mapper) (g.M.Mapper.page_bytes c.loop-page.mapper) c.loop-page.caches c.loop-page.store in
+    let w : World = world_at g.M.Mapper c.loop-page.mapper c.loop-page.caches c.loop-page.store in
     unsaved_by w c.loop-page.invariant.stays.whole.sound _ ∙ ap (is_unsaved (forest_of w.caches)) (sym (named g (goal.at.In-Some g c).After-node_of-node).1) ∙ sym c.in-Some.ensures.unsaved
 
 -- so fewer pages were saved than there are nodes
 fewer : (g : Over) (c : In-Some g) → c.loop-page.done < len (forest_of c.args.caches.now).nodes
 fewer g c =
     let M = g.M.Mapper in
-    let old : World = world (M.held c.args.mapper.now) (M.page_bytes c.args.mapper.now) c.args.caches.now c.args.store.now in
-    let w : World = world (M.held c.loop-page.mapper) (M.page_bytes c.loop-page.mapper) c.loop-page.caches c.loop-page.store in
+    let old : World = world_at M c.args.mapper.now c.args.caches.now c.args.store.now in
+    let w : World = world_at M c.loop-page.mapper c.loop-page.caches c.loop-page.store in
     let i = c.loop-page.invariant in
     let low = few_done old w c.args.range c.loop-page.done c.loop-page.page i.forest i.first i.saved (store_shaped old c.requires.whole.sound c.requires.whole.consistent.shaped) c.loop-page-test.true (unsaved g c) in
     omega (arith, low, nodes_by old c.requires.whole.sound)
@@ -101,25 +102,6 @@ save-requires-clause-loose g c = let i = c.loop-page.invariant in subst (λ (ps 
 pub save-requires-clause-copies : goal.save-requires-clause-copies
 save-requires-clause-copies g c = let i = c.loop-page.invariant in omega (arith, i.copies, i.done, c.requires.copies)
 
-pub returns-in_default-clause-stays : goal.returns-in_default-clause-stays
-returns-in_default-clause-stays g c =
-    let M = g.M.Mapper in
-    let old : World = world (M.held c.args.mapper.now) (M.page_bytes c.args.mapper.now) c.args.caches.now c.args.store.now in
-    let w : World = world (M.held c.loop-page.mapper) (M.page_bytes c.loop-page.mapper) c.loop-page.caches c.loop-page.store in
-    let v : World = world (M.held c.save.new.mapper) (M.page_bytes c.save.new.mapper) c.save.new.caches c.save.new.store in
-    let i = c.loop-page.invariant in
-    stays_then old w v _ _ _ i.stays c.in_default.ensures.answered (saves_read old w c.loop-page.done (extent_names c.args.range) i.forest i.stays.kept.nodes (store_shaped old c.requires.whole.sound c.requires.whole.consistent.shaped))
-
-pub returns-in_default-clause-failed : goal.returns-in_default-clause-failed
-returns-in_default-clause-failed g c =
-    let M = g.M.Mapper in
-    let old : World = world (M.held c.args.mapper.now) (M.page_bytes c.args.mapper.now) c.args.caches.now c.args.store.now in
-    let w : World = world (M.held c.loop-page.mapper) (M.page_bytes c.loop-page.mapper) c.loop-page.caches c.loop-page.store in
-    let v : World = world (M.held c.save.new.mapper) (M.page_bytes c.save.new.mapper) c.save.new.caches c.save.new.store in
-    let i = c.loop-page.invariant in
-    let is = unsaved g (goal.at.returns-in_default-clause-failed g c).In-Some in
-    failed_here old w c.args.range c.loop-page.done c.loop-page.page i.forest i.first i.saved v c.loop-page-test.true is c.in_default.ensures.missed.forest
-
 pub overflow_add-done : goal.overflow_add-done
 overflow_add-done g c = omega (arith, fewer g (goal.at.overflow_add-done g c).In-Some, c.requires.whole.few)
 
@@ -130,13 +112,13 @@ loop-page-smaller-in-Some g c =
 pub loop-page-preserved-in-Some : goal.loop-page-preserved-in-Some
 loop-page-preserved-in-Some g c =
     let M = g.M.Mapper in
-    let old : World = world (M.held c.args.mapper.now) (M.page_bytes c.args.mapper.now) c.args.caches.now c.args.store.now in
-    let w : World = world (M.held c.loop-page.mapper) (M.page_bytes c.loop-page.mapper) c.loop-page.caches c.loop-page.store in
+    let old : World = world_at M c.args.mapper.now c.args.caches.now c.args.store.now in
+    let w : World = world_at M c.loop-page.mapper c.loop-page.caches c.loop-page.store in
     let i = c.loop-page.invariant in
     let at = named g (goal.at.loop-page-preserved-in-Some g c).After-node_of-node in
     let is = unsaved g (goal.at.loop-page-preserved-in-Some g c).In-Some in
     let few = fewer g (goal.at.loop-page-preserved-in-Some g c).In-Some in
-    let v : World = world (M.held c.save.new.mapper) (M.page_bytes c.save.new.mapper) c.save.new.caches c.save.new.store in
+    let v : World = world_at M c.save.new.mapper c.save.new.caches c.save.new.store in
     let e = c.in-Ok.ensures in
     let k = e.answered.kept in
     let next = c.next_page-page.ensures in
@@ -174,8 +156,8 @@ saved_pages-page-requires-clause-saved g c =
 pub loop-page-preserved : goal.loop-page-preserved
 loop-page-preserved g c =
     let M = g.M.Mapper in
-    let old : World = world (M.held c.args.mapper.now) (M.page_bytes c.args.mapper.now) c.args.caches.now c.args.store.now in
-    let w : World = world (M.held c.loop-page.mapper) (M.page_bytes c.loop-page.mapper) c.loop-page.caches c.loop-page.store in
+    let old : World = world_at M c.args.mapper.now c.args.caches.now c.args.store.now in
+    let w : World = world_at M c.loop-page.mapper c.loop-page.caches c.loop-page.store in
     let i = c.loop-page.invariant in
     let e = c.saved_pages-page.ensures in
     record {
@@ -198,42 +180,48 @@ next_page-page-requires-clause-end g c = range_fits c.args.caches.now c.requires
 pub overflow_add-page : goal.overflow_add-page
 overflow_add-page g c = omega (arith, range_fits c.args.caches.now c.requires.whole c.args.range c.requires.range, c.saved_pages-page.ensures.few, c.loop-page-test.true)
 
-pub returns-clause-saved : goal.returns-clause-saved
-returns-clause-saved g c =
+pub returns-in_default : goal.returns-in_default
+returns-in_default g c =
     let M = g.M.Mapper in
-    let old : World = world (M.held c.args.mapper.now) (M.page_bytes c.args.mapper.now) c.args.caches.now c.args.store.now in
-    let w : World = world (M.held c.loop-page.mapper) (M.page_bytes c.loop-page.mapper) c.loop-page.caches c.loop-page.store in
+    let old : World = world_at M c.args.mapper.now c.args.caches.now c.args.store.now in
+    let w : World = world_at M c.loop-page.mapper c.loop-page.caches c.loop-page.store in
+    let v : World = world_at M c.save.new.mapper c.save.new.caches c.save.new.store in
     let i = c.loop-page.invariant in
-    all_done old w c.args.range c.loop-page.done c.loop-page.page i.forest i.first i.saved (store_shaped old c.requires.whole.sound c.requires.whole.consistent.shaped) (omega (arith, c.loop-page-test.false))
+    let is = unsaved g (goal.at.returns-in_default g c).In-Some in
+    let at = named g (goal.at.returns-in_default g c).After-node_of-node in
+    record {
+      stays = stays_then old w v _ _ _ i.stays c.in_default.ensures.answered (saves_read old w c.loop-page.done (extent_names c.args.range) i.forest i.stays.kept.nodes (store_shaped old c.requires.whole.sound c.requires.whole.consistent.shaped));
+      saved = search rules;
+      failed = failed_here old w c.args.range c.loop-page.done c.loop-page.page i.forest i.first i.saved v c.loop-page-test.true is c.in_default.ensures.missed.forest;
+      cause = search rules;
+      copies = search rules;
+      copied = search rules;
+      idle = (λ none.
+          let i = c.loop-page.invariant in
+          let at = named g (goal.at.returns-in_default g c).After-node_of-node in
+          absurd (not_idle c.args.caches.now c.loop-page.caches c.args.range c.loop-page.page i.first c.loop-page-test.true none (i.idle none).1 (sym (ap (is_unsaved (forest_of c.loop-page.caches)) at.1) ∙ sym c.in-Some.ensures.unsaved)));
+      drops = (drops_trans (IsSavedOrAbsent c.args.caches.now c.args.range) (MayCome c.loop-page.caches c.node_of-node.result) (IsSavedOrAbsent c.args.caches.now c.args.range) c.args.caches.now c.loop-page.caches c.save.new.caches c.args.store.now c.loop-page.store c.save.new.store
+          (λ n came. came) (saved_or_absent c.args.caches.now c.loop-page.caches c.args.range c.node_of-node.result (c.loop-page.page, (i.first, c.loop-page-test.true), sym (same_node c.args.caches.now c.loop-page.caches i.stays.kept.nodes c.args.range.cache.0 c.loop-page.page) ∙ c.node_of-node.ensures) i.absent) i.drops c.save.ensures.drops);
+      frames = (let is = unsaved g (goal.at.returns-in_default g c).In-Some in
+          come_then _ old w v i.stays.kept.nodes (more_come _ _ old w (λ m k. in_more_saves (Err c.loop-page.done) c.loop-page.done (extent_names c.args.range) old m (omega arith) k) i.frames)
+          (more_come _ _ w v (λ m k. in_more_saves (Err c.loop-page.done) c.loop-page.done (extent_names c.args.range) old m (omega arith)
+          (next_save_is old w c.args.range c.loop-page.done c.loop-page.page i.forest i.first i.saved c.node_of-node.result m i.stays.whole.sound i.stays.kept.nodes c.loop-page-test.true is at.1 k)) c.save.ensures.frames));
+    }
 
-pub returns-in_default-clause-idle : goal.returns-in_default-clause-idle
-returns-in_default-clause-idle g c = λ none.
-    let i = c.loop-page.invariant in
-    let at = named g (goal.at.returns-in_default-clause-idle g c).After-node_of-node in
-    absurd (not_idle c.args.caches.now c.loop-page.caches c.args.range c.loop-page.page i.first c.loop-page-test.true none (i.idle none).1 (sym (ap (is_unsaved (forest_of c.loop-page.caches)) at.1) ∙ sym c.in-Some.ensures.unsaved))
-
-pub returns-in_default-clause-drops : goal.returns-in_default-clause-drops
-returns-in_default-clause-drops g c =
-    let i = c.loop-page.invariant in
-    drops_trans (IsSavedOrAbsent c.args.caches.now c.args.range) (MayCome c.loop-page.caches c.node_of-node.result) (IsSavedOrAbsent c.args.caches.now c.args.range) c.args.caches.now c.loop-page.caches c.save.new.caches c.args.store.now c.loop-page.store c.save.new.store
-    (λ n came. came) (saved_or_absent c.args.caches.now c.loop-page.caches c.args.range c.node_of-node.result (c.loop-page.page, (i.first, c.loop-page-test.true), sym (same_node c.args.caches.now c.loop-page.caches i.stays.kept.nodes c.args.range.cache.0 c.loop-page.page) ∙ c.node_of-node.ensures) i.absent) i.drops c.save.ensures.drops
-
-pub returns-in_default-clause-frames : goal.returns-in_default-clause-frames
-returns-in_default-clause-frames g c =
+pub returns : goal.returns
+returns g c =
     let M = g.M.Mapper in
-    let old : World = world (M.held c.args.mapper.now) (M.page_bytes c.args.mapper.now) c.args.caches.now c.args.store.now in
-    let w : World = world (M.held c.loop-page.mapper) (M.page_bytes c.loop-page.mapper) c.loop-page.caches c.loop-page.store in
-    let v : World = world (M.held c.save.new.mapper) (M.page_bytes c.save.new.mapper) c.save.new.caches c.save.new.store in
+    let old : World = world_at M c.args.mapper.now c.args.caches.now c.args.store.now in
+    let w : World = world_at M c.loop-page.mapper c.loop-page.caches c.loop-page.store in
     let i = c.loop-page.invariant in
-    let at = named g (goal.at.returns-in_default-clause-frames g c).After-node_of-node in
-    let is = unsaved g (goal.at.returns-in_default-clause-frames g c).In-Some in
-    come_then _ old w v i.stays.kept.nodes (more_come _ _ old w (λ m k. in_more_saves (Err c.loop-page.done) c.loop-page.done (extent_names c.args.range) old m (omega arith) k) i.frames)
-    (more_come _ _ w v (λ m k. in_more_saves (Err c.loop-page.done) c.loop-page.done (extent_names c.args.range) old m (omega arith)
-    (next_save_is old w c.args.range c.loop-page.done c.loop-page.page i.forest i.first i.saved c.node_of-node.result m i.stays.whole.sound i.stays.kept.nodes c.loop-page-test.true is at.1 k)) c.save.ensures.frames)
-
-pub returns-clause-frames : goal.returns-clause-frames
-returns-clause-frames g c =
-    let M = g.M.Mapper in
-    let old : World = world (M.held c.args.mapper.now) (M.page_bytes c.args.mapper.now) c.args.caches.now c.args.store.now in
-    let i = c.loop-page.invariant in
-    more_come _ _ old _ (λ m k. in_more_saves (Ok _) c.loop-page.done (extent_names c.args.range) old m tt k) i.frames
+    record {
+      stays = search rules;
+      saved = all_done old w c.args.range c.loop-page.done c.loop-page.page i.forest i.first i.saved (store_shaped old c.requires.whole.sound c.requires.whole.consistent.shaped) (omega (arith, c.loop-page-test.false));
+      failed = search rules;
+      cause = search rules;
+      copies = search rules;
+      copied = search rules;
+      idle = search rules;
+      drops = search rules;
+      frames = more_come _ _ old _ (λ m k. in_more_saves (Ok _) c.loop-page.done (extent_names c.args.range) old m tt k) i.frames;
+    }

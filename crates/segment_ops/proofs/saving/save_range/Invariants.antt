@@ -5,9 +5,10 @@ use Rattle.vm_ids.specs.Forest.Saving.{is_unsaved, saves}
 use Rattle.vm_ids.specs.declared.numbers.NodeId.{NodeId}
 use Rattle.local_cache.specs.Own.{is_absent, own_of}
 use Rattle.local_cache.specs.Reading.{forest_of}
+use Rattle.residency.specs.Between.{world_at}
 use Rattle.residency.specs.StoreForest.{store_forest}
 use Rattle.residency.specs.Translating.{Drops}
-use Rattle.residency.specs.World.{World, world}
+use Rattle.residency.specs.World.{World}
 use Rattle.segment_ops.specs.Keeping.{StaysWhole}
 use Rattle.fault_path.specs.Coming.{OnlyCome}
 use Rattle.segment_ops.specs.Saving.{AreSavedNow, IsOfSaves}
@@ -17,8 +18,8 @@ use Rattle.segment_ops.proofs.saving.save_range.Given as goal
 abbrev pub invariant-loop-page : goal.invariant-loop-page
 invariant-loop-page g l =
     let M = g.M.Mapper in
-    let old : World = world (M.held l.fn.mapper) (M.page_bytes l.fn.mapper) l.fn.caches l.fn.store in
-    let now : World = world (M.held l.mapper) (M.page_bytes l.mapper) l.caches l.store in
+    let old : World = world_at M l.fn.mapper l.fn.caches l.fn.store in
+    let now : World = world_at M l.mapper l.caches l.store in
     record {
       stays : StaysWhole old now (M.counts l.fn.mapper) (M.counts l.mapper);
       forest : store_forest now ≡ saves l.done (extent_names l.range) (store_forest old);

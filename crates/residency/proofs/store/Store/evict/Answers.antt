@@ -6,8 +6,9 @@ use Rattle.global_map.specs.Pairs.{node_of}
 use Rattle.local_cache.specs.declared.home.Home.{Home}
 use Rattle.local_cache.specs.Home.{home_of}
 use Rattle.local_cache.specs.Own.{own_of}
+use Rattle.residency.specs.Between.{world_at}
 use Rattle.residency.specs.Evicting.{HasLeft, IsEvicted}
-use Rattle.residency.specs.World.{World, is_clean, world}
+use Rattle.residency.specs.World.{World, is_clean}
 use Rattle.residency.proofs.Worlds.Arms.{on_ok_then}
 use Rattle.residency.proofs.Moves.Evicted.{evicts_dirty, evicts_others, evicts_still}
 use Rattle.residency.proofs.Worlds.Homes.{IsHome, home_of_held, unchanged}
@@ -18,7 +19,7 @@ use Rattle.residency.proofs.store.Store.evict.Goals.{After-send_home, After-send
 use Rattle.residency.proofs.store.Store.evict.Goals as goal
 
 -- the frame is that of its node
-at_home : (g : Over) (c : After-unwrap-node g) → IsHome (world (g.M.Mapper.held c.args.mapper.now) (g.M.Mapper.page_bytes c.args.mapper.now) c.args.caches.now c.args.self.now) c.args.frame.0 c.unwrap-node.result
+at_home : (g : Over) (c : After-unwrap-node g) → IsHome (world_at g.M.Mapper c.args.mapper.now c.args.caches.now c.args.self.now) c.args.frame.0 c.unwrap-node.result
 at_home g c = home_of_held _ c.args.frame.0 c.unwrap-node.result c.requires.right c.requires.held (sym c.node_at.ensures ∙ c.unwrap-node.ensures)
 
 pub home-requires : goal.home-requires
@@ -33,7 +34,7 @@ returns-in-Some-clause-evicted g c = on_ok_then _ _ c.send_home.result (left_as 
 
 -- after a failure everything is as it was
 send_home_failed : (g : Over) (c : After-send_home g)
-    → OnErr c.send_home.result (world (g.M.Mapper.held c.send_home.new.mapper) (g.M.Mapper.page_bytes c.send_home.new.mapper) c.send_home.new.caches c.send_home.new.self ≡ world (g.M.Mapper.held c.args.mapper.now) (g.M.Mapper.page_bytes c.args.mapper.now) c.args.caches.now c.args.self.now)
+    → OnErr c.send_home.result (world_at g.M.Mapper c.send_home.new.mapper c.send_home.new.caches c.send_home.new.self ≡ world_at g.M.Mapper c.args.mapper.now c.args.caches.now c.args.self.now)
 send_home_failed g c =
     let e = c.send_home.ensures in
     unchanged c.send_home.result _ _ _ _ _ _ c.args.self.now c.send_home.new.self e.failed e.failed_caches e.failed_held e.page_bytes
@@ -62,7 +63,7 @@ returns-in-None-clause-evicted g c = on_ok_then _ _ c.send_to_slot.result (left_
 
 -- after a failure everything is as it was
 send_to_slot_failed : (g : Over) (c : After-send_to_slot g)
-    → OnErr c.send_to_slot.result (world (g.M.Mapper.held c.send_to_slot.new.mapper) (g.M.Mapper.page_bytes c.send_to_slot.new.mapper) c.send_to_slot.new.caches c.send_to_slot.new.self ≡ world (g.M.Mapper.held c.args.mapper.now) (g.M.Mapper.page_bytes c.args.mapper.now) c.args.caches.now c.args.self.now)
+    → OnErr c.send_to_slot.result (world_at g.M.Mapper c.send_to_slot.new.mapper c.send_to_slot.new.caches c.send_to_slot.new.self ≡ world_at g.M.Mapper c.args.mapper.now c.args.caches.now c.args.self.now)
 send_to_slot_failed g c =
     let e = c.send_to_slot.ensures in
     unchanged c.send_to_slot.result _ _ _ _ _ _ c.args.self.now c.send_to_slot.new.self e.failed e.failed_caches e.failed_held e.page_bytes

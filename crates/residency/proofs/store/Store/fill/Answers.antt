@@ -2,8 +2,9 @@ use Rattle.std.proofs.Common.{List, ℕ, length, sym, ap, subst, ◌∙◌, Ok, 
 use Rattle.frame_pool.specs.Pool.{Frames}
 use Rattle.local_cache.specs.declared.own_state.OwnState.TheVariants.{Zero}
 use Rattle.local_cache.specs.Own.{own_of}
+use Rattle.residency.specs.Between.{world_at}
 use Rattle.residency.specs.Filling.{Fills}
-use Rattle.residency.specs.World.{World, world}
+use Rattle.residency.specs.World.{World}
 use Rattle.residency.specs.declared.store.Store.{Store}
 use Rattle.residency.proofs.Worlds.Homes.{world_is}
 use Rattle.residency.proofs.Moves.GivenUp.{zero_left}
@@ -13,7 +14,7 @@ use Rattle.residency.proofs.store.Store.fill.Goals as goal
 
 pub returns-in_default-clause-fills : goal.returns-in_default-clause-fills
 returns-in_default-clause-fills g c =
-    let w : World = world (g.M.Mapper.held c.args.mapper.now) (g.M.Mapper.page_bytes c.args.mapper.now) c.args.caches.now c.args.self.now in
+    let w : World = world_at g.M.Mapper c.args.mapper.now c.args.caches.now c.args.self.now in
     let zero : own_of c.args.caches.now c.args.node ≡ Zero = zero_left (own_of c.args.caches.now c.args.node) c.requires.node.own_page c.requires.node.away (λ e. c.in_default.not-OnSegment (c.own_state.ensures ∙ e)) (λ s e. c.in_default.not-Slot s (c.own_state.ensures ∙ e)) in
     let page : List ℕ = replicate c.args.self.now.frames.page 0 in
     let counts = g.M.Mapper.counts c.args.mapper.now in

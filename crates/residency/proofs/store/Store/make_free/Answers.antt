@@ -1,8 +1,9 @@
 use Rattle.std.proofs.Common.{ℕ, arith, ◌≡◌, ◌+◌, ap, refl, sym, subst}
 use Rattle.frame_pool.specs.Pool.{Frames, held_count}
+use Rattle.residency.specs.Between.{world_at}
 use Rattle.residency.specs.Causes.{pushes_for}
 use Rattle.residency.specs.Freeing.{MakesFree}
-use Rattle.residency.specs.World.{World, world}
+use Rattle.residency.specs.World.{World}
 use Rattle.residency.proofs.Worlds.Arms.{on_ok}
 use Rattle.residency.proofs.Moves.Claimed.{pushes_when_full}
 use Rattle.residency.proofs.Translations.Lost.{tables_same}
@@ -10,8 +11,8 @@ use Rattle.residency.proofs.store.Store.make_free.Goals as goal
 
 pub returns-in-None-clause-free : goal.returns-in-None-clause-free
 returns-in-None-clause-free g c =
-    let before : Frames → World = λ p. world (g.M.Mapper.held c.args.mapper.now) (g.M.Mapper.page_bytes c.args.mapper.now) c.args.caches.now (record c.args.self.now { frames = p }) in
-    let after : World = world (g.M.Mapper.held c.make_room.new.mapper) (g.M.Mapper.page_bytes c.make_room.new.mapper) c.make_room.new.caches c.make_room.new.self in
+    let before : Frames → World = λ p. world_at g.M.Mapper c.args.mapper.now c.args.caches.now (record c.args.self.now { frames = p }) in
+    let after : World = world_at g.M.Mapper c.make_room.new.mapper c.make_room.new.caches c.make_room.new.self in
     let free = λ (k : ℕ) (p : Frames). MakesFree c.make_room.result k (before p) after (g.M.Mapper.counts c.args.mapper.now) (g.M.Mapper.counts c.make_room.new.mapper) in
     subst (λ (k : ℕ). free k c.args.self.now.frames) (sym (pushes_when_full c.args.self.now.frames.held c.in-None.ensures.1))
     (subst (free 1) c.in-None.ensures.0 c.make_room.ensures.free)

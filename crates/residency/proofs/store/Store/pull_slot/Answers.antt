@@ -2,9 +2,10 @@ use Rattle.std.proofs.Common.{sym, ap, subst, ◌∙◌, ◌≡◌, ℕ, List, B
 use Rattle.frame_pool.specs.Lending.{refill}
 use Rattle.frame_pool.specs.Pool.{bytes_of}
 use Rattle.local_cache.specs.declared.own_state.OwnState.TheVariants.{Slot}
+use Rattle.residency.specs.Between.{world_at}
 use Rattle.residency.specs.declared.miss.Miss.TheVariants.{Pull}
 use Rattle.residency.specs.Filling.{Fills}
-use Rattle.residency.specs.World.{World, world}
+use Rattle.residency.specs.World.{World}
 use Rattle.residency.specs.declared.store.Store.{Store}
 use Rattle.residency.proofs.Worlds.Homes.{slot_is_held, world_is}
 use Rattle.residency.proofs.Moves.GivenUp.{given_is, given_up, refill_same}
@@ -14,17 +15,17 @@ use Rattle.residency.proofs.store.Store.pull_slot.Goals as goal
 
 pub swap_in-requires-clause-there : goal.swap_in-requires-clause-there
 swap_in-requires-clause-there g c =
-    let w : World = world (g.M.Mapper.held c.args.mapper.now) (g.M.Mapper.page_bytes c.args.mapper.now) c.args.caches.now c.args.self.now in
+    let w : World = world_at g.M.Mapper c.args.mapper.now c.args.caches.now c.args.self.now in
     c.requires.right.tied.backed.there c.args.slot.0 (slot_is_held w c.args.node c.args.slot c.requires.right c.requires.node c.requires.slot)
 
 pub give_back-requires : goal.give_back-requires
 give_back-requires g c =
-    let w : World = world (g.M.Mapper.held c.args.mapper.now) (g.M.Mapper.page_bytes c.args.mapper.now) c.args.caches.now c.args.self.now in
+    let w : World = world_at g.M.Mapper c.args.mapper.now c.args.caches.now c.args.self.now in
     slot_is_held w c.args.node c.args.slot c.requires.right c.requires.node c.requires.slot
 
 pub returns-in-Ok-clause-fills : goal.returns-in-Ok-clause-fills
 returns-in-Ok-clause-fills g c =
-    let w : World = world (g.M.Mapper.held c.args.mapper.now) (g.M.Mapper.page_bytes c.args.mapper.now) c.args.caches.now c.args.self.now in
+    let w : World = world_at g.M.Mapper c.args.mapper.now c.args.caches.now c.args.self.now in
     let bytes : List ℕ = c.swap_in.new.into in
     let full : refill (bytes_of c.args.self.now.frames c.args.frame.0) bytes ≡ bytes = refill_same (bytes_of c.args.self.now.frames c.args.frame.0) bytes (c.swap_in.auto.into ∙ ap (λ (b : List ℕ). length b) c.bytes_mut.ensures.bytes) in
     let slots : List Bool = set c.args.self.now.slots c.args.slot.0 false in
@@ -46,7 +47,7 @@ returns-in-Ok-clause-fills g c =
 
 pub returns-in-Err-clause-fills : goal.returns-in-Err-clause-fills
 returns-in-Err-clause-fills g c =
-    let w : World = world (g.M.Mapper.held c.args.mapper.now) (g.M.Mapper.page_bytes c.args.mapper.now) c.args.caches.now c.args.self.now in
+    let w : World = world_at g.M.Mapper c.args.mapper.now c.args.caches.now c.args.self.now in
     let bytes : List ℕ = refill (bytes_of c.args.self.now.frames c.args.frame.0) c.swap_in.new.into in
     let before = g.M.Mapper.counts c.args.mapper.now in
     let now = g.M.Mapper.counts c.swap_in.new.self in
