@@ -55,10 +55,7 @@ impl FlatMm {
         ensures length { IfOk result (λ piece. length piece ≡ bytes) }
     {
         let _ = mapper;
-        let at = match self.locate(actor, address, bytes) {
-            Ok(at) => at,
-            Err(refusal) => return Err(Trouble::Refused(refusal)),
-        };
+        let at = self.locate(actor, address, bytes)?;
         let page = self.store.bytes(at.cache, at.page);
         Ok(part(page, at.at as usize, bytes))
     }
@@ -78,10 +75,7 @@ impl FlatMm {
             (Command.Store actor address piece.now) (done_by result) mapper.new self.new }
     {
         let bytes = piece.as_slice();
-        let at = match self.locate(actor, address, bytes.len() as u8) {
-            Ok(at) => at,
-            Err(refusal) => return Err(Trouble::Refused(refusal)),
-        };
+        let at = self.locate(actor, address, bytes.len() as u8)?;
         if !at.prot.write {
             return Err(Trouble::Refused(Refusal::Protection));
         }

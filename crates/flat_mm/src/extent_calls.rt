@@ -38,10 +38,7 @@ impl FlatMm {
         ensures unlocked { OnOk result (is_any_locked (machine_in self.now) extent.now.cache
             extent.now.first.0 extent.now.pages ≡ false) }
     {
-        let seg = match self.check_extent(extent) {
-            Ok(seg) => seg,
-            Err(refusal) => return Err(refusal),
-        };
+        let seg = self.check_extent(extent)?;
         if self.is_any_locked(extent.cache, extent.first, extent.pages) {
             return Err(Refusal::Locked);
         }
@@ -57,10 +54,7 @@ impl FlatMm {
         ensures { MapperCall M.Mapper flat mapper.old self.old
             (Command.Sync extent) (done_by result) mapper.new self.new }
     {
-        let seg = match self.check_extent(&extent) {
-            Ok(seg) => seg,
-            Err(refusal) => return Err(Trouble::Refused(refusal)),
-        };
+        let seg = self.check_extent(&extent)?;
         match self.push_pages(&extent, seg, mapper) {
             Ok(()) => Ok(()),
             Err(page) => Err(Trouble::Mapper(FaultAt::Page(page))),
@@ -76,10 +70,7 @@ impl FlatMm {
         ensures { MapperCall M.Mapper flat mapper.old self.old
             (Command.Flush extent) (done_by result) mapper.new self.new }
     {
-        let seg = match self.check_unlocked(&extent) {
-            Ok(seg) => seg,
-            Err(refusal) => return Err(Trouble::Refused(refusal)),
-        };
+        let seg = self.check_unlocked(&extent)?;
         match self.push_pages(&extent, seg, mapper) {
             Ok(()) => Ok(()),
             Err(page) => Err(Trouble::Mapper(FaultAt::Page(page))),
@@ -96,10 +87,7 @@ impl FlatMm {
         ensures { MapperCall M.Mapper flat mapper.old self.old
             (Command.Invalidate extent) (done_by result) mapper.new self.new }
     {
-        let seg = match self.check_unlocked(&extent) {
-            Ok(seg) => seg,
-            Err(refusal) => return Err(Trouble::Refused(refusal)),
-        };
+        let seg = self.check_unlocked(&extent)?;
         if self.lacks_room(extent.pages) {
             return Err(Trouble::Refused(Refusal::Full));
         }

@@ -29,10 +29,7 @@ pub(crate) fn pull_loose<M: Mapper>(
 {
     for i in 0..store.loose() {
         let page = PageNo(first.0 + i);
-        match store.pull(i as usize, seg, page, mapper) {
-            Ok(()) => {}
-            Err(failed) => return Err(failed),
-        }
+        store.pull(i as usize, seg, page, mapper)?;
     }
     Ok(())
 }

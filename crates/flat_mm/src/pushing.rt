@@ -38,13 +38,9 @@ impl FlatMm {
         if !self.store.is_changed(cache, page) {
             return Ok(());
         }
-        match mapper.push_out(seg, page, self.store.bytes(cache, page)) {
-            Ok(()) => {
-                self.store.settle(cache, page);
-                Ok(())
-            }
-            Err(failed) => Err(failed),
-        }
+        mapper.push_out(seg, page, self.store.bytes(cache, page))?;
+        self.store.settle(cache, page);
+        Ok(())
     }
 
     /// Pushes those of these pages that were changed, in rising order. The error is the page at

@@ -15,13 +15,9 @@ impl FlatMm {
     pub fn make_actor(&mut self) -> Result<ActorId, Trouble>
         ensures { CallDone flat self.old Command.MakeActor (answer_by Reply.Actor result) self.new }
     {
-        match self.contexts.make() {
-            Ok(actor) => {
-                self.actors = actor.0;
-                Ok(actor)
-            }
-            Err(trouble) => Err(trouble),
-        }
+        let actor = self.contexts.make()?;
+        self.actors = actor.0;
+        Ok(actor)
     }
 
     /// Ends an actor, and takes its regions away. Refused as `NoActor` exactly where it isn't

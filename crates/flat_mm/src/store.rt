@@ -394,10 +394,8 @@ impl PageStore {
         ensures err { OnErr result (self.new ≡ self.old) }
         ensures whole { OnOk result (AreWhole self.new) }
     {
-        match self.take_loose(pages) {
-            Ok(()) => self.adopt(None),
-            Err(NoMemory) => Err(NoMemory),
-        }
+        self.take_loose(pages)?;
+        self.adopt(None)
     }
 
     /// Takes a live cache away; its pages are loose then.

@@ -1,4 +1,5 @@
 use Rattle.std.proofs.Common.{◌≡◌, ◌+◌, ◌∙◌, ◌<◌, ◌≤◌, [], Err, Ok, ap, arith, false, length, subst, sym}
+use Rattle.std.proofs.result.Match.{err_is}
 use Rattle.std.proofs.lemmas.List.{length-replicate}
 use Rattle.std.specs.Prelude.{Result}
 use Rattle.vm_port.specs.declared.traits.failed.Failed.{Failed}
@@ -19,51 +20,52 @@ use Rattle.flat_mm.proofs.Filling.{IsReloosed, filled, given_up}
 use Rattle.flat_mm.proofs.Invalidating.{exchanged, invalidate_call, invalidate_failed, invalidate_full, invalidate_lacks, invalidate_sound, part_of}
 use Rattle.flat_mm.proofs.Putting.{puts}
 use Rattle.flat_mm.proofs.manager.FlatMm.invalidate.Given.{Over}
-use Rattle.flat_mm.proofs.manager.FlatMm.invalidate.Goals.{In-Err-pull_loose, In-Ok, In-Ok-pull_loose, In-Ok-take_loose}
+use Rattle.flat_mm.proofs.manager.FlatMm.invalidate.Goals.{In-Err-pull_loose, In-Ok, In-Ok-pull_loose, In_ok-seg}
 use Rattle.flat_mm.proofs.manager.FlatMm.invalidate.Goals as goal
 
 -- what was found of the pages, of the manager as it was
-record IsFound (g : Over) (c : In-Ok g) : Type 0 where
-  extent : IsExtent c.self.inside.store c.args.extent c.in-Ok.seg
+record IsFound (g : Over) (c : In_ok-seg g) : Type 0 where
+  extent : IsExtent c.self.inside.store c.args.extent c.in_ok-seg.seg
   unlocked : is_any_locked (machine_in (record { store = c.self.inside.store; actors = c.self.inside.contexts })) c.args.extent.cache c.args.extent.first.0 c.args.extent.pages ≡ false
   valid : IsValid (record { store = c.self.inside.store; actors = c.self.inside.contexts }) (g.M.Mapper.held c.args.mapper.now)
 
-found : (g : Over) (c : In-Ok g) → IsFound g c
+found : (g : Over) (c : In_ok-seg g) → IsFound g c
 found g c = record {
-  extent = subst (λ (p : Manager). IsExtent p.store c.args.extent c.in-Ok.seg) (sym c.self.view_is) c.in-Ok.ensures.extent;
-  unlocked = subst (λ (p : Manager). is_any_locked (machine_in p) c.args.extent.cache c.args.extent.first.0 c.args.extent.pages ≡ false) (sym c.self.view_is) c.in-Ok.ensures.unlocked;
+  extent = subst (λ (p : Manager). IsExtent p.store c.args.extent c.in_ok-seg.seg) (sym c.self.view_is) c.in_ok-seg.ensures.extent;
+  unlocked = subst (λ (p : Manager). is_any_locked (machine_in p) c.args.extent.cache c.args.extent.first.0 c.args.extent.pages ≡ false) (sym c.self.view_is) c.in_ok-seg.ensures.unlocked;
   valid = subst (λ (p : Manager). IsValid p (g.M.Mapper.held c.args.mapper.now)) (sym c.self.view_is) c.requires.valid;
 }
 
-pub returns-in-Err : goal.returns-in-Err
-returns-in-Err g c =
+pub returns-in_err-seg : goal.returns-in_err-seg
+returns-in_err-seg g c =
     let p = c.args.self.now in
-    refused_call g.M.Mapper c.args.mapper.now p (commands.Invalidate c.args.extent) c.in-Err.refusal c.requires.valid (λ h. c.in-Err.ensures.refused.invalidate (held_for (machine_in p) h c.args.extent.cache.0)) tt tt
+    rw (err_is c.from_residual.result _ c.from_residual.ensures.1)
+    (refused_call g.M.Mapper c.args.mapper.now p (commands.Invalidate c.args.extent) c.in_err-seg.field-0.0 c.requires.valid (λ h. c.in_err-seg.ensures.refused.invalidate (held_for (machine_in p) h c.args.extent.cache.0)) tt tt)
 
 pub returns-then-lacks_room : goal.returns-then-lacks_room
 returns-then-lacks_room g c =
     let less : room_of c.args.self.now < c.args.extent.pages = (let e = c.if-lacks_room.ensures.room in grind (arith, nat_tests)) in
-    invalidate_full g.M.Mapper c.args.mapper.now c.args.mapper.now c.args.self.now c.args.extent c.in-Ok.seg c.in-Ok.ensures.extent c.in-Ok.ensures.unlocked c.requires.valid less
+    invalidate_full g.M.Mapper c.args.mapper.now c.args.mapper.now c.args.self.now c.args.extent c.in_ok-seg.seg c.in_ok-seg.ensures.extent c.in_ok-seg.ensures.unlocked c.requires.valid less
 
-pub returns-in-Err-take_loose : goal.returns-in-Err-take_loose
-returns-in-Err-take_loose g c =
+pub returns-in-Err : goal.returns-in-Err
+returns-in-Err g c =
     let i = c.self.inside in
     let p = c.args.self.now in
     let e = c.args.extent in
-    let same : (let q : Manager = record { store = c.take_loose.new.self; actors = i.contexts } in q) ≡ p = ap (λ (s : Store). let q : Manager = record { store = s; actors = i.contexts } in q) c.in-Err-take_loose.ensures.err ∙ c.self.view_is in
+    let same : (let q : Manager = record { store = c.take_loose.new.self; actors = i.contexts } in q) ≡ p = ap (λ (s : Store). let q : Manager = record { store = s; actors = i.contexts } in q) c.in-Err.ensures.err ∙ c.self.view_is in
     subst (λ (q : Manager). MapperCall g.M.Mapper flat c.args.mapper.now p (commands.Invalidate e) (Err troubles.Memory) c.args.mapper.now q) (sym same)
-    (invalidate_lacks g.M.Mapper c.args.mapper.now c.args.mapper.now p e c.in-Ok.seg c.in-Ok.ensures.extent c.in-Ok.ensures.unlocked c.requires.valid)
+    (invalidate_lacks g.M.Mapper c.args.mapper.now c.args.mapper.now p e c.in_ok-seg.seg c.in_ok-seg.ensures.extent c.in_ok-seg.ensures.unlocked c.requires.valid)
 
 -- as many frames were taken as pages are asked for
-taken_many : (g : Over) (c : In-Ok-take_loose g) → length c.take_loose.new.self.loose ≡ c.args.extent.pages
-taken_many g c = ap (λ (s : Store). length s.loose) c.in-Ok-take_loose.ensures.ok ∙ length-replicate c.args.extent.pages (zeros c.self.inside.store.page_bytes)
+taken_many : (g : Over) (c : In-Ok g) → length c.take_loose.new.self.loose ≡ c.args.extent.pages
+taken_many g c = ap (λ (s : Store). length s.loose) c.in-Ok.ensures.ok ∙ length-replicate c.args.extent.pages (zeros c.self.inside.store.page_bytes)
 
-room : (g : Over) (c : In-Ok-take_loose g) → c.args.extent.pages ≤ c.self.inside.store.free
+room : (g : Over) (c : In-Ok g) → c.args.extent.pages ≤ c.self.inside.store.free
 room g c =
     let less : c.args.extent.pages ≤ c.args.self.now.store.free = (let e = c.if-lacks_room.ensures.free in grind (arith, nat_tests)) in
     omega (arith, less, ap (λ (p : Manager). p.store.free) c.self.view_is)
 
-enough : (g : Over) (c : In-Ok-take_loose g) → c.args.extent.pages ≤ room_of (record { store = c.self.inside.store; actors = c.self.inside.contexts })
+enough : (g : Over) (c : In-Ok g) → c.args.extent.pages ≤ room_of (record { store = c.self.inside.store; actors = c.self.inside.contexts })
 enough g c =
     let less : c.args.extent.pages ≤ room_of c.args.self.now = (let e = c.if-lacks_room.ensures.room in grind (arith, nat_tests)) in
     omega (arith, less, ap room_of c.self.view_is)
@@ -72,9 +74,9 @@ pub pull_loose-requires-clause-there : goal.pull_loose-requires-clause-there
 pull_loose-requires-clause-there g c =
     let p = c.args.self.now in
     let e = c.args.extent in
-    let E = c.in-Ok.ensures.extent in
-    let many = taken_many g (goal.at.pull_loose-requires-clause-there g c).In-Ok-take_loose in
-    asked_pages (machine_in p) e.cache.0 c.in-Ok.seg.0 e.first.0 (length c.take_loose.new.self.loose) (g.M.Mapper.held c.args.mapper.now) (extent_named p e c.in-Ok.seg E) (omega (arith, extent_within p e c.in-Ok.seg E, many)) c.requires.valid.ready
+    let E = c.in_ok-seg.ensures.extent in
+    let many = taken_many g (goal.at.pull_loose-requires-clause-there g c).In-Ok in
+    asked_pages (machine_in p) e.cache.0 c.in_ok-seg.seg.0 e.first.0 (length c.take_loose.new.self.loose) (g.M.Mapper.held c.args.mapper.now) (extent_named p e c.in_ok-seg.seg E) (omega (arith, extent_within p e c.in_ok-seg.seg E, many)) c.requires.valid.ready
 
 module _ (g : Over) where
   -- what stands after the pages were exchanged and given up
@@ -85,44 +87,44 @@ module _ (g : Over) where
   taken_all c exchanged_to dropped_to is drops =
       let i = c.self.inside in
       let e = c.args.extent in
-      let F = found g (goal.at.In-Ok-pull_loose g c).In-Ok in
-      let taken = (goal.at.In-Ok-pull_loose g c).In-Ok-take_loose in
+      let F = found g (goal.at.In-Ok-pull_loose g c).In_ok-seg in
+      let taken = (goal.at.In-Ok-pull_loose g c).In-Ok in
       let E = c.in-Ok-pull_loose.ensures in
       let R : IsReloosed c.take_loose.new.self c.pull_loose.new.store = record { many = E.many; loose = E.loose; whole = E.whole } in
       exchanged i.store c.pull_loose.new.store exchanged_to dropped_to e.cache.0 e.first.0 e.pages F.extent.cache F.extent.alive F.extent.within (room g taken) c.self.invariant.settled (E.many ∙ taken_many g taken)
-      (filled i.store c.take_loose.new.self c.pull_loose.new.store e.pages (room g taken) c.self.invariant.settled c.in-Ok-take_loose.ensures.ok R) is drops
+      (filled i.store c.take_loose.new.self c.pull_loose.new.store e.pages (room g taken) c.self.invariant.settled c.in-Ok.ensures.ok R) is drops
 
 pub invariant_of-self-in-Ok-pull_loose : goal.invariant_of-self-in-Ok-pull_loose
 invariant_of-self-in-Ok-pull_loose g c =
     let i = c.self.inside in
     let at = goal.at.invariant_of-self-in-Ok-pull_loose g c in
-    let F = found g at.In-Ok in
+    let F = found g at.In_ok-seg in
     let E = c.in-Ok-pull_loose.ensures in
     let is = taken_all g at.In-Ok-pull_loose c.exchange.new.self c.drop_loose.new.self c.exchange.ensures.exchanged c.drop_loose.ensures in
-    invalidate_sound g.M.Mapper c.args.mapper.now c.pull_loose.new.mapper (record { store = i.store; actors = i.contexts }) c.args.extent c.in-Ok.seg F.extent F.unlocked F.valid (let r : Result (Unit {0}) Failed = Ok tt in r) E.held E.reached E.page
-    i.actors c.self.invariant (enough g at.In-Ok-take_loose) c.pull_loose.new.store.loose (E.many ∙ taken_many g at.In-Ok-take_loose) E.pulled c.drop_loose.new.self is
+    invalidate_sound g.M.Mapper c.args.mapper.now c.pull_loose.new.mapper (record { store = i.store; actors = i.contexts }) c.args.extent c.in_ok-seg.seg F.extent F.unlocked F.valid (let r : Result (Unit {0}) Failed = Ok tt in r) E.held E.reached E.page
+    i.actors c.self.invariant (enough g at.In-Ok) c.pull_loose.new.store.loose (E.many ∙ taken_many g at.In-Ok) E.pulled c.drop_loose.new.self is
     (dropped_whole c.exchange.new.self c.drop_loose.new.self c.exchange.ensures.whole c.drop_loose.ensures)
 
 pub returns-in-Ok-pull_loose : goal.returns-in-Ok-pull_loose
 returns-in-Ok-pull_loose g c =
     let i = c.self.inside in
     let at = goal.at.returns-in-Ok-pull_loose g c in
-    let F = found g at.In-Ok in
+    let F = found g at.In_ok-seg in
     let E = c.in-Ok-pull_loose.ensures in
     let is = taken_all g at.In-Ok-pull_loose c.exchange.new.self c.drop_loose.new.self c.exchange.ensures.exchanged c.drop_loose.ensures in
     subst (λ (p : Manager). MapperCall g.M.Mapper flat c.args.mapper.now p (commands.Invalidate c.args.extent) (Ok replies.Done) c.pull_loose.new.mapper (record { store = c.drop_loose.new.self; actors = i.contexts })) c.self.view_is
-    (invalidate_call g.M.Mapper c.args.mapper.now c.pull_loose.new.mapper (record { store = i.store; actors = i.contexts }) c.args.extent c.in-Ok.seg F.extent F.unlocked F.valid (let r : Result (Unit {0}) Failed = Ok tt in r) E.held E.reached E.page
-    i.actors c.self.invariant (enough g at.In-Ok-take_loose) c.pull_loose.new.store.loose (E.many ∙ taken_many g at.In-Ok-take_loose) E.pulled c.drop_loose.new.self is
+    (invalidate_call g.M.Mapper c.args.mapper.now c.pull_loose.new.mapper (record { store = i.store; actors = i.contexts }) c.args.extent c.in_ok-seg.seg F.extent F.unlocked F.valid (let r : Result (Unit {0}) Failed = Ok tt in r) E.held E.reached E.page
+    i.actors c.self.invariant (enough g at.In-Ok) c.pull_loose.new.store.loose (E.many ∙ taken_many g at.In-Ok) E.pulled c.drop_loose.new.self is
     (dropped_whole c.exchange.new.self c.drop_loose.new.self c.exchange.ensures.whole c.drop_loose.ensures))
 
 -- where the mapper failed all is as before
 failed_back : (g : Over) (c : In-Err-pull_loose g) (dropped_to : Store) → dropped_to ≡ record c.pull_loose.new.store { free = c.pull_loose.new.store.free + length c.pull_loose.new.store.loose; loose = [] } → dropped_to ≡ c.self.inside.store
 failed_back g c dropped_to drops =
     let i = c.self.inside in
-    let taken = (goal.at.In-Err-pull_loose g c).In-Ok-take_loose in
+    let taken = (goal.at.In-Err-pull_loose g c).In-Ok in
     let E = c.in-Err-pull_loose.ensures in
     let R : IsReloosed c.take_loose.new.self c.pull_loose.new.store = record { many = E.many; loose = E.loose; whole = E.whole } in
-    given_up i.store c.take_loose.new.self c.pull_loose.new.store c.args.extent.pages (room g taken) c.self.invariant.settled c.in-Ok-take_loose.ensures.ok R dropped_to drops
+    given_up i.store c.take_loose.new.self c.pull_loose.new.store c.args.extent.pages (room g taken) c.self.invariant.settled c.in-Ok.ensures.ok R dropped_to drops
 
 pub invariant_of-self-in-Err-pull_loose : goal.invariant_of-self-in-Err-pull_loose
 invariant_of-self-in-Err-pull_loose g c =
@@ -141,4 +143,4 @@ returns-in-Err-pull_loose g c =
     let same : (let q : Manager = record { store = c.drop_loose-in-Err-pull_loose.new.self; actors = i.contexts } in q) ≡ p = ap (λ (s : Store). let q : Manager = record { store = s; actors = i.contexts } in q) back ∙ c.self.view_is in
     let r : Result (Unit {0}) Failed = Err c.in-Err-pull_loose.field-0 in
     subst (λ (q : Manager). MapperCall g.M.Mapper flat c.args.mapper.now p (commands.Invalidate e) (Err (troubles.Mapper (faults.Save 0))) c.pull_loose.new.mapper q) (sym same)
-    (invalidate_failed g.M.Mapper c.args.mapper.now c.pull_loose.new.mapper p e c.in-Ok.seg c.in-Ok.ensures.extent c.in-Ok.ensures.unlocked c.requires.valid r E.held E.reached E.page E.reached.failed)
+    (invalidate_failed g.M.Mapper c.args.mapper.now c.pull_loose.new.mapper p e c.in_ok-seg.seg c.in_ok-seg.ensures.extent c.in_ok-seg.ensures.unlocked c.requires.valid r E.held E.reached E.page E.reached.failed)

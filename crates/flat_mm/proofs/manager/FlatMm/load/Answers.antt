@@ -1,4 +1,5 @@
 use Rattle.std.proofs.Common.{◌≡◌, List, ℕ, Some, Ok, Err, ap, arith, drop, refl, subst, sym, take, ◌∙◌}
+use Rattle.std.proofs.result.Match.{err_is}
 use Rattle.std.specs.Prelude.{IsSome, option_map}
 use Rattle.vm_ids.specs.declared.command.Command.TheVariants as commands
 use Rattle.vm_ids.specs.declared.reply.Reply.TheVariants as replies
@@ -15,26 +16,27 @@ use Rattle.flat_mm.proofs.Calls.{flat_access}
 use Rattle.flat_mm.proofs.manager.FlatMm.load.Goals as goal
 
 pub bytes-page-requires : goal.bytes-page-requires
-bytes-page-requires g c = subst (λ (p : Manager). IsSome (store.page_at p.store.caches c.in-Ok.at.cache.0 c.in-Ok.at.page.0)) (sym c.self.view_is) c.in-Ok.ensures.found.there
+bytes-page-requires g c = subst (λ (p : Manager). IsSome (store.page_at p.store.caches c.in_ok-at.at.cache.0 c.in_ok-at.at.page.0)) (sym c.self.view_is) c.in_ok-at.ensures.found.there
 
 pub part-requires-clause-within : goal.part-requires-clause-within
-part-requires-clause-within g c = omega (arith, c.in-Ok.ensures.found.within, ap (λ (p : Manager). p.store.page_bytes) c.self.view_is, c.bytes-page.ensures.length)
+part-requires-clause-within g c = omega (arith, c.in_ok-at.ensures.found.within, ap (λ (p : Manager). p.store.page_bytes) c.self.view_is, c.bytes-page.ensures.length)
 
-pub returns-in-Err-clause-call : goal.returns-in-Err-clause-call
-returns-in-Err-clause-call g c =
+pub returns-in_err-at-clause-call : goal.returns-in_err-at-clause-call
+returns-in_err-at-clause-call g c =
     let p = c.args.self.now in
     let m = machine_in p in
     let command = commands.Load c.args.actor c.args.address c.args.bytes in
-    let answer = Err (troubles.Refused c.in-Err.refusal) in
-    flat_access g.M.Mapper c.args.mapper.now c.args.mapper.now p p command answer (fits_less p p command answer (λ m next. refl) (omega arith)) c.requires.valid.kept
-    (eager_quiet g.M.Mapper c.args.mapper.now m m command answer tt c.requires.valid.ready c.requires.valid.ready.whole (λ h. load_refused m c.args.actor.0 c.args.address c.args.bytes c.in-Err.refusal c.in-Err.ensures.refused) tt)
+    let answer = Err (troubles.Refused c.in_err-at.field-0.0) in
+    rw (err_is c.from_residual.result _ c.from_residual.ensures.1)
+    (flat_access g.M.Mapper c.args.mapper.now c.args.mapper.now p p command answer (fits_less p p command answer (λ m next. refl) (omega arith)) c.requires.valid.kept
+    (eager_quiet g.M.Mapper c.args.mapper.now m m command answer tt c.requires.valid.ready c.requires.valid.ready.whole (λ h. load_refused m c.args.actor.0 c.args.address c.args.bytes c.in_err-at.field-0.0 c.in_err-at.ensures.refused) tt))
 
 pub returns-clause-call : goal.returns-clause-call
 returns-clause-call g c =
     let p = c.args.self.now in
     let m = machine_in p in
-    let at = c.in-Ok.at in
-    let F = c.in-Ok.ensures.found in
+    let at = c.in_ok-at.at in
+    let F = c.in_ok-at.ensures.found in
     let command = commands.Load c.args.actor c.args.address c.args.bytes in
     let P = page_there p.store.caches at.cache.0 at.page.0 F.there in
     let bytes : Some P.0.bytes ≡ Some c.bytes-page.result.now =

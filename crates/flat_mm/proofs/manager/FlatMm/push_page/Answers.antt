@@ -1,4 +1,5 @@
 use Rattle.std.proofs.Common.{◌≡◌, ◌+◌, Some, false, true, sym, ap, subst, ◌∙◌}
+use Rattle.std.proofs.result.Match.{err_is}
 use Rattle.std.specs.Prelude.{Err, Ok, option_map}
 use Rattle.vm_ids.specs.Held.{segments_of, with_page}
 use Rattle.vm_model.specs.Machine.{segment_of}
@@ -49,8 +50,8 @@ invariant_of-self g c =
     let P = page_of old c.args.self.now c.self.view_is n k c.requires.within in
     sound_put i.store i.contexts i.actors c.self.invariant n k P.0 (record { bytes = P.0.bytes; changed = false }) P.1 c.settle.new.self (c.settle.ensures.settled P.0 (page_is i.store n k P.0 P.1)) c.settle.ensures.whole
 
-pub returns-in-Ok-clause-pushed : goal.returns-in-Ok-clause-pushed
-returns-in-Ok-clause-pushed g c =
+pub returns : goal.returns
+returns g c =
     let i = c.self.inside in
     let n = c.args.cache.0 in
     let k = c.args.page.0 in
@@ -61,13 +62,34 @@ returns-in-Ok-clause-pushed g c =
     let valid = subst (λ (p : Manager). IsValid p told) (sym c.self.view_is) c.requires.valid in
     let changed = read_is (λ (p : Page). p.changed) i.store n k P.0 P.1 true c.if-not-is_changed.ensures in
     let bytes = read_is (λ (p : Page). p.bytes) i.store n k P.0 P.1 c.bytes.result.now c.bytes.ensures.bytes in
-    let E = c.in-Ok.ensures in
-    subst (λ (p : Manager). IsPushed {E = Failed} g.M.Mapper c.args.mapper.now p c.push_out.new.self (record { store = c.settle.new.self; actors = i.contexts }) (Ok tt)) c.self.view_is
-    (push_done g.M.Mapper c.args.mapper.now c.push_out.new.self i.store i.contexts n k P.0 P.1 c.args.seg named valid changed E.page
-    (E.ok ∙ ap (λ w. option_map (with_page c.args.seg.0 k w) told) (sym bytes)) E.counts c.settle.new.self (c.settle.ensures.settled P.0 (page_is i.store n k P.0 P.1)))
+    let E = c.in_ok-push_out.ensures in
+    record {
+      pushed = (subst (λ (p : Manager). IsPushed {E = Failed} g.M.Mapper c.args.mapper.now p c.push_out.new.self (record { store = c.settle.new.self; actors = i.contexts }) (Ok tt)) c.self.view_is
+          (push_done g.M.Mapper c.args.mapper.now c.push_out.new.self i.store i.contexts n k P.0 P.1 c.args.seg named valid changed E.page
+          (E.ok ∙ ap (λ w. option_map (with_page c.args.seg.0 k w) told) (sym bytes)) E.counts c.settle.new.self (c.settle.ensures.settled P.0 (page_is i.store n k P.0 P.1))));
+      there = (subst (λ (p : Manager). ArePushed (machine_in p) (segments_of (g.M.Mapper.held c.push_out.new.self)) n k (k + 1)) c.self.view_is
+          (push_there g.M.Mapper c.args.mapper.now c.push_out.new.self i.store i.contexts n k P.0 P.1 c.args.seg named valid changed E.page
+          (E.ok ∙ ap (λ w. option_map (with_page c.args.seg.0 k w) told) (sym bytes))));
+      kept = (λ first before.
+          let i = c.self.inside in
+          let n = c.args.cache.0 in
+          let k = c.args.page.0 in
+          let told = g.M.Mapper.held c.args.mapper.now in
+          let old : Manager = record { store = i.store; actors = i.contexts } in
+          let P = page_of old c.args.self.now c.self.view_is n k c.requires.within in
+          let named = subst (λ (p : Manager). segment_of (machine_in p) n ≡ Some c.args.seg.0) (sym c.self.view_is) c.requires.named in
+          let valid = subst (λ (p : Manager). IsValid p told) (sym c.self.view_is) c.requires.valid in
+          let changed = read_is (λ (p : Page). p.changed) i.store n k P.0 P.1 true c.if-not-is_changed.ensures in
+          let bytes = read_is (λ (p : Page). p.bytes) i.store n k P.0 P.1 c.bytes.result.now c.bytes.ensures.bytes in
+          let E = c.in_ok-push_out.ensures in
+          subst (λ (p : Manager). ArePushed (machine_in p) (segments_of (g.M.Mapper.held c.push_out.new.self)) n first k) c.self.view_is
+          (push_kept g.M.Mapper c.args.mapper.now c.push_out.new.self i.store i.contexts n k P.0 P.1 c.args.seg named valid changed E.page
+          (E.ok ∙ ap (λ w. option_map (with_page c.args.seg.0 k w) told) (sym bytes)) first
+          (subst (λ (p : Manager). ArePushed (machine_in p) (segments_of told) n first k) (sym c.self.view_is) before)));
+    }
 
-pub returns-in-Ok-clause-there : goal.returns-in-Ok-clause-there
-returns-in-Ok-clause-there g c =
+pub returns-in_err-push_out-clause-pushed : goal.returns-in_err-push_out-clause-pushed
+returns-in_err-push_out-clause-pushed g c =
     let i = c.self.inside in
     let n = c.args.cache.0 in
     let k = c.args.page.0 in
@@ -77,41 +99,7 @@ returns-in-Ok-clause-there g c =
     let named = subst (λ (p : Manager). segment_of (machine_in p) n ≡ Some c.args.seg.0) (sym c.self.view_is) c.requires.named in
     let valid = subst (λ (p : Manager). IsValid p told) (sym c.self.view_is) c.requires.valid in
     let changed = read_is (λ (p : Page). p.changed) i.store n k P.0 P.1 true c.if-not-is_changed.ensures in
-    let bytes = read_is (λ (p : Page). p.bytes) i.store n k P.0 P.1 c.bytes.result.now c.bytes.ensures.bytes in
-    let E = c.in-Ok.ensures in
-    subst (λ (p : Manager). ArePushed (machine_in p) (segments_of (g.M.Mapper.held c.push_out.new.self)) n k (k + 1)) c.self.view_is
-    (push_there g.M.Mapper c.args.mapper.now c.push_out.new.self i.store i.contexts n k P.0 P.1 c.args.seg named valid changed E.page
-    (E.ok ∙ ap (λ w. option_map (with_page c.args.seg.0 k w) told) (sym bytes)))
-
-pub returns-in-Ok-clause-kept : goal.returns-in-Ok-clause-kept
-returns-in-Ok-clause-kept g c = λ first before.
-    let i = c.self.inside in
-    let n = c.args.cache.0 in
-    let k = c.args.page.0 in
-    let told = g.M.Mapper.held c.args.mapper.now in
-    let old : Manager = record { store = i.store; actors = i.contexts } in
-    let P = page_of old c.args.self.now c.self.view_is n k c.requires.within in
-    let named = subst (λ (p : Manager). segment_of (machine_in p) n ≡ Some c.args.seg.0) (sym c.self.view_is) c.requires.named in
-    let valid = subst (λ (p : Manager). IsValid p told) (sym c.self.view_is) c.requires.valid in
-    let changed = read_is (λ (p : Page). p.changed) i.store n k P.0 P.1 true c.if-not-is_changed.ensures in
-    let bytes = read_is (λ (p : Page). p.bytes) i.store n k P.0 P.1 c.bytes.result.now c.bytes.ensures.bytes in
-    let E = c.in-Ok.ensures in
-    subst (λ (p : Manager). ArePushed (machine_in p) (segments_of (g.M.Mapper.held c.push_out.new.self)) n first k) c.self.view_is
-    (push_kept g.M.Mapper c.args.mapper.now c.push_out.new.self i.store i.contexts n k P.0 P.1 c.args.seg named valid changed E.page
-    (E.ok ∙ ap (λ w. option_map (with_page c.args.seg.0 k w) told) (sym bytes)) first
-    (subst (λ (p : Manager). ArePushed (machine_in p) (segments_of told) n first k) (sym c.self.view_is) before))
-
-pub returns-in-Err-clause-pushed : goal.returns-in-Err-clause-pushed
-returns-in-Err-clause-pushed g c =
-    let i = c.self.inside in
-    let n = c.args.cache.0 in
-    let k = c.args.page.0 in
-    let told = g.M.Mapper.held c.args.mapper.now in
-    let old : Manager = record { store = i.store; actors = i.contexts } in
-    let P = page_of old c.args.self.now c.self.view_is n k c.requires.within in
-    let named = subst (λ (p : Manager). segment_of (machine_in p) n ≡ Some c.args.seg.0) (sym c.self.view_is) c.requires.named in
-    let valid = subst (λ (p : Manager). IsValid p told) (sym c.self.view_is) c.requires.valid in
-    let changed = read_is (λ (p : Page). p.changed) i.store n k P.0 P.1 true c.if-not-is_changed.ensures in
-    let E = c.in-Err.ensures in
-    subst (λ (p : Manager). IsPushed {E = Failed} g.M.Mapper c.args.mapper.now p c.push_out.new.self p (Err c.in-Err.failed)) c.self.view_is
-    (push_failed g.M.Mapper c.args.mapper.now c.push_out.new.self i.store i.contexts n k P.0 P.1 c.args.seg named valid changed E.page c.in-Err.failed E.err E.counts)
+    let E = c.in_err-push_out.ensures in
+    rw (err_is c.from_residual.result _ c.from_residual.ensures.1)
+    (subst (λ (p : Manager). IsPushed {E = Failed} g.M.Mapper c.args.mapper.now p c.push_out.new.self p (Err c.in_err-push_out.field-0.0)) c.self.view_is
+    (push_failed g.M.Mapper c.args.mapper.now c.push_out.new.self i.store i.contexts n k P.0 P.1 c.args.seg named valid changed E.page c.in_err-push_out.field-0.0 E.err E.counts))
