@@ -1,5 +1,5 @@
 -- What an actor's end, or a region that is taken away, is by the rows of both machines.
-use Rattle.std.proofs.Common.{◌≡◌, ◌⊎◌, ℕ, ◌-◌, Bool, true, false, cond, List, [], map, Option, Some, None, refl, sym, ap, subst, ◌∙◌, inl, inr}
+use Rattle.std.proofs.Common.{◌≡◌, ◌⊎◌, ℕ, ◌-◌, Bool, true, false, cond, List, map, Option, Some, None, refl, sym, ap, subst, ◌∙◌, inl, inr}
 use Rattle.std.specs.Prelude.{Result, Ok, Err, option_map, slice_set}
 use Rattle.vm_ids.specs.Counting.{MapperCounts}
 use Rattle.vm_ids.specs.Held.{Segments}
@@ -18,11 +18,8 @@ use Rattle.vm_model.specs.Outcome as plain_outcome
 use Rattle.vm_model.specs.Outcome.{IsAlike, MayLackMemory, OutcomeAt, blank}
 use Rattle.vm_model.specs.PageForest.{PageForest, forest_shown}
 use Rattle.vm_model.specs.Regions.{region_with}
-use Rattle.vm_port.specs.declared.traits.mapper.Mapper.{Ghosts as GhostsOfMapper}
-use Rattle.gmi_calls.specs.declared.gmi.Gmi.{Ghosts as GhostsOfGmi}
 use Rattle.seg_manager.specs.Answering.{MayHave, leaving_by, plain_of}
 use Rattle.seg_manager.specs.Keeping.{mapped_in, mapped_under}
-use Rattle.seg_manager.specs.Outcome.{Outcome}
 use Rattle.seg_manager.specs.ReferenceMachine.{ReferenceMachine}
 use Rattle.seg_manager.specs.declared.tables.Leaving.{Leaving}
 use Rattle.seg_manager.specs.declared.tables.Leaving.TheVariants as leavings

@@ -1,13 +1,13 @@
 -- Caches that are linked one after the other.
-use Rattle.std.proofs.Common.{◌≡◌, ◌≢◌, ◌==◌, ◌||◌, ℕ, suc, Bool, true, false, cond, List, [], ◌∷◌, ◌++◌, length, Option, Some, None, refl, sym, ap, subst, ◌∙◌, inl, inr}
-use Rattle.std.specs.Prelude.{filter, not, is_some, option_map, option_and_then}
+use Rattle.std.proofs.Common.{◌≡◌, ◌≢◌, ◌||◌, ℕ, suc, Bool, true, false, cond, List, [], ◌∷◌, ◌++◌, length, Option, Some, None, refl, sym, ap, subst, ◌∙◌, inl, inr}
+use Rattle.std.specs.Prelude.{filter, not, option_map, option_and_then}
 use Rattle.std.specs.List.{AllByRecursion}
 use Rattle.std.specs.Option.{option_map_or}
 use Rattle.std.proofs.lemmas.Bool.{cases_eq, eq-eqb, ne_eqb}
 use Rattle.vm_ids.specs.declared.numbers.CacheId.{CacheId}
 use Rattle.seg_manager.specs.Inner.{is_of}
 use Rattle.seg_manager.specs.Keeps.{AreOnce, is_kept}
-use Rattle.seg_manager.specs.Linked.{Linked, changed_at, end_set, link_of, with_after, with_before}
+use Rattle.seg_manager.specs.Linked.{Linked, link_of}
 use Rattle.seg_manager.specs.Ring.{AreLinked, after_of, before_of, kept_of, walk}
 use Rattle.seg_manager.specs.declared.links.Link.{Link}
 use Rattle.seg_manager.specs.declared.tables.Kept.{Kept}

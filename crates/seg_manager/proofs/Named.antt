@@ -1,8 +1,7 @@
 -- The caches that segments name, in the order of their numbers.
 use Rattle.std.proofs.Common.{◌≡◌, ◌≢◌, ◌==◌, ℕ, zero, suc, ◌+◌, ◌<◌, ◌≤◌, Bool, true, false, cond, List, [], ◌∷◌, ◌++◌, map, length, Option, Some, None, refl, sym, ap, subst, ◌∙◌, inl, inr, arith}
-use Rattle.std.specs.Prelude.{drop, filter, nat_eq, not, slice_get, slice_index_or, slice_set}
+use Rattle.std.specs.Prelude.{drop, filter, not, slice_get, slice_index_or, slice_set}
 use Rattle.std.specs.List.{AllByRecursion, position_from, remove}
-use Rattle.std.specs.Map.{lookup}
 use Rattle.std.specs.Option.{option_map_or}
 use Rattle.std.proofs.lemmas.Bool.{cases_eq, eq-eqb, ne_eqb}
 use Rattle.std.proofs.lemmas.Option.{get_or_from_slice_get, slice_get-get_or}
@@ -12,7 +11,7 @@ use Rattle.vm_ids.specs.declared.numbers.SegId.{SegId}
 use Rattle.vm_model.specs.Machine.{Cache, Machine, segment_of}
 use Rattle.seg_manager.specs.Inner.{first_of, first_with, named_with}
 use Rattle.seg_manager.specs.Names.{AreNamed, cache_in}
-use Rattle.seg_manager.specs.Tying.{AreTied, Naming, naming_at, naming_of, namings}
+use Rattle.seg_manager.specs.Tying.{AreTied, Naming, naming_of, namings}
 use Rattle.seg_manager.specs.declared.tables.Kept.{Kept}
 use Rattle.seg_manager.specs.declared.tables.Mapped.{Mapped}
 use Rattle.seg_manager.specs.declared.tables.Named.{Named}

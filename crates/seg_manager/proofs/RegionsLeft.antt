@@ -10,8 +10,6 @@ use Rattle.vm_model.specs.Machine.{Actor, Machine, Region, numbered}
 use Rattle.vm_model.specs.Regions.{region_with}
 use Rattle.vm_model.proofs.Parts.Lists.{numbered_place}
 use Rattle.vm_model.proofs.Parts.Pairs.{each_append}
-use Rattle.vm_port.specs.declared.traits.mapper.Mapper.{Ghosts as GhostsOfMapper}
-use Rattle.gmi_calls.specs.declared.gmi.Gmi.{Ghosts as GhostsOfGmi}
 use Rattle.seg_manager.specs.Inner.{leaves, staying}
 use Rattle.seg_manager.specs.Keeping.{mapped_at, mapped_by}
 use Rattle.seg_manager.specs.Tying.{Noted, noted_at, noted_of, noted_region, noted_regions}

@@ -1,5 +1,5 @@
 -- A segment that has no cache, as it is seen before it is opened and behind that.
-use Rattle.std.proofs.Common.{◌≡◌, ◌==◌, ℕ, suc, ◌+◌, ◌-◌, Bool, true, false, cond, List, [], ◌∷◌, ◌++◌, Option, Some, None, refl, sym, ap, subst, ◌∙◌, arith}
+use Rattle.std.proofs.Common.{◌≡◌, ◌==◌, ℕ, suc, ◌-◌, Bool, true, false, cond, List, [], ◌∷◌, ◌++◌, Option, Some, None, refl, sym, ap, subst, ◌∙◌, arith}
 use Rattle.std.specs.Prelude.{◌||◌, IfNone, IfSome, Ok, Err, Result, is_some, option_and_then, slice_get}
 use Rattle.std.specs.FinMap.{get}
 use Rattle.std.specs.List.{AllByRecursion, list_any, position_from}
@@ -20,8 +20,6 @@ use Rattle.vm_model.specs.Answering.{opened}
 use Rattle.vm_model.specs.Machine.{Cache, Machine, Page, cache_named, cache_of, is_named_by, segment_of}
 use Rattle.vm_model.specs.Outcome.{blank}
 use Rattle.vm_model.proofs.Parts.ListParts.{at_some}
-use Rattle.vm_port.specs.declared.traits.mapper.Mapper.{Ghosts as GhostsOfMapper}
-use Rattle.gmi_calls.specs.declared.gmi.Gmi.{Ghosts as GhostsOfGmi}
 use Rattle.seg_manager.specs.Answering.{Answered, open_anew, open_by, open_of, refuse}
 use Rattle.seg_manager.specs.Inner.{first_of}
 use Rattle.seg_manager.specs.Keeping.{AreBehind, IsAcquired}

@@ -73,10 +73,7 @@ impl<G> SegManager<G> {
         loop {
             match self.gmi.make_temp(pages) {
                 Ok(cache) => return Ok(cache),
-                Err(trouble) => match self.make_room(trouble, mapper, chooser) {
-                    Ok(()) => {}
-                    Err(trouble) => return Err(trouble),
-                },
+                Err(trouble) => self.make_room(trouble, mapper, chooser)?,
             }
         }
     }
@@ -148,18 +145,14 @@ impl<G> SegManager<G> {
             address,
             prot,
         };
-        match self.gmi.map(actor, found) {
-            Ok(region) => {
-                self.note_region(Mapped {
-                    actor,
-                    region,
-                    address,
-                    cache,
-                });
-                Ok(region)
-            }
-            Err(trouble) => Err(trouble),
-        }
+        let region = self.gmi.map(actor, found)?;
+        self.note_region(Mapped {
+            actor,
+            region,
+            address,
+            cache,
+        });
+        Ok(region)
     }
 
     // Notes a region, for which there is room.

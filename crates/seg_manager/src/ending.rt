@@ -26,10 +26,7 @@ impl<G> SegManager<G> {
         ensures { Serves M.Mapper G.Gmi mapper.old self.old (Command.ExitActor actor)
             (done_by result) mapper.new self.new }
     {
-        match self.gmi.exit_actor(actor) {
-            Ok(()) => {}
-            Err(trouble) => return Err(trouble),
-        }
+        self.gmi.exit_actor(actor)?;
         self.drop_regions(Leaving::Actor(actor));
         self.trim(mapper, chooser);
         Ok(())
@@ -49,10 +46,7 @@ impl<G> SegManager<G> {
         ensures { Serves M.Mapper G.Gmi mapper.old self.old (Command.Unmap region)
             (done_by result) mapper.new self.new }
     {
-        match self.gmi.unmap(region) {
-            Ok(()) => {}
-            Err(trouble) => return Err(trouble),
-        }
+        self.gmi.unmap(region)?;
         self.drop_regions(Leaving::Region(region));
         self.trim(mapper, chooser);
         Ok(())

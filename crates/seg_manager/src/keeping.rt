@@ -110,10 +110,7 @@ impl<G> SegManager<G> {
             Some(first) => first.cache,
             None => unreachable!(),
         };
-        match self.gmi.destroy(cache, mapper, chooser) {
-            Ok(()) => {}
-            Err(trouble) => return Err(trouble),
-        }
+        self.gmi.destroy(cache, mapper, chooser)?;
         self.kept.remove_first();
         self.caches.remove(cache);
         Ok(())

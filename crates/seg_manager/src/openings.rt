@@ -41,14 +41,8 @@ impl<G> SegManager<G> {
         requires anew { StandsAt self.old.caches.items (first_of seg.0) None }
         ensures { Acquires M.Mapper G.Gmi mapper.old self.old seg result mapper.new self.new }
     {
-        match self.reserve_cache() {
-            Ok(()) => {}
-            Err(NoMemory) => return Err(Trouble::Memory),
-        }
-        let cache = match self.open_segment(seg, mapper, chooser) {
-            Ok(cache) => cache,
-            Err(trouble) => return Err(trouble),
-        };
+        self.reserve_cache()?;
+        let cache = self.open_segment(seg, mapper, chooser)?;
         self.caches.push(Named {
             seg,
             cache,
@@ -89,10 +83,7 @@ impl<G> SegManager<G> {
         loop {
             match self.gmi.open_segment(seg, mapper) {
                 Ok(cache) => return Ok(cache),
-                Err(trouble) => match self.make_room(trouble, mapper, chooser) {
-                    Ok(()) => {}
-                    Err(trouble) => return Err(trouble),
-                },
+                Err(trouble) => self.make_room(trouble, mapper, chooser)?,
             }
         }
     }

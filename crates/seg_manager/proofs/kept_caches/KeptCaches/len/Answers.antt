@@ -1,6 +1,5 @@
 use Rattle.std.proofs.Common.{sym, ap, ◌∙◌}
 use Rattle.std.specs.Prelude.{length}
-use Rattle.seg_manager.proofs.Linking.{walked}
 use Rattle.seg_manager.proofs.kept_caches.KeptCaches.len.Goals as goal
 
 pub returns : goal.returns

@@ -1,3 +1,4 @@
+use Rattle.std.proofs.result.Match.{err_is}
 use Rattle.seg_manager.specs.declared.tables.Leaving.TheVariants.{Actor}
 use Rattle.seg_manager.proofs.Parting.{done_serves, drop_once, drop_room, refused_serves, trim_can, trim_made}
 use Rattle.seg_manager.proofs.manager.SegManager.exit_actor.Goals as goal
@@ -10,18 +11,20 @@ drop_regions-requires g c = record {
 
 pub trim-requires-clause-can : goal.trim-requires-clause-can
 trim-requires-clause-can g c =
-    trim_can g.M.Mapper g.G.Gmi c.args.mapper.now c.args.self.now (Actor c.args.actor) c.requires.can c.exit_actor.new.self c.in-Ok.ensures
+    trim_can g.M.Mapper g.G.Gmi c.args.mapper.now c.args.self.now (Actor c.args.actor) c.requires.can c.exit_actor.new.self c.in_ok-exit_actor.ensures
     c.drop_regions.new.self c.drop_regions.ensures.regions c.drop_regions.ensures.kept c.drop_regions.ensures.capacity c.drop_regions.ensures.same
 
 pub trim-requires-clause-made : goal.trim-requires-clause-made
 trim-requires-clause-made g c =
-    trim_made g.M.Mapper g.G.Gmi c.args.mapper.now c.args.self.now (Actor c.args.actor) c.requires.can c.exit_actor.new.self c.in-Ok.ensures
+    trim_made g.M.Mapper g.G.Gmi c.args.mapper.now c.args.self.now (Actor c.args.actor) c.requires.can c.exit_actor.new.self c.in_ok-exit_actor.ensures
     c.drop_regions.new.self c.drop_regions.ensures.regions c.drop_regions.ensures.kept c.drop_regions.ensures.capacity c.drop_regions.ensures.same c.requires.made
 
-pub returns-in-Err : goal.returns-in-Err
-returns-in-Err g c = refused_serves g.M.Mapper g.G.Gmi c.args.mapper.now c.args.self.now (Actor c.args.actor) c.requires.can c.exit_actor.new.self c.in-Err.trouble c.in-Err.ensures
+pub returns-in_err-exit_actor : goal.returns-in_err-exit_actor
+returns-in_err-exit_actor g c =
+    rw (err_is c.from_residual.result _ c.from_residual.ensures.1)
+    (refused_serves g.M.Mapper g.G.Gmi c.args.mapper.now c.args.self.now (Actor c.args.actor) c.requires.can c.exit_actor.new.self c.in_err-exit_actor.field-0.0 c.in_err-exit_actor.ensures)
 
 pub returns : goal.returns
 returns g c =
-    done_serves g.M.Mapper g.G.Gmi c.args.mapper.now c.args.self.now (Actor c.args.actor) c.requires.can c.exit_actor.new.self c.in-Ok.ensures
+    done_serves g.M.Mapper g.G.Gmi c.args.mapper.now c.args.self.now (Actor c.args.actor) c.requires.can c.exit_actor.new.self c.in_ok-exit_actor.ensures
     c.drop_regions.new.self c.drop_regions.ensures.regions c.drop_regions.ensures.kept c.drop_regions.ensures.capacity c.drop_regions.ensures.same c.trim.new.mapper c.trim.new.self c.trim.ensures

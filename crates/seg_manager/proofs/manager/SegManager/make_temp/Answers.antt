@@ -1,4 +1,5 @@
 use Rattle.std.proofs.Common.{arith, refl}
+use Rattle.std.proofs.result.Match.{err_is}
 use Rattle.std.specs.Prelude.{Ok, Err}
 use Rattle.vm_ids.specs.declared.command.Command.TheVariants.{MakeTemp}
 use Rattle.vm_ids.specs.declared.reply.Reply.TheVariants as replies
@@ -33,15 +34,16 @@ loop-cache-preserved g c =
     let leaves = temp_leaves g.M.Mapper g.G.Gmi c.loop-cache.self c.loop-cache.mapper c.loop-cache.invariant.thins.can c.args.pages in
     let call = without_mapper g.M.Mapper (meanings_of g.G.Gmi) c.loop-cache.mapper c.loop-cache.self.gmi c.loop-cache.invariant.thins.can.valid (MakeTemp c.args.pages) (Err c.in-Err.trouble) c.make_temp.new.self c.in-Err.ensures in
     tries_more g.M.Mapper g.G.Gmi c.args.mapper.now c.args.self.now (MakeTemp c.args.pages) c.loop-cache.mapper c.loop-cache.self c.loop-cache.invariant leaves (λ f h u w. refl) c.in-Err.trouble c.loop-cache.mapper c.make_temp.new.self call
-    c.make_room.new.mapper c.make_room.new.self c.in-Ok-make_room.ensures
+    c.make_room.new.mapper c.make_room.new.self c.in_ok-make_room-in-Err.ensures
 
-pub returns-in-Err-make_room : goal.returns-in-Err-make_room
-returns-in-Err-make_room g c =
+pub returns-in_err-make_room-in-Err : goal.returns-in_err-make_room-in-Err
+returns-in_err-make_room-in-Err g c =
     let leaves = temp_leaves g.M.Mapper g.G.Gmi c.loop-cache.self c.loop-cache.mapper c.loop-cache.invariant.thins.can c.args.pages in
     let call = without_mapper g.M.Mapper (meanings_of g.G.Gmi) c.loop-cache.mapper c.loop-cache.self.gmi c.loop-cache.invariant.thins.can.valid (MakeTemp c.args.pages) (Err c.in-Err.trouble) c.make_temp.new.self c.in-Err.ensures in
-    temp_served g.M.Mapper g.G.Gmi c.args.mapper.now c.args.self.now c.args.pages c.requires.can (Err c.in-Err-make_room.trouble) c.make_room.new.mapper c.make_room.new.self
+    rw (err_is c.from_residual.result _ c.from_residual.ensures.1)
+    (temp_served g.M.Mapper g.G.Gmi c.args.mapper.now c.args.self.now c.args.pages c.requires.can (Err c.in_err-make_room-in-Err.field-0.0) c.make_room.new.mapper c.make_room.new.self
     (tries_err g.M.Mapper g.G.Gmi c.args.mapper.now c.args.self.now (MakeTemp c.args.pages) c.loop-cache.mapper c.loop-cache.self c.loop-cache.invariant leaves (λ f h u w. refl) c.in-Err.trouble c.loop-cache.mapper c.make_temp.new.self call
-    c.in-Err-make_room.trouble c.make_room.new.mapper c.make_room.new.self c.in-Err-make_room.ensures)
+    c.in_err-make_room-in-Err.field-0.0 c.make_room.new.mapper c.make_room.new.self c.in_err-make_room-in-Err.ensures))
 
 pub returns-in-Ok : goal.returns-in-Ok
 returns-in-Ok g c =

@@ -1,3 +1,4 @@
+use Rattle.std.proofs.result.Match.{err_is}
 use Rattle.vm_ids.specs.declared.command.Command.TheVariants.{OpenSegment}
 use Rattle.seg_manager.specs.Inner.{first_of}
 use Rattle.seg_manager.proofs.Thinned.{trying_none}
@@ -24,11 +25,12 @@ loop-cache-preserved g c =
     let anew = noted_none c.args.seg.0 0 c.loop-cache.self.caches.items (c.loop-cache.invariant.thins.among (first_of c.args.seg.0) (none_noted c.args.seg.0 0 c.args.self.now.caches.items c.requires.anew)) in
     let leaves = open_leaves g.M.Mapper g.G.Gmi c.loop-cache.self c.loop-cache.mapper c.loop-cache.invariant.thins.can c.args.seg anew in
     tries_more g.M.Mapper g.G.Gmi c.args.mapper.now c.args.self.now (OpenSegment c.args.seg) c.loop-cache.mapper c.loop-cache.self c.loop-cache.invariant leaves (open_row g.M.Mapper g.G.Gmi c.loop-cache.self c.loop-cache.mapper c.loop-cache.invariant.thins.can c.args.seg anew) c.in-Err.trouble c.open_segment.new.mapper c.open_segment.new.self c.in-Err.ensures
-    c.make_room.new.mapper c.make_room.new.self c.in-Ok-make_room.ensures
+    c.make_room.new.mapper c.make_room.new.self c.in_ok-make_room-in-Err.ensures
 
-pub returns-in-Err-make_room : goal.returns-in-Err-make_room
-returns-in-Err-make_room g c =
+pub returns-in_err-make_room-in-Err : goal.returns-in_err-make_room-in-Err
+returns-in_err-make_room-in-Err g c =
     let anew = noted_none c.args.seg.0 0 c.loop-cache.self.caches.items (c.loop-cache.invariant.thins.among (first_of c.args.seg.0) (none_noted c.args.seg.0 0 c.args.self.now.caches.items c.requires.anew)) in
     let leaves = open_leaves g.M.Mapper g.G.Gmi c.loop-cache.self c.loop-cache.mapper c.loop-cache.invariant.thins.can c.args.seg anew in
-    tries_err g.M.Mapper g.G.Gmi c.args.mapper.now c.args.self.now (OpenSegment c.args.seg) c.loop-cache.mapper c.loop-cache.self c.loop-cache.invariant leaves (open_row g.M.Mapper g.G.Gmi c.loop-cache.self c.loop-cache.mapper c.loop-cache.invariant.thins.can c.args.seg anew) c.in-Err.trouble c.open_segment.new.mapper c.open_segment.new.self c.in-Err.ensures
-    c.in-Err-make_room.trouble c.make_room.new.mapper c.make_room.new.self c.in-Err-make_room.ensures
+    rw (err_is c.from_residual.result _ c.from_residual.ensures.1)
+    (tries_err g.M.Mapper g.G.Gmi c.args.mapper.now c.args.self.now (OpenSegment c.args.seg) c.loop-cache.mapper c.loop-cache.self c.loop-cache.invariant leaves (open_row g.M.Mapper g.G.Gmi c.loop-cache.self c.loop-cache.mapper c.loop-cache.invariant.thins.can c.args.seg anew) c.in-Err.trouble c.open_segment.new.mapper c.open_segment.new.self c.in-Err.ensures
+    c.in_err-make_room-in-Err.field-0.0 c.make_room.new.mapper c.make_room.new.self c.in_err-make_room-in-Err.ensures)

@@ -1,5 +1,4 @@
-use Rattle.std.proofs.Common.{◌≡◌, Some, None, ap, sym, ◌∙◌}
-use Rattle.std.specs.Prelude.{option_copied}
+use Rattle.std.proofs.Common.{ap, sym, ◌∙◌}
 use Rattle.std.specs.List.{position_from}
 use Rattle.seg_manager.specs.Inner.{first_of, first_with}
 use Rattle.seg_manager.proofs.Named.{first_none, first_same}

@@ -1,4 +1,4 @@
-use Rattle.std.proofs.Common.{◌≡◌, ◌==◌, Some, None, cond, ap, sym, subst, ◌∙◌, arith}
+use Rattle.std.proofs.Common.{◌==◌, Some, None, cond, ap, sym, subst, ◌∙◌, arith}
 use Rattle.std.specs.Prelude.{filter, not}
 use Rattle.std.specs.List.{position_from}
 use Rattle.std.proofs.lemmas.Option.{slice_get-get_or}
