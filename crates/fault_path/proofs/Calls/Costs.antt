@@ -7,7 +7,7 @@ use Rattle.vm_ids.proofs.Places.{count_cons}
 use Rattle.frame_pool.specs.Pool.{Frames, held_count}
 use Rattle.local_cache.specs.declared.own_state.OwnState.{OwnState}
 use Rattle.local_cache.specs.declared.own_state.OwnState.TheVariants.{Absent, Zero, Resident, Slot, OnSegment}
-use Rattle.local_cache.specs.Own.{is_absent, is_resident}
+use Rattle.local_cache.specs.Own.{is_resident}
 use Rattle.residency.specs.Causes.{Later, Traffic, frames_to_bring, pushes_for, pushes_to_bring}
 use Rattle.residency.specs.World.{is_pulled}
 use Rattle.fault_path.specs.Costs.{NoPull, TrafficAtMost, Pulls, Takes, TakesAtMost, frames_to_copy, pulls_to_copy}

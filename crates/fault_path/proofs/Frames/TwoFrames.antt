@@ -1,11 +1,10 @@
 -- Two frames were gathered: a node gets the first, and then its heir the second.
-use Rattle.std.proofs.Common.{◌≡◌, ◌≢◌, ℕ, ◌+◌, ◌≤◌, Bool, true, false, List, [], ◌∷◌, ◌++◌, length, filter, ap₂, cond, set, get_or, Option, Some, None, is_none, is_some, refl, sym, ap, ◌∙◌, subst, arith, inl, inr}
+use Rattle.std.proofs.Common.{◌≡◌, ◌≢◌, ℕ, ◌+◌, Bool, true, false, List, [], ◌∷◌, ◌++◌, length, filter, ap₂, cond, set, get_or, Option, Some, None, is_none, is_some, refl, sym, ap, ◌∙◌, subst, arith, inl, inr}
 use Rattle.std.specs.Prelude.{option_map, option_and_then}
 use Rattle.vm_ids.specs.Held.{slot_of}
 use Rattle.std.proofs.lemmas.List.{get_or-set_other, set-get_or}
 use Rattle.vm_ids.specs.declared.node_name.NodeName.{NodeName}
 use Rattle.vm_ids.specs.declared.numbers.NodeId.{NodeId}
-use Rattle.vm_ids.specs.Forest.NameMap.{len}
 use Rattle.vm_ids.specs.Forest.NameLists.{◌∈◌, first, without}
 use Rattle.vm_ids.specs.Forest.Nodes.{Forest, Hang, Node, node, parent_of}
 use Rattle.vm_ids.specs.Forest.Nodes.Hang.{Root, TreeOf, StubOf}
@@ -16,9 +15,6 @@ use Rattle.vm_ids.proofs.Forest.Names.{same_apart}
 use Rattle.vm_ids.proofs.Forest.Values.{node-count_copy}
 use Rattle.vm_ids.specs.Forest.Rules.{gets, heir, heir_gets, own}
 use Rattle.vm_ids.specs.Forest.Shape.{IsLinked, IsWellShaped}
-use Rattle.vm_ids.proofs.Forest.NamesAfter.{own-names}
-use Rattle.vm_ids.proofs.Forest.PageMap.{len-map}
-use Rattle.vm_ids.specs.Forest.PageMap.{no_page}
 use Rattle.vm_ids.proofs.Places.{back}
 use Rattle.frame_pool.specs.Pool.{bytes_of, is_pinned}
 use Rattle.global_map.specs.Pairs.{node_of}
@@ -39,10 +35,9 @@ use Rattle.fault_path.specs.Gathering.{HasPageOf, IsCopiedOut, IsDoubled, IsGath
 use Rattle.fault_path.specs.Giving.{IsHanded, IsOwned}
 use Rattle.fault_path.proofs.OnePage.DirtyPage.{page_moves}
 use Rattle.fault_path.proofs.Frames.GatheredFrames.{set_comm}
-use Rattle.fault_path.proofs.Rules.ForestSize.{more_names}
 use Rattle.fault_path.proofs.Rules.Heirs.{heir_absent}
 use Rattle.fault_path.proofs.Frames.SettledFrame.{homed}
-use Rattle.fault_path.proofs.Calls.Kept.{store_bare, store_heir, store_node, store_page, store_shaped}
+use Rattle.fault_path.proofs.Calls.Kept.{store_heir, store_page, store_shaped}
 use Rattle.fault_path.proofs.Rules.OneFrameForest.{hand_forest, hand_gives, handed_shaped, own_forest, own_gives, own_shaped, there_w}
 use Rattle.fault_path.proofs.Frames.OneFrame.{GivesFrame}
 

@@ -2,10 +2,9 @@
 use Rattle.std.proofs.Common.{◌≡◌, true, false, Some, None, is_some, refl, sym, ap, ◌∙◌}
 use Rattle.vm_ids.specs.declared.node_name.NodeName.{NodeName}
 use Rattle.vm_ids.specs.declared.numbers.NodeId.{NodeId}
-use Rattle.vm_ids.specs.Forest.NameMap.{len}
 use Rattle.vm_ids.specs.Forest.PageMap.{bare, no_page}
 use Rattle.vm_ids.specs.Forest.Rules.{heir, heir_gets}
-use Rattle.vm_ids.proofs.Forest.PageMap.{heir-map, len-map}
+use Rattle.vm_ids.proofs.Forest.PageMap.{heir-map}
 use Rattle.vm_ids.proofs.Forest.Values.{heir_hangs}
 use Rattle.vm_ids.proofs.Places.{bit}
 use Rattle.global_map.specs.Pairs.{bound_times}

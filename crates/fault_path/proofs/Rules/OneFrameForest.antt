@@ -11,7 +11,7 @@ use Rattle.vm_ids.proofs.Forest.Owning.{heir_gets-shaped, own-shaped}
 use Rattle.vm_ids.proofs.Forest.Reading.{value-IsValue}
 use Rattle.vm_ids.proofs.Places.{back}
 use Rattle.frame_pool.specs.Pool.{is_pinned}
-use Rattle.local_cache.specs.declared.own_state.OwnState.TheVariants.{Absent, Resident}
+use Rattle.local_cache.specs.declared.own_state.OwnState.TheVariants.{Absent}
 use Rattle.local_cache.specs.Arena.{Arena, HasNode}
 use Rattle.local_cache.specs.Own.{own_of}
 use Rattle.local_cache.specs.Reading.{forest_of, name_of}

@@ -13,7 +13,6 @@ use Rattle.vm_ids.specs.Forest.Rules.{gets, hand_stubs, heir, heir_gets, own}
 use Rattle.vm_ids.specs.Forest.Shape.{IsLinked, IsWellShaped}
 use Rattle.vm_ids.specs.Forest.Values.IsValue.{itself}
 use Rattle.vm_ids.proofs.Forest.Columns.{gets-hang, unstub}
-use Rattle.vm_ids.proofs.Forest.Counters.{gets-counters}
 use Rattle.vm_ids.proofs.Forest.Laws.Owning.{with_heir}
 use Rattle.vm_ids.proofs.Forest.Laws.Reading.{owners_own_values}
 use Rattle.vm_ids.proofs.Forest.NamesAfter.{gets-names}
@@ -26,7 +25,6 @@ use Rattle.local_cache.specs.Arena.{Arena, cell, HasNode}
 use Rattle.local_cache.specs.Changes.{Like}
 use Rattle.local_cache.specs.Reading.{forest_of, name_of, page_of}
 use Rattle.local_cache.specs.Sound.{IsSound}
-use Rattle.local_cache.proofs.Changes.SameNodes.{forest_of-copies, like_then}
 use Rattle.local_cache.proofs.Forest.Reading.{IsNode-forest_of, node-forest_of}
 use Rattle.page_stubs.specs.Under.{IsUnder}
 use Rattle.page_stubs.specs.Under.IsUnder.{itself as the_same, below as lower}

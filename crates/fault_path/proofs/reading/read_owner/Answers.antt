@@ -1,5 +1,6 @@
-use Rattle.std.proofs.Common.{sym, ap, ◌∙◌, ◌≡◌, true, false, Some}
+use Rattle.std.proofs.Common.{sym, ap, ◌∙◌, ◌≡◌, true, false}
 use Rattle.std.proofs.lemmas.Bool.{false≢true}
+use Rattle.std.proofs.result.Match.{err_is}
 use Rattle.local_cache.specs.Own.{own_of}
 use Rattle.residency.specs.Between.{world_at}
 use Rattle.residency.specs.World.{World}
@@ -31,41 +32,41 @@ returns-then-is_zero-clause-value g c =
     let old : World = world_at g.M.Mapper c.args.mapper.now c.args.caches.now c.args.store.now in
     λ n there owns. found_zero old c.requires.right.sound c.requires.right.shaped n c.args.owner there owns (zero_is (own_of c.args.caches.now c.args.owner) zero)
 
-pub returns-in-Ok-clause-answered : goal.returns-in-Ok-clause-answered
-returns-in-Ok-clause-answered g c = still_answered _ _ c.in-Ok.ensures.still _ _ c.requires.right.sound c.requires.right.shaped c.in-Ok.ensures.pinned c.in-Ok.ensures.later c.in-Ok.ensures.told
+pub returns-clause-answered : goal.returns-clause-answered
+returns-clause-answered g c = still_answered _ _ c.in_ok-frame.ensures.still _ _ c.requires.right.sound c.requires.right.shaped c.in_ok-frame.ensures.pinned c.in_ok-frame.ensures.later c.in_ok-frame.ensures.told
 
-pub returns-in-Ok-clause-forest : goal.returns-in-Ok-clause-forest
-returns-in-Ok-clause-forest g c = still_forest _ _ c.in-Ok.ensures.still
+pub returns-clause-forest : goal.returns-clause-forest
+returns-clause-forest g c = still_forest _ _ c.in_ok-frame.ensures.still
 
-pub returns-in-Err-clause-answered : goal.returns-in-Err-clause-answered
-returns-in-Err-clause-answered g c = still_answered _ _ c.in-Err.ensures.still _ _ c.requires.right.sound c.requires.right.shaped c.in-Err.ensures.pinned c.in-Err.ensures.later c.in-Err.ensures.told
+pub returns-in_err-frame-clause-answered : goal.returns-in_err-frame-clause-answered
+returns-in_err-frame-clause-answered g c = still_answered _ _ c.in_err-frame.ensures.still _ _ c.requires.right.sound c.requires.right.shaped c.in_err-frame.ensures.pinned c.in_err-frame.ensures.later c.in_err-frame.ensures.told
 
-pub returns-in-Err-clause-forest : goal.returns-in-Err-clause-forest
-returns-in-Err-clause-forest g c = still_forest _ _ c.in-Err.ensures.still
+pub returns-in_err-frame-clause-forest : goal.returns-in_err-frame-clause-forest
+returns-in_err-frame-clause-forest g c = still_forest _ _ c.in_err-frame.ensures.still
 
-pub returns-in-Ok-clause-frame : goal.returns-in-Ok-clause-frame
-returns-in-Ok-clause-frame g c =
-    let e = c.in-Ok.ensures in
-    record { zero = sym (filled g (goal.at.returns-in-Ok-clause-frame g c).Else-is_zero); bound = e.home }
+pub returns-clause-frame : goal.returns-clause-frame
+returns-clause-frame g c =
+    let e = c.in_ok-frame.ensures in
+    record { zero = sym (filled g (goal.at.returns-clause-frame g c).Else-is_zero); bound = e.home }
 
-pub returns-in-Ok-clause-value : goal.returns-in-Ok-clause-value
-returns-in-Ok-clause-value g c =
+pub returns-clause-value : goal.returns-clause-value
+returns-clause-value g c =
     let old : World = world_at g.M.Mapper c.args.mapper.now c.args.caches.now c.args.store.now in
     let w : World = world_at g.M.Mapper c.bring_in.new.mapper c.bring_in.new.caches c.bring_in.new.self in
-    let e = c.in-Ok.ensures in
-    λ n there owns. found_frame old c.requires.right.sound c.requires.right.shaped n c.args.owner there owns w e.still c.in-Ok.frame.0 e.home.0 e.home.1
+    let e = c.in_ok-frame.ensures in
+    λ n there owns. found_frame old c.requires.right.sound c.requires.right.shaped n c.args.owner there owns w e.still c.in_ok-frame.frame.0 e.home.0 e.home.1
 
-pub returns-in-Ok-clause-idle : goal.returns-in-Ok-clause-idle
-returns-in-Ok-clause-idle g c =
-    let some = filled g (goal.at.returns-in-Ok-clause-idle g c).Else-is_zero in
-    let e = c.in-Ok.ensures in
+pub returns-clause-idle : goal.returns-clause-idle
+returns-clause-idle g c =
+    let some = filled g (goal.at.returns-clause-idle g c).Else-is_zero in
+    let e = c.in_ok-frame.ensures in
     λ hand. e.idle (resident_is (own_of c.args.caches.now c.args.owner) hand some)
 
-pub returns-in-Err-clause-idle : goal.returns-in-Err-clause-idle
-returns-in-Err-clause-idle g c =
-    let some = filled g (goal.at.returns-in-Err-clause-idle g c).Else-is_zero in
-    let e = c.in-Err.ensures in
-    λ hand. e.idle (resident_is (own_of c.args.caches.now c.args.owner) hand some)
+pub returns-in_err-frame-clause-idle : goal.returns-in_err-frame-clause-idle
+returns-in_err-frame-clause-idle g c =
+    let some = filled g (goal.at.returns-in_err-frame-clause-idle g c).Else-is_zero in
+    let e = c.in_err-frame.ensures in
+    rw (err_is c.from_residual.result _ c.from_residual.ensures.1) (λ hand. e.idle (resident_is (own_of c.args.caches.now c.args.owner) hand some))
 
 pub returns-then-is_zero-clause-traffic : goal.returns-then-is_zero-clause-traffic
 returns-then-is_zero-clause-traffic g c =
@@ -77,25 +78,25 @@ returns-then-is_zero-clause-few g c =
     let zero = zeros g (goal.at.returns-then-is_zero-clause-few g c).Then-is_zero in
     λ out. absurd (false≢true (sym out ∙ zero))
 
-pub returns-in-Ok-clause-traffic : goal.returns-in-Ok-clause-traffic
-returns-in-Ok-clause-traffic g c = let e = c.in-Ok.ensures in λ out. e.traffic
+pub returns-clause-traffic : goal.returns-clause-traffic
+returns-clause-traffic g c = let e = c.in_ok-frame.ensures in λ out. e.traffic
 
-pub returns-in-Err-clause-traffic : goal.returns-in-Err-clause-traffic
-returns-in-Err-clause-traffic g c = let e = c.in-Err.ensures in λ out. e.traffic
+pub returns-in_err-frame-clause-traffic : goal.returns-in_err-frame-clause-traffic
+returns-in_err-frame-clause-traffic g c = rw (err_is c.from_residual.result _ c.from_residual.ensures.1) (λ out. c.in_err-frame.ensures.traffic)
 
-pub returns-in-Ok-clause-few : goal.returns-in-Ok-clause-few
-returns-in-Ok-clause-few g c = let e = c.in-Ok.ensures in λ out. e.few
+pub returns-clause-few : goal.returns-clause-few
+returns-clause-few g c = let e = c.in_ok-frame.ensures in λ out. e.few
 
-pub returns-in-Err-clause-few : goal.returns-in-Err-clause-few
-returns-in-Err-clause-few g c = let e = c.in-Err.ensures in λ out. e.few
+pub returns-in_err-frame-clause-few : goal.returns-in_err-frame-clause-few
+returns-in_err-frame-clause-few g c = rw (err_is c.from_residual.result _ c.from_residual.ensures.1) (λ out. c.in_err-frame.ensures.few)
 
-pub returns-in-Ok-clause-drops : goal.returns-in-Ok-clause-drops
-returns-in-Ok-clause-drops g c =
+pub returns-clause-drops : goal.returns-clause-drops
+returns-clause-drops g c =
     let b = c.bring_in.ensures in
     still_drops_but _ _ _ _ c.args.caches.now c.bring_in.new.caches c.args.store.now c.bring_in.new.self c.requires.right.store.tied b.still.stays b.tables c.args.owner b.others
 
-pub returns-in-Err-clause-drops : goal.returns-in-Err-clause-drops
-returns-in-Err-clause-drops g c =
+pub returns-in_err-frame-clause-drops : goal.returns-in_err-frame-clause-drops
+returns-in_err-frame-clause-drops g c =
     let b = c.bring_in.ensures in
     still_drops_but _ _ _ _ c.args.caches.now c.bring_in.new.caches c.args.store.now c.bring_in.new.self c.requires.right.store.tied b.still.stays b.tables c.args.owner b.others
 
@@ -114,8 +115,8 @@ owner_comes g c =
 pub returns-then-is_zero-clause-frames : goal.returns-then-is_zero-clause-frames
 returns-then-is_zero-clause-frames g c = same_come (IsBroughtIn c.args.caches.now c.args.owner) _
 
-pub returns-in-Ok-clause-frames : goal.returns-in-Ok-clause-frames
-returns-in-Ok-clause-frames g c = owner_comes g (goal.at.returns-in-Ok-clause-frames g c).After-bring_in
+pub returns-clause-frames : goal.returns-clause-frames
+returns-clause-frames g c = owner_comes g (goal.at.returns-clause-frames g c).After-bring_in
 
-pub returns-in-Err-clause-frames : goal.returns-in-Err-clause-frames
-returns-in-Err-clause-frames g c = owner_comes g (goal.at.returns-in-Err-clause-frames g c).After-bring_in
+pub returns-in_err-frame-clause-frames : goal.returns-in_err-frame-clause-frames
+returns-in_err-frame-clause-frames g c = owner_comes g (goal.at.returns-in_err-frame-clause-frames g c).After-bring_in

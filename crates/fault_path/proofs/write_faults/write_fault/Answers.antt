@@ -4,7 +4,6 @@ use Rattle.residency.specs.Between.{world_at}
 use Rattle.residency.specs.World.{World}
 use Rattle.residency.specs.declared.store.Store.{Store}
 use Rattle.vm_ids.specs.declared.numbers.NodeId.{NodeId}
-use Rattle.fault_path.specs.Faults.{IsOwner}
 use Rattle.fault_path.proofs.OnePage.FoundPage.{each_owner, owner_same}
 use Rattle.local_cache.specs.Own.{own_of}
 use Rattle.fault_path.proofs.Calls.Costs.{at_hand_pulls, copy_most, most_more}
@@ -26,13 +25,13 @@ drop_translations-requires g c =
 pub returns-clause-answered : goal.returns-clause-answered
 returns-clause-answered g c =
     let old : World = world_at g.M.Mapper c.args.mapper.now c.args.caches.now c.args.store.now in
-    let same = forgot_world_at g.M.Mapper c.make_ready.new.mapper c.make_ready.new.caches c.make_ready.new.store c.drop_translations.new.store c.args.owner c.args.node c.drop_translations.ensures in
+    let same = forgot_world (g.M.Mapper.held c.make_ready.new.mapper) (g.M.Mapper.page_bytes c.make_ready.new.mapper) c.make_ready.new.caches c.make_ready.new.store c.drop_translations.new.store c.args.owner c.args.node c.drop_translations.ensures in
     subst (λ (w : World). IsAnswered old w (g.M.Mapper.counts c.args.mapper.now) (g.M.Mapper.counts c.make_ready.new.mapper)) (sym same) c.make_ready.ensures.ready.answered
 
 pub returns-clause-ready : goal.returns-clause-ready
 returns-clause-ready g c =
     let old : World = world_at g.M.Mapper c.args.mapper.now c.args.caches.now c.args.store.now in
-    let same = forgot_world_at g.M.Mapper c.make_ready.new.mapper c.make_ready.new.caches c.make_ready.new.store c.drop_translations.new.store c.args.owner c.args.node c.drop_translations.ensures in
+    let same = forgot_world (g.M.Mapper.held c.make_ready.new.mapper) (g.M.Mapper.page_bytes c.make_ready.new.mapper) c.make_ready.new.caches c.make_ready.new.store c.drop_translations.new.store c.args.owner c.args.node c.drop_translations.ensures in
     subst (λ (w : World). IsFramed readied c.args.node c.in_ok-frame.frame.0 old w) (sym same) c.in_ok-frame.ensures.ready.done
 
 pub returns-clause-drops : goal.returns-clause-drops
@@ -74,5 +73,5 @@ returns-in_err-frame-clause-no_pull g c = λ o is. at_hand_pulls (own_of c.args.
 pub returns-clause-frames : goal.returns-clause-frames
 returns-clause-frames g c =
     let old : World = world_at g.M.Mapper c.args.mapper.now c.args.caches.now c.args.store.now in
-    let same = forgot_world_at g.M.Mapper c.make_ready.new.mapper c.make_ready.new.caches c.make_ready.new.store c.drop_translations.new.store c.args.owner c.args.node c.drop_translations.ensures in
+    let same = forgot_world (g.M.Mapper.held c.make_ready.new.mapper) (g.M.Mapper.page_bytes c.make_ready.new.mapper) c.make_ready.new.caches c.make_ready.new.store c.drop_translations.new.store c.args.owner c.args.node c.drop_translations.ensures in
     λ o is. subst (OnlyCome (IsOfWrite c.args.caches.now c.args.node o) old) (sym same) (c.make_ready.ensures.frames o is)

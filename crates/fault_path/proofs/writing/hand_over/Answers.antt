@@ -47,22 +47,42 @@ settle_in-requires-clause-away g c =
     let k = c.in_ok-frame.ensures.copied.done.gathered in
     unbound w k.still.stays.right c.args.next (still_absent old w k.still c.requires.right.sound c.args.next (heir_absent c.args.caches.now c.requires.right.sound _ c.args.next c.requires.next.held c.requires.next.name))
 
+pub returns-clause-handed : goal.returns-clause-handed
+returns-clause-handed g c =
+    let told = g.M.Mapper.held c.copy_out.new.mapper in
+    let old : World = world_at g.M.Mapper c.args.mapper.now c.args.caches.now c.args.store.now in
+    let w : World = world_at g.M.Mapper c.copy_out.new.mapper c.copy_out.new.caches c.copy_out.new.store in
+    let k = c.in_ok-frame.ensures.copied.done.gathered in
+    record {
+      answered = record {
+        kept = subst (Kept old) (sym (ap (λ (s : Store). world_at g.M.Mapper c.copy_out.new.mapper c.hand_page.new.caches s) c.settle_in.ensures)) (hand_kept old w c.in_ok-frame.frame.0 k.still k.taken c.requires.right.sound c.requires.right.shaped c.args.node c.args.next c.requires.own.node (has_own old c.args.node c.requires.own.own_page) c.requires.next.held c.requires.next.name
+            (heir_absent c.args.caches.now c.requires.right.sound _ c.args.next c.requires.next.held c.requires.next.name) c.in_ok-frame.ensures.copied.done.page c.hand_page.new.caches c.hand_page.ensures k);
+        later = c.in_ok-frame.ensures.copied.later;
+        told = tells_as _ _ _ _ _ refl c.in_ok-frame.ensures.copied.told;
+      };
+      done = ap (λ (s : Store). store_forest (world_at g.M.Mapper c.copy_out.new.mapper c.hand_page.new.caches s)) c.settle_in.ensures ∙ (hand_forest old w c.in_ok-frame.frame.0 k.still k.taken c.requires.right.sound c.requires.right.shaped c.args.node c.args.next c.requires.own.node (has_own old c.args.node c.requires.own.own_page) c.requires.next.held c.requires.next.name
+          (heir_absent c.args.caches.now c.requires.right.sound _ c.args.next c.requires.next.held c.requires.next.name) c.in_ok-frame.ensures.copied.done.page c.hand_page.new.caches c.hand_page.ensures);
+      missed = tt;
+    }
+
+pub returns-clause-copies : goal.returns-clause-copies
+returns-clause-copies g c =
+    let old : World = world_at g.M.Mapper c.args.mapper.now c.args.caches.now c.args.store.now in
+    let w : World = world_at g.M.Mapper c.copy_out.new.mapper c.copy_out.new.caches c.copy_out.new.store in
+    let k = c.in_ok-frame.ensures.copied.done.gathered in
+    hand_copies old w c.in_ok-frame.frame.0 k.still k.taken c.requires.right.sound c.requires.right.shaped c.args.node c.args.next c.requires.own.node (has_own old c.args.node c.requires.own.own_page) c.requires.next.held c.requires.next.name
+    (heir_absent c.args.caches.now c.requires.right.sound _ c.args.next c.requires.next.held c.requires.next.name) c.in_ok-frame.ensures.copied.done.page c.hand_page.new.caches c.hand_page.ensures
+
 pub returns-in_err-frame-clause-drops : goal.returns-in_err-frame-clause-drops
 returns-in_err-frame-clause-drops g c =
     failed_leaves _ c.from_residual.result _ _ _ _ _ _ c.from_residual.ensures.1
     (drops_more (λ n. n ≡ c.args.node) (MayCome c.args.caches.now c.args.node) c.args.caches.now c.copy_out.new.caches c.args.store.now c.copy_out.new.store (λ n e. inl e) c.copy_out.ensures.drops)
 
-pub returns-in_err-frame-clause-frames : goal.returns-in_err-frame-clause-frames
-returns-in_err-frame-clause-frames g c =
-    more_come (IsBroughtIn c.args.caches.now c.args.node) (IsOfSave c.args.caches.now c.args.node) _ _ (λ m e. record { heir_name = name_of c.args.caches.now c.args.next; is_heir = c.requires.next.name; one = inl e.0 }) c.copy_out.ensures.frames
-
-pub returns : goal.returns
-returns g c =
-    let told = g.M.Mapper.held c.copy_out.new.mapper in
+pub returns-clause-drops : goal.returns-clause-drops
+returns-clause-drops g c =
     let old : World = world_at g.M.Mapper c.args.mapper.now c.args.caches.now c.args.store.now in
-    let w : World = world_at g.M.Mapper c.copy_out.new.mapper c.copy_out.new.caches c.copy_out.new.store in
-    let k = c.in_ok-frame.ensures.copied.done.gathered in
     let v : World = world_at g.M.Mapper c.copy_out.new.mapper c.hand_page.new.caches c.settle_in.new.store in
+    let k = c.in_ok-frame.ensures.copied.done.gathered in
     let all = returns-clause-handed g c in
     let answered : IsAnswered old v (g.M.Mapper.counts c.args.mapper.now) (g.M.Mapper.counts c.copy_out.new.mapper) = all.answered in
     let within : c.in_ok-frame.frame.0 < length c.copy_out.new.store.map = omega (arith, k.taken.within, k.still.stays.right.tied.fitted.map_frames) in
@@ -73,33 +93,26 @@ returns g c =
     (λ f p at. ap (λ (m : List (Option NodeId)). node_of m f) map ∙ settled_stays c.copy_out.new.store.map c.in_ok-frame.frame.0 c.args.next k.taken.unbound f p at)
     (λ f p at. may_come c.args.caches.now c.args.node c.args.next p absent (settled_comes c.copy_out.new.store.map c.in_ok-frame.frame.0 c.args.next within f p (ap (λ (m : List (Option NodeId)). node_of m f) (sym map) ∙ at)))
     (inl refl) (ap (λ (s : Store). s.tables) c.settle_in.ensures) c.requires.own.own_page refl all.done in
+    record {
+      left = whole;
+      home = λ f at. inl (ap (λ (m : List (Option NodeId)). node_of m f) map ∙ settled_stays c.copy_out.new.store.map c.in_ok-frame.frame.0 c.args.next k.taken.unbound f c.args.node (c.in_ok-frame.ensures.copied.done.home f at));
+      failed = tt;
+    }
+
+pub returns-in_err-frame-clause-frames : goal.returns-in_err-frame-clause-frames
+returns-in_err-frame-clause-frames g c =
+    more_come (IsBroughtIn c.args.caches.now c.args.node) (IsOfSave c.args.caches.now c.args.node) _ _ (λ m e. record { heir_name = name_of c.args.caches.now c.args.next; is_heir = c.requires.next.name; one = inl e.0 }) c.copy_out.ensures.frames
+
+pub returns-clause-frames : goal.returns-clause-frames
+returns-clause-frames g c =
+    let old : World = world_at g.M.Mapper c.args.mapper.now c.args.caches.now c.args.store.now in
+    let w : World = world_at g.M.Mapper c.copy_out.new.mapper c.copy_out.new.caches c.copy_out.new.store in
+    let v : World = world_at g.M.Mapper c.copy_out.new.mapper c.hand_page.new.caches c.settle_in.new.store in
     let may = IsOfSave c.args.caches.now c.args.node in
+    let k = c.in_ok-frame.ensures.copied.done.gathered in
+    let within : c.in_ok-frame.frame.0 < length c.copy_out.new.store.map = omega (arith, k.taken.within, k.still.stays.right.tied.fitted.map_frames) in
     let heir = name_of c.args.caches.now c.args.next in
     let gives = hand_gives old w c.in_ok-frame.frame.0 k.still k.taken c.requires.right.sound c.requires.right.shaped c.args.node c.args.next c.requires.own.node (has_own old c.args.node c.requires.own.own_page) c.requires.next.held c.requires.next.name
     (heir_absent c.args.caches.now c.requires.right.sound _ c.args.next c.requires.next.held c.requires.next.name) c.in_ok-frame.ensures.copied.done.page c.hand_page.new.caches c.hand_page.ensures in
-    record {
-      handed = (record {
-        answered = record {
-          kept = subst (Kept old) (sym (ap (λ (s : Store). world_at g.M.Mapper c.copy_out.new.mapper c.hand_page.new.caches s) c.settle_in.ensures)) (hand_kept old w c.in_ok-frame.frame.0 k.still k.taken c.requires.right.sound c.requires.right.shaped c.args.node c.args.next c.requires.own.node (has_own old c.args.node c.requires.own.own_page) c.requires.next.held c.requires.next.name
-              (heir_absent c.args.caches.now c.requires.right.sound _ c.args.next c.requires.next.held c.requires.next.name) c.in_ok-frame.ensures.copied.done.page c.hand_page.new.caches c.hand_page.ensures k);
-          later = c.in_ok-frame.ensures.copied.later;
-          told = tells_as _ _ _ _ _ refl c.in_ok-frame.ensures.copied.told;
-        };
-        done = ap (λ (s : Store). store_forest (world_at g.M.Mapper c.copy_out.new.mapper c.hand_page.new.caches s)) c.settle_in.ensures ∙ (hand_forest old w c.in_ok-frame.frame.0 k.still k.taken c.requires.right.sound c.requires.right.shaped c.args.node c.args.next c.requires.own.node (has_own old c.args.node c.requires.own.own_page) c.requires.next.held c.requires.next.name
-            (heir_absent c.args.caches.now c.requires.right.sound _ c.args.next c.requires.next.held c.requires.next.name) c.in_ok-frame.ensures.copied.done.page c.hand_page.new.caches c.hand_page.ensures);
-        missed = tt;
-      });
-      home = search rules;
-      drops = (record {
-        left = whole;
-        home = λ f at. inl (ap (λ (m : List (Option NodeId)). node_of m f) map ∙ settled_stays c.copy_out.new.store.map c.in_ok-frame.frame.0 c.args.next k.taken.unbound f c.args.node (c.in_ok-frame.ensures.copied.done.home f at));
-        failed = tt;
-      });
-      frames = (come_settled may old w v c.in_ok-frame.frame.0 c.args.next within (record { heir_name = heir; is_heir = c.requires.next.name; one = inr refl }) (ap (λ (s : Store). s.map) c.settle_in.ensures) (ap (λ (s : Store). s.frames.bytes) c.settle_in.ensures) gives.others
-          (more_come (IsBroughtIn c.args.caches.now c.args.node) may old w (λ m e. record { heir_name = heir; is_heir = c.requires.next.name; one = inl e.0 }) c.copy_out.ensures.frames));
-      copies = (hand_copies old w c.in_ok-frame.frame.0 k.still k.taken c.requires.right.sound c.requires.right.shaped c.args.node c.args.next c.requires.own.node (has_own old c.args.node c.requires.own.own_page) c.requires.next.held c.requires.next.name
-          (heir_absent c.args.caches.now c.requires.right.sound _ c.args.next c.requires.next.held c.requires.next.name) c.in_ok-frame.ensures.copied.done.page c.hand_page.new.caches c.hand_page.ensures);
-      traffic = search rules;
-      most = search rules;
-      victim = search rules;
-    }
+    come_settled may old w v c.in_ok-frame.frame.0 c.args.next within (record { heir_name = heir; is_heir = c.requires.next.name; one = inr refl }) (ap (λ (s : Store). s.map) c.settle_in.ensures) (ap (λ (s : Store). s.frames.bytes) c.settle_in.ensures) gives.others
+    (more_come (IsBroughtIn c.args.caches.now c.args.node) may old w (λ m e. record { heir_name = heir; is_heir = c.requires.next.name; one = inl e.0 }) c.copy_out.ensures.frames)

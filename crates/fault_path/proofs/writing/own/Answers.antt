@@ -23,13 +23,13 @@ drop_translations-requires g c =
 pub returns-clause-answered : goal.returns-clause-answered
 returns-clause-answered g c =
     let old : World = world_at g.M.Mapper c.args.mapper.now c.args.caches.now c.args.store.now in
-    let same = forgot_world_at g.M.Mapper c.own_framed.new.mapper c.own_framed.new.caches c.own_framed.new.store c.drop_translations.new.store c.owner_of-owner.result c.args.node c.drop_translations.ensures in
+    let same = forgot_world (g.M.Mapper.held c.own_framed.new.mapper) (g.M.Mapper.page_bytes c.own_framed.new.mapper) c.own_framed.new.caches c.own_framed.new.store c.drop_translations.new.store c.owner_of-owner.result c.args.node c.drop_translations.ensures in
     subst (λ (w : World). IsAnswered old w (g.M.Mapper.counts c.args.mapper.now) (g.M.Mapper.counts c.own_framed.new.mapper)) (sym same) c.own_framed.ensures.owned.answered
 
 pub returns-clause-forest : goal.returns-clause-forest
 returns-clause-forest g c =
     let old : World = world_at g.M.Mapper c.args.mapper.now c.args.caches.now c.args.store.now in
-    let same = forgot_world_at g.M.Mapper c.own_framed.new.mapper c.own_framed.new.caches c.own_framed.new.store c.drop_translations.new.store c.owner_of-owner.result c.args.node c.drop_translations.ensures in
+    let same = forgot_world (g.M.Mapper.held c.own_framed.new.mapper) (g.M.Mapper.page_bytes c.own_framed.new.mapper) c.own_framed.new.caches c.own_framed.new.store c.drop_translations.new.store c.owner_of-owner.result c.args.node c.drop_translations.ensures in
     ap store_forest same ∙ c.in_ok-own_framed.ensures.owned.done.forest
 
 pub returns-clause-drops : goal.returns-clause-drops

@@ -45,6 +45,35 @@ settle-requires-clause-unpinned c k =
     unpinned_kept [] c.forget_touched.new.store c.forget_touched.new.caches c.retire_pages.new.store c.retire_pages.new.caches f.kept.tied r.kept (Working k)
     (unpinned_kept (page_names c.args.cache 0 c.args.pages) c.args.store.now c.args.caches.now c.forget_touched.new.store c.forget_touched.new.caches c.requires.ready.retire.tied f.kept (Working k) (c.requires.ready.working k))
 
+pub returns-clause-rule : goal.returns-clause-rule
+returns-clause-rule c =
+    let a = c.args.caches.now in
+    let u = c.args.store.now in
+    let m = u.map in
+    let f = c.forget_touched.ensures in
+    let r = c.retire_pages.ensures in
+    let e = c.settle.ensures in
+    let sound = c.requires.ready.retire.whole.sound in
+    let consistent = c.requires.ready.retire.whole.consistent in
+    let saved = c.requires.ready.saved in
+    let names = page_names c.args.cache 0 c.args.pages in
+    let named = is_named a c.args.cache in
+    let there = pages_once a c.requires.ready.retire.whole c.args.cache c.args.pages c.requires.pages in
+    record {
+      nodes =
+          e.rule.nodes ∙ ap settle (r.rule.nodes ∙ ap (retire_all names) f.rule.rule.nodes)
+          ∙ destroy_named Zero named names f.rule.some (forest_of a) consistent there saved f.rule.among;
+      forest = λ told size fit.
+          let w = world told size a u in
+          let one = (f.kept.gives_back told size fit).tied in
+          let two = (r.kept.gives_back told size one).tied in
+          e.rule.forest told size two ∙ ap settle (r.rule.forest told size one ∙ ap (retire_all names) (f.rule.rule.forest told size fit))
+          ∙ destroy_named (zeros_told w) named names f.rule.some (store_forest w) (store_consistent w sound consistent) (store_pages w sound names there) (λ named x i. store_saved w sound x (saved named x i)) f.rule.among;
+      frames =
+          e.rule.frames ∙ ap settle (r.rule.frames ∙ ap (retire_all names) f.rule.rule.frames)
+          ∙ destroy_named None named names f.rule.some (frame_forest a m) (frame_consistent a m sound consistent) (frame_pages a m sound names there) (λ named x i. frame_saved a m sound x (saved named x i)) f.rule.among;
+    }
+
 emptied_now : (c : goal.After-settle) → (page : ℕ) → node_at c.settle.new.caches c.args.cache.0 page ≡ None
 emptied_now c =
     let r = c.retire_pages.ensures in
@@ -66,57 +95,39 @@ released c =
     kept_unlisted names s a u d (kept_then names [] names s a t b u d c.requires.ready.retire.tied (λ x i. i) (λ x i. absurd i) f rest)
     (homed_gone d c.settle.ensures.kept.sound.kept.listed c.args.cache 0 c.args.pages (emptied_now c))
 
-pub returns : goal.returns
-returns c =
+pub returns-clause-kept : goal.returns-clause-kept
+returns-clause-kept c =
+    let r = released c in
+    record { gives_back = r.gives_back; sound = r.sound; tied = r.tied; pinned = r.pinned; sizes = r.sizes; homes = r.homes }
+
+pub returns-clause-empties : goal.returns-clause-empties
+returns-clause-empties c =
     let a = c.args.caches.now in
-    let u = c.args.store.now in
-    let m = u.map in
-    let f = c.forget_touched.ensures in
-    let r = c.retire_pages.ensures in
-    let e = c.settle.ensures in
-    let sound = c.requires.ready.retire.whole.sound in
-    let consistent = c.requires.ready.retire.whole.consistent in
-    let saved = c.requires.ready.saved in
-    let names = page_names c.args.cache 0 c.args.pages in
-    let named = is_named a c.args.cache in
-    let there = pages_once a c.requires.ready.retire.whole c.args.cache c.args.pages c.requires.pages in
     let b = c.forget_touched.new.caches in
     let d = c.settle.new.caches in
+    let f = c.forget_touched.ensures in
+    let r = c.retire_pages.ensures in
     let s = c.settle.ensures in
     let room = ap (λ (k : Arena). k.room.nodes) f.same.rest in
     let made = ap (λ (k : Arena). k.made) f.same.rest in
     let fewer : length (own_states d) ≤ length (own_states a) = omega (arith, f.count, s.fewer, r.fewer) in
     record {
-      rule = (record {
-        nodes =
-            e.rule.nodes ∙ ap settle (r.rule.nodes ∙ ap (retire_all names) f.rule.rule.nodes)
-            ∙ destroy_named Zero named names f.rule.some (forest_of a) consistent there saved f.rule.among;
-        forest = λ told size fit.
-            let w = world told size a u in
-            let one = (f.kept.gives_back told size fit).tied in
-            let two = (r.kept.gives_back told size one).tied in
-            e.rule.forest told size two ∙ ap settle (r.rule.forest told size one ∙ ap (retire_all names) (f.rule.rule.forest told size fit))
-            ∙ destroy_named (zeros_told w) named names f.rule.some (store_forest w) (store_consistent w sound consistent) (store_pages w sound names there) (λ named x i. store_saved w sound x (saved named x i)) f.rule.among;
-        frames =
-            e.rule.frames ∙ ap settle (r.rule.frames ∙ ap (retire_all names) f.rule.rule.frames)
-            ∙ destroy_named None named names f.rule.some (frame_forest a m) (frame_consistent a m sound consistent) (frame_pages a m sound names there) (λ named x i. frame_saved a m sound x (saved named x i)) f.rule.among;
-      });
-      kept = (let r = released c in
-          record { gives_back = r.gives_back; sound = r.sound; tied = r.tied; pinned = r.pinned; sizes = r.sizes; homes = r.homes });
-      empties = (record {
-        settles = record {
-          settled = s.settled;
-          bounded = s.bounded;
-          made = omega (arith, made, s.counters.0, r.made);
-          copies = sym (forest_of-copies d) ∙ ap (λ (g : Forest OwnState). g.copies) (returns-clause-rule c).nodes ∙ destroy_counts_saves false (page_names c.args.cache 0 c.args.pages) (forest_of a) ∙ forest_of-copies a;
-        };
-        consistent = s.consistent;
-        empty = emptied_now c;
-        whole = whole_emptied b c.retire_pages.new.caches d f.whole c.args.cache c.args.pages (f.kept.sizes.sizes c.args.cache.0 ∙ c.requires.pages) r.rule.nodes r.consistent r.kept.sizes r.few s.rule.nodes s.kept.sound s.kept.sizes;
-        right = right_after [] c.args.store.now a c.settle.new.store d (released c) (λ n some i. absurd i) (λ enough. omega (arith, enough, fewer));
-        room = omega (arith, room, s.room, r.room);
-        fewer = fewer;
-      });
-      translations = (destroy_replaces a c.args.store.now c.settle.new.caches c.settle.new.store c.requires.ready.retire.whole.sound c.requires.ready.retire.whole.consistent (released c).tables
-          (page_names c.args.cache 0 c.args.pages) (pages_once a c.requires.ready.retire.whole c.args.cache c.args.pages c.requires.pages) (returns-clause-rule c).nodes (returns-clause-rule c).frames);
+      settles = record {
+        settled = s.settled;
+        bounded = s.bounded;
+        made = omega (arith, made, s.counters.0, r.made);
+        copies = sym (forest_of-copies d) ∙ ap (λ (g : Forest OwnState). g.copies) (returns-clause-rule c).nodes ∙ destroy_counts_saves false (page_names c.args.cache 0 c.args.pages) (forest_of a) ∙ forest_of-copies a;
+      };
+      consistent = s.consistent;
+      empty = emptied_now c;
+      whole = whole_emptied b c.retire_pages.new.caches d f.whole c.args.cache c.args.pages (f.kept.sizes.sizes c.args.cache.0 ∙ c.requires.pages) r.rule.nodes r.consistent r.kept.sizes r.few s.rule.nodes s.kept.sound s.kept.sizes;
+      right = right_after [] c.args.store.now a c.settle.new.store d (released c) (λ n some i. absurd i) (λ enough. omega (arith, enough, fewer));
+      room = omega (arith, room, s.room, r.room);
+      fewer = fewer;
     }
+
+pub returns-clause-translations : goal.returns-clause-translations
+returns-clause-translations c =
+    let a = c.args.caches.now in
+    destroy_replaces a c.args.store.now c.settle.new.caches c.settle.new.store c.requires.ready.retire.whole.sound c.requires.ready.retire.whole.consistent (released c).tables
+    (page_names c.args.cache 0 c.args.pages) (pages_once a c.requires.ready.retire.whole c.args.cache c.args.pages c.requires.pages) (returns-clause-rule c).nodes (returns-clause-rule c).frames

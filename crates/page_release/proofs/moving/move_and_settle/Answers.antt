@@ -67,8 +67,8 @@ settle-requires-clause-unpinned c k =
     unpinned_kept [] c.forget_named.new.store c.forget_named.new.caches c.move_each.new.store c.move_each.new.caches f.kept.tied r.kept (Working k)
     (unpinned_kept (page_names c.args.span.to c.args.span.to_page.0 c.args.span.pages) c.args.store.now c.args.caches.now c.forget_named.new.store c.forget_named.new.caches c.requires.ready.retire.tied f.kept (Working k) (c.requires.ready.working k))
 
-pub returns : goal.returns
-returns c =
+pub returns-clause-rule : goal.returns-clause-rule
+returns-clause-rule c =
     let a = c.args.caches.now in
     let u = c.args.store.now in
     let m = u.map in
@@ -84,37 +84,49 @@ returns c =
     let named = is_named a s.to in
     let can = c.requires.transfer.can in
     let names = sym (destination_names s) in
-    let t = c.forget_named.new.store in
-    let d = c.settle.new.caches in
-    let kept = returns-clause-kept c in
     record {
-      rule = (record {
-        nodes =
-            e.rule.nodes ∙ ap settle r.rule.nodes
-            ∙ ap (move_ false Zero pairs) (f.rule.nodes ∙ ap (λ xs. forgotten_where named xs Zero (forest_of a)) names)
-            ∙ move_forgotten named pairs (forest_of a) consistent can saved Zero Zero;
-        forest = λ told size fit.
-            let w = world told size a u in
-            let one = (f.kept.gives_back told size fit).tied in
-            let two = (r.kept.gives_back told size one).tied in
-            e.rule.forest told size two ∙ ap settle (r.rule.forest told size one)
-            ∙ ap (λ z. settle (move_pages z pairs (store_forest (world told size b.caches b.store)))) (ap (λ (k : ℕ). option_map (λ _. replicate k 0) told) (f.kept.gives_back told size fit).page)
-            ∙ ap (move_ false (zeros_told w) pairs) (f.rule.forest told size fit ∙ ap (λ xs. forgotten_where named xs (zeros_told w) (store_forest w)) names)
-            ∙ move_forgotten named pairs (store_forest w) (store_consistent w sound consistent) (store_can w sound pairs can) (λ named x i. store_saved w sound x (saved named x i)) (zeros_told w) (zeros_told w);
-        frames =
-            e.rule.frames ∙ ap settle r.rule.frames
-            ∙ ap (move_ false None pairs) (f.rule.frames ∙ ap (λ xs. forgotten_where named xs None (frame_forest a m)) names)
-            ∙ move_forgotten named pairs (frame_forest a m) (frame_consistent a m sound consistent) (frame_can a m sound pairs can) (λ named x i. frame_saved a m sound x (saved named x i)) None None;
-      });
-      kept = (let names = page_names s.to s.to_page.0 s.pages in
-          let b = c.forget_named.new.caches in
-          let f = c.forget_named.ensures.kept in
-          let rest = kept_both t b c.move_each.new.store c.move_each.new.caches c.settle.new.store c.settle.new.caches f.tied c.move_each.ensures.kept c.settle.ensures.kept in
-          kept_then names [] (firsts (span_pairs s)) c.args.store.now c.args.caches.now t b c.settle.new.store c.settle.new.caches c.requires.ready.retire.tied (λ x i. subst (λ xs. x ∈ xs) (sym (destination_names s)) i) (λ x i. absurd i) f rest);
-      pages = (let names = firsts (span_pairs c.args.span) in
-          pages_kept c.args.span.pages names c.args.store.now a c.forget_named.new.caches c.move_each.new.caches c.settle.new.store d kept c.requires.ready.retire.whole c.requires.room f.same
-          f.whole r.grows r.kept.sizes e.rule.nodes e.kept.sound e.kept.sizes e.settled e.bounded e.counters.0 e.room
-          (writable_after names a d kept.sizes c.requires.transfer.granted) (ap (λ (g : Forest OwnState). g.copies) (returns-clause-rule c).nodes ∙ move_counts_saves false Zero (span_pairs c.args.span) (forest_of a)));
-      translations = (move_replaces c.args.caches.now c.args.store.now c.settle.new.caches c.settle.new.store c.requires.ready.retire.whole.sound c.requires.ready.retire.whole.consistent (returns-clause-kept c).tables
-          (span_pairs c.args.span) c.requires.transfer.can (returns-clause-rule c).nodes (returns-clause-rule c).frames);
+      nodes =
+          e.rule.nodes ∙ ap settle r.rule.nodes
+          ∙ ap (move_ false Zero pairs) (f.rule.nodes ∙ ap (λ xs. forgotten_where named xs Zero (forest_of a)) names)
+          ∙ move_forgotten named pairs (forest_of a) consistent can saved Zero Zero;
+      forest = λ told size fit.
+          let w = world told size a u in
+          let one = (f.kept.gives_back told size fit).tied in
+          let two = (r.kept.gives_back told size one).tied in
+          e.rule.forest told size two ∙ ap settle (r.rule.forest told size one)
+          ∙ ap (λ z. settle (move_pages z pairs (store_forest (world told size b.caches b.store)))) (ap (λ (k : ℕ). option_map (λ _. replicate k 0) told) (f.kept.gives_back told size fit).page)
+          ∙ ap (move_ false (zeros_told w) pairs) (f.rule.forest told size fit ∙ ap (λ xs. forgotten_where named xs (zeros_told w) (store_forest w)) names)
+          ∙ move_forgotten named pairs (store_forest w) (store_consistent w sound consistent) (store_can w sound pairs can) (λ named x i. store_saved w sound x (saved named x i)) (zeros_told w) (zeros_told w);
+      frames =
+          e.rule.frames ∙ ap settle r.rule.frames
+          ∙ ap (move_ false None pairs) (f.rule.frames ∙ ap (λ xs. forgotten_where named xs None (frame_forest a m)) names)
+          ∙ move_forgotten named pairs (frame_forest a m) (frame_consistent a m sound consistent) (frame_can a m sound pairs can) (λ named x i. frame_saved a m sound x (saved named x i)) None None;
     }
+
+pub returns-clause-kept : goal.returns-clause-kept
+returns-clause-kept c =
+    let s = c.args.span in
+    let names = page_names s.to s.to_page.0 s.pages in
+    let t = c.forget_named.new.store in
+    let b = c.forget_named.new.caches in
+    let f = c.forget_named.ensures.kept in
+    let rest = kept_both t b c.move_each.new.store c.move_each.new.caches c.settle.new.store c.settle.new.caches f.tied c.move_each.ensures.kept c.settle.ensures.kept in
+    kept_then names [] (firsts (span_pairs s)) c.args.store.now c.args.caches.now t b c.settle.new.store c.settle.new.caches c.requires.ready.retire.tied (λ x i. subst (λ xs. x ∈ xs) (sym (destination_names s)) i) (λ x i. absurd i) f rest
+
+pub returns-clause-pages : goal.returns-clause-pages
+returns-clause-pages c =
+    let names = firsts (span_pairs c.args.span) in
+    let a = c.args.caches.now in
+    let d = c.settle.new.caches in
+    let f = c.forget_named.ensures in
+    let r = c.move_each.ensures in
+    let e = c.settle.ensures in
+    let kept = returns-clause-kept c in
+    pages_kept c.args.span.pages names c.args.store.now a c.forget_named.new.caches c.move_each.new.caches c.settle.new.store d kept c.requires.ready.retire.whole c.requires.room f.same
+    f.whole r.grows r.kept.sizes e.rule.nodes e.kept.sound e.kept.sizes e.settled e.bounded e.counters.0 e.room
+    (writable_after names a d kept.sizes c.requires.transfer.granted) (ap (λ (g : Forest OwnState). g.copies) (returns-clause-rule c).nodes ∙ move_counts_saves false Zero (span_pairs c.args.span) (forest_of a))
+
+pub returns-clause-translations : goal.returns-clause-translations
+returns-clause-translations c =
+    move_replaces c.args.caches.now c.args.store.now c.settle.new.caches c.settle.new.store c.requires.ready.retire.whole.sound c.requires.ready.retire.whole.consistent (returns-clause-kept c).tables
+    (span_pairs c.args.span) c.requires.transfer.can (returns-clause-rule c).nodes (returns-clause-rule c).frames
