@@ -1,5 +1,5 @@
 use Rattle.std.proofs.Common.{◌≡◌, ℕ, ◌+◌, ◌-◌, ◌<◌, ◌≤◌, length}
-use Rattle.vm_ids.specs.Forest.Commands.{extent_names, page_name, page_names}
+use Rattle.vm_ids.specs.Forest.Commands.{extent_names, page_name}
 use Rattle.local_cache.specs.Own.{own_states}
 use Rattle.residency.specs.World.{SameNodes}
 use Rattle.page_release.specs.Homes.{MayGo}

@@ -1,5 +1,5 @@
 use Rattle.std.proofs.Common.{◌+◌, is_some, sym, ap, ◌∙◌, subst, inl}
-use Rattle.vm_ids.specs.Forest.Commands.{extent_names, page_names}
+use Rattle.vm_ids.specs.Forest.Commands.{extent_names}
 use Rattle.vm_ids.proofs.Forest.Laws.Ranges.{ranges_hold_their_pages}
 use Rattle.page_release.specs.Homes.{MayGo}
 use Rattle.page_release.proofs.Forgotten.Law.{forgotten_whole}

@@ -4,7 +4,7 @@ use Rattle.std.proofs.lemmas.Bool.{false≢true}
 use Rattle.vm_ids.proofs.Forest.Laws.Ranges.{ranges_hold_their_pages}
 use Rattle.vm_ids.specs.declared.node_name.NodeName.{NodeName}
 use Rattle.vm_ids.specs.declared.node_name.NodeName.TheVariants.{Working}
-use Rattle.vm_ids.specs.Forest.Commands.{extent_names, page_name, page_names, replace_pages}
+use Rattle.vm_ids.specs.Forest.Commands.{extent_names, page_name, replace_pages}
 use Rattle.vm_ids.specs.Forest.NameLists.{◌∈◌}
 use Rattle.vm_ids.specs.Forest.Nodes.{Forest}
 use Rattle.vm_ids.specs.Forest.Settling.{settle}

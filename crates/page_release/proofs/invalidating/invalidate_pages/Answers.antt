@@ -1,4 +1,4 @@
-use Rattle.vm_ids.specs.Forest.Commands.{extent_names, page_names}
+use Rattle.vm_ids.specs.Forest.Commands.{extent_names}
 use Rattle.vm_ids.specs.Forest.NameLists.{◌∈◌}
 use Rattle.page_release.proofs.StaleTranslations.Behind.{goes_behind, kept_behind, pages_behind, ready_behind}
 use Rattle.page_release.proofs.StaleTranslations.Left.{leaves, ready_first}

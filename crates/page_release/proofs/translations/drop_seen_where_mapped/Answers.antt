@@ -1,5 +1,5 @@
 use Rattle.std.proofs.Common.{Bool, sym, ap, ◌∙◌}
-use Rattle.vm_ids.specs.Forest.Commands.{extent_names, page_names}
+use Rattle.vm_ids.specs.Forest.Commands.{extent_names}
 use Rattle.residency.specs.Translating.{without}
 use Rattle.residency.proofs.Translations.Dropped.{without_none}
 use Rattle.page_release.specs.Translating.{is_seen, where_mapped}
