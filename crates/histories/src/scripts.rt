@@ -1,14 +1,23 @@
 // The language by values from outside: lines that are none of its forms, and the text of each kind
 // of answer.
 use actor_script::{Gen, read_line, write_reply};
+use std::process::Abort;
 use vm_ids::{
     ActorId, Answer, CacheId, Counts, Extent, FaultAt, Mapping, NoMemory, PageNo, Prot, Refusal,
     RegionId, RegionStatus, Reply, Trouble,
 };
 use vm_port::MemorySink;
 
+// A line that is none of the forms.
+fn refused(rt: &impl Abort, line: &[u8]) {
+    match read_line(line) {
+        Ok(_) => panic!(rt; "a command"),
+        Err(refusal) => assert_eq!(rt; refusal, Refusal::BadLine),
+    }
+}
+
 #[test]
-fn lines_outside_the_grammar_are_refused(rt: HostRuntime) {
+fn spaces_and_letters_outside_the_grammar_are_refused(rt: HostRuntime) {
     for line in [
         b" actor".as_slice(),
         b"actor ",
@@ -18,7 +27,21 @@ fn lines_outside_the_grammar_are_refused(rt: HostRuntime) {
         b"\tactor",
         b"load\ta1 10000 1",
         b"actor\r",
-        b"actor 1",
+        b"load a1  1",
+        b"Actor",
+        b"ACTOR",
+        b"act\xc3\xb6r",
+        b"temp \xff",
+        b"#",
+    ] {
+        refused(&rt, line);
+    }
+}
+
+#[test]
+fn actors_and_caches_outside_the_grammar_are_refused(rt: HostRuntime) {
+    for line in [
+        b"actor 1".as_slice(),
         b"temp",
         b"temp 0",
         b"temp 01",
@@ -26,32 +49,46 @@ fn lines_outside_the_grammar_are_refused(rt: HostRuntime) {
         b"temp -1",
         b"temp 4294967296",
         b"temp 99999999999",
-        b"load a1 10000 0",
-        b"load a1 10000 65",
-        b"load a1 10000 01",
-        b"load a1 1000000000000 1",
-        b"load a1 1000g 1",
-        b"load a1  1",
-        b"load 1 10000 1",
-        b"load c1 10000 1",
-        b"load a01 10000 1",
-        b"load a1 10000",
-        b"store a1 10000 0",
-        b"store a1 10000 001",
-        b"store a1 10000 0g",
-        b"store a1 10000 0000000000000000000000000000000000000000000000000000000000000000000000000000000000000000000000000000000000000000000000000000000000",
-        b"map a1 c1 0 1 10000 w",
-        b"map a1 c1 0 1 10000 RW",
-        b"map a1 c1 0 0 10000 rw",
-        b"map a1 c1 0 1 10000 rw rw",
         b"copy c1 0 c2 0 0",
         b"copy c1 0 c2 0 1 1",
-        b"Actor",
-        b"ACTOR",
         b"exit",
         b"exit 1",
         b"exit r1",
         b"exit a1 a2",
+        b"stat 1",
+        b"chain c1",
+        b"chain c1 0 1",
+        b"destroy 1",
+        b"move c1 0 c2 0 0",
+        b"pageout 0",
+    ] {
+        refused(&rt, line);
+    }
+}
+
+#[test]
+fn segments_outside_the_grammar_are_refused(rt: HostRuntime) {
+    for line in [
+        b"open".as_slice(),
+        b"open s1",
+        b"open 01",
+        b"sync c1 0",
+        b"sync c1 0 0",
+        b"flush 1 0 1",
+        b"flush c1 0 1 1",
+        b"invalidate c1 1",
+    ] {
+        refused(&rt, line);
+    }
+}
+
+#[test]
+fn regions_outside_the_grammar_are_refused(rt: HostRuntime) {
+    for line in [
+        b"map a1 c1 0 1 10000 w".as_slice(),
+        b"map a1 c1 0 1 10000 RW",
+        b"map a1 c1 0 0 10000 rw",
+        b"map a1 c1 0 1 10000 rw rw",
         b"split r1",
         b"split r1 0",
         b"split r1 01",
@@ -74,34 +111,35 @@ fn lines_outside_the_grammar_are_refused(rt: HostRuntime) {
         b"find a1 1000g",
         b"find a1 0x1000",
         b"find a1 10000 1",
-        b"stat 1",
-        b"chain c1",
-        b"chain c1 0 1",
-        b"destroy 1",
         b"unmap c1",
         b"lock",
         b"lock a1",
         b"lock r1 1",
         b"unlock 1",
         b"unlock r1 r2",
-        b"open",
-        b"open s1",
-        b"open 01",
-        b"sync c1 0",
-        b"sync c1 0 0",
-        b"flush 1 0 1",
-        b"flush c1 0 1 1",
-        b"invalidate c1 1",
-        b"pageout 0",
-        b"move c1 0 c2 0 0",
-        b"act\xc3\xb6r",
-        b"temp \xff",
-        b"#",
     ] {
-        match read_line(line) {
-            Ok(_) => panic!(&rt; "a command"),
-            Err(refusal) => assert_eq!(&rt; refusal, Refusal::BadLine),
-        }
+        refused(&rt, line);
+    }
+}
+
+#[test]
+fn accesses_outside_the_grammar_are_refused(rt: HostRuntime) {
+    for line in [
+        b"load a1 10000 0".as_slice(),
+        b"load a1 10000 65",
+        b"load a1 10000 01",
+        b"load a1 1000000000000 1",
+        b"load a1 1000g 1",
+        b"load 1 10000 1",
+        b"load c1 10000 1",
+        b"load a01 10000 1",
+        b"load a1 10000",
+        b"store a1 10000 0",
+        b"store a1 10000 001",
+        b"store a1 10000 0g",
+        b"store a1 10000 0000000000000000000000000000000000000000000000000000000000000000000000000000000000000000000000000000000000000000000000000000000000",
+    ] {
+        refused(&rt, line);
     }
 }
 

@@ -255,7 +255,7 @@ impl Both {
         self.compare(rt, node);
     }
 
-    // A node of a page that stands by itself is renewed, if it is a leaf.
+    // A node is renewed exactly where nothing hangs on it, and it hangs by no stub link.
     pub(crate) fn renew_leaf(&mut self, rt: &impl Abort, node: NodeId, own: OwnState)
         requires { IsKnown self.old.caches self.old.nodes.items self.old.vacant.items }
         ensures { IsKnown self.new.caches self.new.nodes.items self.new.vacant.items }
@@ -263,14 +263,8 @@ impl Both {
         if !self.has_node(node) || !self.has_parent(node) {
             return;
         }
-        let Some(was) = self.caches.renew_leaf(node, own) else {
-            self.compare(rt, node);
-            return;
-        };
-        let slow = self.slow.node(node).expect(rt, "the node is there");
-        assert_eq!(rt; was, slow.own);
-        assert!(rt; slow.is_leaf() && !slow.links.by_stub);
-        self.slow.renew_leaf(node, own);
+        let was = self.caches.renew_leaf(node, own);
+        assert_eq!(rt; was, self.slow.renew_leaf(node, own));
         self.compare(rt, node);
     }
 

@@ -4,6 +4,8 @@ use super::rows::accesses;
 use crate::asked::{Asked, Generated, Size};
 use crate::words::read_words;
 use crate::{Status, folder, page_size};
+use std::alloc::Global;
+use std::process::Abort;
 use vm_ids::NoMemory;
 use vm_port::{MemorySink, MemorySource};
 
@@ -102,18 +104,28 @@ fn the_script_of_a_trial_stands_anywhere(rt: HostRuntime) {
     }
 }
 
+fn asks_for_nothing(rt: &impl Abort, alloc: Global, words: &[&str]) {
+    assert_eq!(rt; read_words(alloc, words), Ok(None), "{words:?}");
+}
+
 #[test]
-fn other_words_ask_for_nothing(rt: HostRuntime) {
+fn other_commands_ask_for_nothing(rt: HostRuntime) {
     for words in [
         [].as_slice(),
-        // the command
         &["run"],
         &["Run", "--frames", "3"],
         &["--frames", "3", "run"],
         &["--frames", "3"],
         &["run", "run", "--frames", "3"],
-        // the number of page frames
-        &["run", "--frames"],
+    ] {
+        asks_for_nothing(&rt, rt.alloc(), words);
+    }
+}
+
+#[test]
+fn other_numbers_of_page_frames_ask_for_nothing(rt: HostRuntime) {
+    for words in [
+        ["run", "--frames"].as_slice(),
         &["run", "--frames="],
         &["run", "--frames", ""],
         &["run", "--frames", "2"],
@@ -126,18 +138,32 @@ fn other_words_ask_for_nothing(rt: HostRuntime) {
         &["run", "--frames", "3", "3"],
         &["run", "3", "--frames", "3"],
         &["run", "--page", "512"],
-        // the size of a page
-        &["run", "--frames", "8", "--page"],
+    ] {
+        asks_for_nothing(&rt, rt.alloc(), words);
+    }
+}
+
+#[test]
+fn other_sizes_of_a_page_ask_for_nothing(rt: HostRuntime) {
+    for words in [
+        ["run", "--frames", "8", "--page"].as_slice(),
         &["run", "--frames", "8", "--page", ""],
         &["run", "--frames", "8", "--page", "1000"],
         &["run", "--frames", "8", "--page=256"],
         &["run", "--frames", "3", "--page", "131072"],
         &["run", "--frames", "8", "--page", "0512"],
-        // both
+        // with the number of page frames
         &["run", "--frames", "4097", "--page", "65536"],
         &["run", "--frames=65536", "--page=8192"],
-        // the folder
-        &["run", "--frames", "3", "--segments"],
+    ] {
+        asks_for_nothing(&rt, rt.alloc(), words);
+    }
+}
+
+#[test]
+fn other_folders_ask_for_nothing(rt: HostRuntime) {
+    for words in [
+        ["run", "--frames", "3", "--segments"].as_slice(),
         &["run", "--frames", "3", "--segments="],
         &["run", "--frames", "3", "--segments", ""],
         &["run", "--frames", "3", "--segments", "-x"],
@@ -146,8 +172,16 @@ fn other_words_ask_for_nothing(rt: HostRuntime) {
         &["run", "--frames", "3", "--segments", "--page"],
         &["run", "--frames", "2", "--segments", "d"],
         &["run", "--frames", "3", "--segments", "d", "d"],
+    ] {
+        asks_for_nothing(&rt, rt.alloc(), words);
+    }
+}
+
+#[test]
+fn other_options_ask_for_nothing(rt: HostRuntime) {
+    for words in [
         // an option twice
-        &["run", "--frames", "3", "--frames", "3"],
+        ["run", "--frames", "3", "--frames", "3"].as_slice(),
         &["run", "--frames=3", "--page=512", "--page", "512"],
         &["run", "--segments=d", "--frames=3", "--segments=d"],
         // other options
@@ -170,8 +204,15 @@ fn other_words_ask_for_nothing(rt: HostRuntime) {
         &["run", "--", "--frames", "3"],
         &["run", "--frames", "--", "3"],
         &["run", "--frames", "3", "--segments", "--"],
-        // the script of a number
-        &["generate"],
+    ] {
+        asks_for_nothing(&rt, rt.alloc(), words);
+    }
+}
+
+#[test]
+fn other_scripts_of_a_number_ask_for_nothing(rt: HostRuntime) {
+    for words in [
+        ["generate"].as_slice(),
         &["generate", "0"],
         &["generate", "0", "0"],
         &["generate", "00", "1"],
@@ -182,8 +223,15 @@ fn other_words_ask_for_nothing(rt: HostRuntime) {
         &["generate", "0", "1", "1"],
         &["generate", "0", "1", "--frames", "3"],
         &["generate", "--", "0", "1"],
-        // its trial
-        &["trial"],
+    ] {
+        asks_for_nothing(&rt, rt.alloc(), words);
+    }
+}
+
+#[test]
+fn other_trials_ask_for_nothing(rt: HostRuntime) {
+    for words in [
+        ["trial"].as_slice(),
         &["trial", "0", "1"],
         &["trial", "0", "--frames", "3"],
         &["trial", "0", "1", "1", "--frames", "3"],
@@ -202,7 +250,7 @@ fn other_words_ask_for_nothing(rt: HostRuntime) {
         &["trial", "0", "1", "--frames", "3", "--help"],
         &["trials", "0", "1", "--frames", "3"],
     ] {
-        assert_eq!(&rt; read_words(rt.alloc(), words), Ok(None), "{words:?}");
+        asks_for_nothing(&rt, rt.alloc(), words);
     }
 }
 

@@ -1,5 +1,8 @@
 // The caches in the plainest form: lists that are looked through from the first to the last.
-use local_cache::{Ends, Home, Links, Neighbours, OwnState};
+mod many;
+mod pages;
+
+use local_cache::{Ends, Links, Neighbours, OwnState};
 use std::process::Abort;
 use vm_ids::{CacheId, NodeId, NodeName, PageNo, SegId};
 
@@ -71,14 +74,6 @@ pub fn next(node: NodeId, by: u32) -> NodeId {
     NodeId(node.0.wrapping_add(by as u64))
 }
 
-// The same, of a node or none.
-fn next_if(node: Option<NodeId>, by: u32) -> Option<NodeId> {
-    match node {
-        Some(node) => Some(next(node, by)),
-        None => None,
-    }
-}
-
 // A child, or what comes in the place of the one that goes.
 fn in_place(child: Option<NodeId>, gone: NodeId, instead: Option<NodeId>) -> Option<NodeId> {
     match child {
@@ -98,8 +93,6 @@ pub struct SlowCaches {
 }
 
 impl SlowCaches {
-    // The nodes
-
     pub fn node(&self, number: NodeId) -> Option<SlowNode> {
         for node in &self.nodes {
             if node.number.0 == number.0 {
@@ -117,6 +110,35 @@ impl SlowCaches {
             }
         }
         NodeId(u64::MAX)
+    }
+
+    // The working node with the least number that has fewer than two children.
+    pub fn thin(&self) -> Option<NodeId> {
+        let mut least = u64::MAX;
+        let mut thin = None;
+        for node in &self.nodes {
+            if let Some(number) = node.thin_number() {
+                if number < least {
+                    least = number;
+                    thin = Some(node.number);
+                }
+            }
+        }
+        thin
+    }
+
+    pub fn live(&self) -> usize {
+        self.nodes
+            .iter()
+            .filter(|node| matches!(node.name, NodeName::Live(..)))
+            .count()
+    }
+
+    pub fn working(&self) -> usize {
+        self.nodes
+            .iter()
+            .filter(|node| matches!(node.name, NodeName::Working(_)))
+            .count()
     }
 
     fn put(&mut self, node: SlowNode) {
@@ -254,14 +276,18 @@ impl SlowCaches {
         }
     }
 
-    // It leaves its parent's tree children, and is renewed.
-    pub fn renew_leaf(&mut self, number: NodeId, own: OwnState) {
-        if let Some(node) = self.node(number) {
-            self.renew(number, own);
-            if let Some(parent) = node.links.parent {
-                self.exchange(parent, number, None);
-            }
+    // Where nothing hangs on it, and it hangs by no stub link, it leaves its parent's tree children
+    // and is renewed. Its own state before; or none.
+    pub fn renew_leaf(&mut self, number: NodeId, own: OwnState) -> Option<OwnState> {
+        let node = self.node(number)?;
+        if !node.is_leaf() || node.links.by_stub {
+            return None;
         }
+        self.renew(number, own);
+        if let Some(parent) = node.links.parent {
+            self.exchange(parent, number, None);
+        }
+        Some(node.own)
     }
 
     // A child comes in its place, and it goes. Whether the child gets its own page.
@@ -295,215 +321,5 @@ impl SlowCaches {
 
     pub fn free(&mut self, number: NodeId) {
         self.nodes.retain(|node| node.number.0 != number.0);
-    }
-
-    // Many nodes, one after the other
-
-    pub fn hang_many(&mut self, number: NodeId, count: u32, parent: NodeId) {
-        for place in 0..count {
-            self.hang(next(number, place), Some(next(parent, place)));
-        }
-    }
-
-    pub fn adopt_many(&mut self, number: NodeId, count: u32, child: NodeId) {
-        for place in 0..count {
-            let child = next(child, place);
-            self.set_tree_children(next(number, place), [Some(child), None]);
-        }
-    }
-
-    pub fn exchange_many(
-        &mut self,
-        number: NodeId,
-        count: u32,
-        gone: NodeId,
-        instead: Option<NodeId>,
-    ) {
-        for place in 0..count {
-            let instead = next_if(instead, place);
-            self.exchange(next(number, place), next(gone, place), instead);
-        }
-    }
-
-    pub fn inherit_many(
-        &mut self,
-        number: NodeId,
-        count: u32,
-        own: OwnState,
-        parent: Option<NodeId>,
-    ) {
-        for place in 0..count {
-            let parent = next_if(parent, place);
-            self.inherit(next(number, place), own, parent);
-        }
-    }
-
-    pub fn renew_many(&mut self, number: NodeId, count: u32, own: OwnState) {
-        for place in 0..count {
-            self.renew(next(number, place), own);
-        }
-    }
-
-    pub fn exchange_names_many(&mut self, number: NodeId, other: NodeId, count: u32) {
-        for place in 0..count {
-            self.exchange_names(next(number, place), next(other, place));
-        }
-    }
-
-    pub fn to_working_many(&mut self, number: NodeId, count: u32) {
-        for place in 0..count {
-            let name = self.next_working();
-            self.set_name(next(number, place), name);
-        }
-    }
-
-    pub fn free_many(&mut self, number: NodeId, count: u32) {
-        for place in 0..count {
-            self.free(next(number, place));
-        }
-    }
-
-    // Makes working nodes under these numbers, each over the next two nodes and on the next parent.
-    pub fn add_working(
-        &mut self,
-        rt: &impl Abort,
-        number: NodeId,
-        count: u32,
-        parent: NodeId,
-        older: NodeId,
-        newer: NodeId,
-    ) {
-        for place in 0..count {
-            let node = next(number, place);
-            let name = self.next_working();
-            self.add(rt, node, name, OwnState::Absent);
-            self.hang(node, Some(next(parent, place)));
-            self.set_tree_children(node, [Some(next(older, place)), Some(next(newer, place))]);
-        }
-    }
-
-    // The caches
-
-    // Makes a cache whose pages have no nodes yet.
-    pub fn make(&mut self, rt: &impl Abort, number: CacheId, segment: Option<SegId>, pages: u32) {
-        self.caches_made = self.caches_made.wrapping_add(1);
-        let cache = SlowCache {
-            number,
-            segment,
-            pages,
-        };
-        self.caches.push(cache).expect(rt, "memory");
-        for page in 0..pages {
-            let page = SlowPage {
-                cache: number,
-                page: PageNo(page),
-                granted: false,
-                locks: 0,
-            };
-            self.pages.push(page).expect(rt, "memory");
-        }
-    }
-
-    pub fn remove(&mut self, number: CacheId) {
-        self.caches.retain(|cache| cache.number.0 != number.0);
-        self.pages.retain(|page| page.cache.0 != number.0);
-    }
-
-    pub fn cache(&self, number: CacheId) -> Option<SlowCache> {
-        for cache in &self.caches {
-            if cache.number.0 == number.0 {
-                return Some(*cache);
-            }
-        }
-        None
-    }
-
-    pub fn page(&self, cache: CacheId, number: PageNo) -> Option<SlowPage> {
-        for page in &self.pages {
-            if page.cache.0 == cache.0 && page.page.0 == number.0 {
-                return Some(*page);
-            }
-        }
-        None
-    }
-
-    fn put_page(&mut self, page: SlowPage) {
-        for place in self.pages.iter_mut() {
-            if place.cache.0 == page.cache.0 && place.page.0 == page.page.0 {
-                *place = page;
-            }
-        }
-    }
-
-    pub fn grant(&mut self, cache: CacheId, number: PageNo) {
-        if let Some(page) = self.page(cache, number) {
-            self.put_page(SlowPage {
-                granted: true,
-                ..page
-            });
-        }
-    }
-
-    pub fn add_lock(&mut self, cache: CacheId, number: PageNo) {
-        if let Some(page) = self.page(cache, number) {
-            self.put_page(SlowPage {
-                locks: page.locks.wrapping_add(1),
-                ..page
-            });
-        }
-    }
-
-    pub fn drop_lock(&mut self, cache: CacheId, number: PageNo) {
-        if let Some(page) = self.page(cache, number) {
-            self.put_page(SlowPage {
-                locks: page.locks.wrapping_sub(1),
-                ..page
-            });
-        }
-    }
-
-    // What is told
-
-    // The working node with the least number that has fewer than two children.
-    pub fn thin(&self) -> Option<NodeId> {
-        let mut least = u64::MAX;
-        let mut thin = None;
-        for node in &self.nodes {
-            if let Some(number) = node.thin_number() {
-                if number < least {
-                    least = number;
-                    thin = Some(node.number);
-                }
-            }
-        }
-        thin
-    }
-
-    pub fn home(&self, name: NodeName) -> Option<Home> {
-        match name {
-            NodeName::Live(cache, page) => Some(Home {
-                segment: self.cache(cache)?.segment?,
-                page,
-            }),
-            NodeName::Working(_) => None,
-        }
-    }
-
-    pub fn live(&self) -> usize {
-        self.nodes
-            .iter()
-            .filter(|node| matches!(node.name, NodeName::Live(..)))
-            .count()
-    }
-
-    pub fn working(&self) -> usize {
-        self.nodes
-            .iter()
-            .filter(|node| matches!(node.name, NodeName::Working(_)))
-            .count()
-    }
-
-    pub fn locked(&self) -> usize {
-        self.pages.iter().filter(|page| page.locks > 0).count()
     }
 }
