@@ -70,6 +70,25 @@ returns-else-not-is_absent-clause-clean g c = others_clean_but _ _ c.owner_of-ow
 pub returns-else-not-is_absent-clause-synced : goal.returns-else-not-is_absent-clause-synced
 returns-else-not-is_absent-clause-synced g c = subst (λ w. IsSynced w c.args.node) (sym (pushed_is _ _ _ _ c.bring_in.new.caches _ _ c.bring_in.new.self c.args.home c.in-Ok.frame.0 _ _ c.in_ok-push_out.ensures.ok c.bytes.ensures.bytes c.frames.ensures c.in_ok-push_out.ensures.page refl)) (inherited_synced (read_in g (goal.at.returns-else-not-is_absent-clause-synced g c).In-Ok) (search rules))
 
+pub returns-then-not-is_absent-clause-still : goal.returns-then-not-is_absent-clause-still
+returns-then-not-is_absent-clause-still g c =
+    let some : is_absent (own_of c.bring_in.new.caches c.args.node) ≡ false = search rules in
+    subst (Still _) (sym (pushed_is _ _ _ _ c.bring_in.new.caches _ _ c.bring_in.new.self c.args.home c.in-Ok.frame.0 _ _ c.in_ok-push_out.ensures.ok c.bytes.ensures.bytes c.frames.ensures c.in_ok-push_out.ensures.page c.set_state.ensures.changed)) (own_still (read_in g (goal.at.returns-then-not-is_absent-clause-still g c).In-Ok) some)
+
+pub returns-then-not-is_absent-clause-told : goal.returns-then-not-is_absent-clause-told
+returns-then-not-is_absent-clause-told g c = tells_as _ _ _ _ _ (ap (λ (w : World). w.told) (pushed_is _ _ _ _ c.bring_in.new.caches _ _ c.bring_in.new.self c.args.home c.in-Ok.frame.0 _ _ c.in_ok-push_out.ensures.ok c.bytes.ensures.bytes c.frames.ensures c.in_ok-push_out.ensures.page c.set_state.ensures.changed)) (page_told (read_in g (goal.at.returns-then-not-is_absent-clause-told g c).In-Ok) _ _ _ c.in-Ok.ensures.told (pushed_later _ _ c.in_ok-push_out.ensures.counts) c.in_ok-push_out.ensures.counts.pushed)
+
+pub returns-then-not-is_absent-clause-clean : goal.returns-then-not-is_absent-clause-clean
+returns-then-not-is_absent-clause-clean g c =
+    let some : is_absent (own_of c.bring_in.new.caches c.args.node) ≡ false = search rules in
+    let first = others_clean_but _ _ c.owner_of-owner.result c.requires.right.store c.in-Ok.ensures.others c.in-Ok.ensures.state in
+    subst (CleanStays c.args.caches.now) (sym c.set_state.ensures.changed) (λ m clean. own_clean (read_in g (goal.at.returns-then-not-is_absent-clause-clean g c).In-Ok) some m (first m clean))
+
+pub returns-then-not-is_absent-clause-synced : goal.returns-then-not-is_absent-clause-synced
+returns-then-not-is_absent-clause-synced g c =
+    let some : is_absent (own_of c.bring_in.new.caches c.args.node) ≡ false = search rules in
+    subst (λ w. IsSynced w c.args.node) (sym (pushed_is _ _ _ _ c.bring_in.new.caches _ _ c.bring_in.new.self c.args.home c.in-Ok.frame.0 _ _ c.in_ok-push_out.ensures.ok c.bytes.ensures.bytes c.frames.ensures c.in_ok-push_out.ensures.page c.set_state.ensures.changed)) (own_synced (read_in g (goal.at.returns-then-not-is_absent-clause-synced g c).In-Ok) some)
+
 pub returns-in_default-clause-drops : goal.returns-in_default-clause-drops
 returns-in_default-clause-drops g c =
     let owner = owns g (goal.at.returns-in_default-clause-drops g c).After-owner_of-owner in
@@ -85,21 +104,10 @@ returns-else-not-is_absent-clause-drops g c =
     let owner = owns g (goal.at.returns-else-not-is_absent-clause-drops g c).After-owner_of-owner in
     owner_drops _ _ _ _ c.args.caches.now c.bring_in.new.caches c.args.store.now c.bring_in.new.self c.args.node c.owner_of-owner.result owner c.requires.right.store c.in-Ok.ensures.still c.in-Ok.ensures.tables _ _ c.bring_in.new.caches c.in-Ok.ensures.others
 
-pub returns-then-not-is_absent : goal.returns-then-not-is_absent
-returns-then-not-is_absent g c =
+pub returns-then-not-is_absent-clause-drops : goal.returns-then-not-is_absent-clause-drops
+returns-then-not-is_absent-clause-drops g c =
     let some : is_absent (own_of c.bring_in.new.caches c.args.node) ≡ false = search rules in
-    let first = others_clean_but _ _ c.owner_of-owner.result c.requires.right.store c.in-Ok.ensures.others c.in-Ok.ensures.state in
-    let owner = owns g (goal.at.returns-then-not-is_absent g c).After-owner_of-owner in
+    let owner = owns g (goal.at.returns-then-not-is_absent-clause-drops g c).After-owner_of-owner in
     let clean : Arena = with_own c.bring_in.new.caches c.args.node (Resident false) in
-    record {
-      still = subst (Still _) (sym (pushed_is _ _ _ _ c.bring_in.new.caches _ _ c.bring_in.new.self c.args.home c.in-Ok.frame.0 _ _ c.in_ok-push_out.ensures.ok c.bytes.ensures.bytes c.frames.ensures c.in_ok-push_out.ensures.page c.set_state.ensures.changed)) (own_still (read_in g (goal.at.returns-then-not-is_absent g c).In-Ok) some);
-      told = tells_as _ _ _ _ _ (ap (λ (w : World). w.told) (pushed_is _ _ _ _ c.bring_in.new.caches _ _ c.bring_in.new.self c.args.home c.in-Ok.frame.0 _ _ c.in_ok-push_out.ensures.ok c.bytes.ensures.bytes c.frames.ensures c.in_ok-push_out.ensures.page c.set_state.ensures.changed)) (page_told (read_in g (goal.at.returns-then-not-is_absent g c).In-Ok) _ _ _ c.in-Ok.ensures.told (pushed_later _ _ c.in_ok-push_out.ensures.counts) c.in_ok-push_out.ensures.counts.pushed);
-      pinned = search rules;
-      later = search rules;
-      clean = subst (CleanStays c.args.caches.now) (sym c.set_state.ensures.changed) (λ m clean. own_clean (read_in g (goal.at.returns-then-not-is_absent g c).In-Ok) some m (first m clean));
-      synced = subst (λ w. IsSynced w c.args.node) (sym (pushed_is _ _ _ _ c.bring_in.new.caches _ _ c.bring_in.new.self c.args.home c.in-Ok.frame.0 _ _ c.in_ok-push_out.ensures.ok c.bytes.ensures.bytes c.frames.ensures c.in_ok-push_out.ensures.page c.set_state.ensures.changed)) (own_synced (read_in g (goal.at.returns-then-not-is_absent g c).In-Ok) some);
-      most = search rules;
-      cause = search rules;
-      drops = (subst (λ (x : Arena). Drops (IsOwner c.args.caches.now c.args.node) c.args.caches.now c.args.store.now x c.bring_in.new.self) (sym c.set_state.ensures.changed)
-          (owner_drops _ _ _ _ c.args.caches.now clean c.args.store.now c.bring_in.new.self c.args.node c.owner_of-owner.result owner c.requires.right.store (own_still (read_in g (goal.at.returns-then-not-is_absent g c).In-Ok) some) c.in-Ok.ensures.tables _ _ c.bring_in.new.caches c.in-Ok.ensures.others));
-    }
+    subst (λ (x : Arena). Drops (IsOwner c.args.caches.now c.args.node) c.args.caches.now c.args.store.now x c.bring_in.new.self) (sym c.set_state.ensures.changed)
+    (owner_drops _ _ _ _ c.args.caches.now clean c.args.store.now c.bring_in.new.self c.args.node c.owner_of-owner.result owner c.requires.right.store (own_still (read_in g (goal.at.returns-then-not-is_absent-clause-drops g c).In-Ok) some) c.in-Ok.ensures.tables _ _ c.bring_in.new.caches c.in-Ok.ensures.others)
