@@ -1,5 +1,5 @@
 -- Calls without a mapper that change actors alone, or nothing.
-use Rattle.std.proofs.Common.{◌≡◌, ℕ, [], length, Option, Some, refl, sym, subst}
+use Rattle.std.proofs.Common.{◌≡◌, ℕ, [], length, Option, Some, refl}
 use Rattle.vm_ids.specs.Counting.{no_counts}
 use Rattle.vm_ids.specs.Held.{Held, Segments, segments_of}
 use Rattle.vm_ids.specs.declared.command.Command.{Command}
@@ -22,7 +22,7 @@ use Rattle.residency.specs.declared.store.Store.{Store}
 use Rattle.contexts.specs.Actors.{Actors, machine_with}
 use Rattle.pvm_core.specs.Manager.{IsValid, Manager, caches_shown, forest_of, machine_of, state_at}
 use Rattle.pvm_core.proofs.Answering.Answered.{seated}
-use Rattle.pvm_core.proofs.Answering.Kept.{seated_valid, seen}
+use Rattle.pvm_core.proofs.Answering.Kept.{seated_valid, seen, valid_seen, answer_seen, answer_still}
 
 -- a command that saves nothing, locks nothing, reaches no mapper, and leaves the segments and the
 -- forest
@@ -36,7 +36,7 @@ pub record IsOfActors (command : Command) : Type 1 where
 module _ (a : Arena) (s : Store) (t : Actors) (p : Manager) (view : seen a s t ≡ p) (h : Option Held) (valid : IsValid p h) where
   -- a manager that was valid is so with other actors
   pub acted_valid : (u : Actors) → u.page_bytes ≡ t.page_bytes → IsValid (seen a s u) h
-  acted_valid u page = seated_valid (seen a s t) (seen a s u) h refl refl page (subst (λ (p : Manager). IsValid p h) (sym view) valid)
+  acted_valid u page = seated_valid (seen a s t) (seen a s u) h refl refl page (valid_seen view valid)
 
   module _ (command : Command) (of : IsOfActors command) (answer : Answer) (nodes : IsWhole a) where
     -- a call that changes actors
@@ -45,16 +45,14 @@ module _ (a : Arena) (s : Store) (t : Actors) (p : Manager) (view : seen a s t �
         (machine_with (caches_shown f 1 a.caches) (length s.frames.held) u) no_counts)
         → AnswerIs (state_at p h) command answer [] no_counts (state_at (seen a s u) h)
     acted u page outcome =
-        subst (λ (p : Manager). AnswerIs (state_at p h) command answer [] no_counts (state_at (seen a s u) h)) view
-        (seated (seen a s t) (seen a s u) h command answer nodes nodes (acted_valid u page) refl of.none of.reaches (of.synchronised (machine_of (seen a s t) h) (segments_of h) answer) (of.stays (machine_of (seen a s t) h) (machine_of (seen a s u) h)) (of.passes (machine_of (seen a s t) h)) (λ f. outcome f (Some (forest_of (seen a s t) h))))
+        answer_seen h view (seated (seen a s t) (seen a s u) h command answer nodes nodes (acted_valid u page) refl of.none of.reaches (of.synchronised (machine_of (seen a s t) h) (segments_of h) answer) (of.stays (machine_of (seen a s t) h) (machine_of (seen a s u) h)) (of.passes (machine_of (seen a s t) h)) (λ f. outcome f (Some (forest_of (seen a s t) h))))
 
     -- a call that changes nothing
     pub told : ((f : PageForest) (g : Option PageForest) (k : Segments) → Outcome (machine_with (caches_shown f 1 a.caches) (length s.frames.held) t) g command k answer
         (machine_with (caches_shown f 1 a.caches) (length s.frames.held) t) no_counts)
         → AnswerIs (state_at p h) command answer [] no_counts (state_at p h)
     told outcome =
-        subst (λ (p : Manager). AnswerIs (state_at p h) command answer [] no_counts (state_at p h)) view
-        (seated (seen a s t) (seen a s t) h command answer nodes nodes (acted_valid t refl) refl of.none of.reaches (of.synchronised (machine_of (seen a s t) h) (segments_of h) answer) (of.stays (machine_of (seen a s t) h) (machine_of (seen a s t) h)) (of.passes (machine_of (seen a s t) h)) (λ f. outcome f (Some (forest_of (seen a s t) h))))
+        answer_still h view (seated (seen a s t) (seen a s t) h command answer nodes nodes (acted_valid t refl) refl of.none of.reaches (of.synchronised (machine_of (seen a s t) h) (segments_of h) answer) (of.stays (machine_of (seen a s t) h) (machine_of (seen a s t) h)) (of.passes (machine_of (seen a s t) h)) (λ f. outcome f (Some (forest_of (seen a s t) h))))
 
 -- The commands
 

@@ -5,3 +5,4 @@ pub mod Transfers
 pub mod Transferring
 pub mod Reserved
 pub mod Readied
+pub mod Unready

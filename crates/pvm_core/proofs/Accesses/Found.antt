@@ -9,6 +9,9 @@ use Rattle.vm_ids.specs.Counting.{MapperCounts, RoseBy}
 use Rattle.vm_ids.specs.Held.{Held}
 use Rattle.vm_ids.specs.declared.numbers.FrameId.{FrameId}
 use Rattle.vm_ids.specs.declared.numbers.NodeId.{NodeId}
+use Rattle.vm_ids.specs.declared.numbers.PageNo.{PageNo}
+use Rattle.vm_ids.specs.declared.reply.FaultAt.{FaultAt}
+use Rattle.vm_ids.specs.declared.reply.Trouble.TheVariants as troubles
 use Rattle.local_cache.specs.declared.own_state.OwnState.{OwnState}
 use Rattle.local_cache.specs.declared.own_state.OwnState.TheVariants.{Absent, Zero, Resident, Slot, OnSegment}
 use Rattle.local_cache.specs.Arena.{Arena}
@@ -19,8 +22,8 @@ use Rattle.residency.specs.World.{HoldsPage, IsStoreRight, is_pulled, world}
 use Rattle.residency.proofs.Worlds.Homes.{home}
 use Rattle.fault_path.specs.Faults.{IsFound, is_at_hand, is_zero}
 use Rattle.contexts.specs.Actors.{Actors}
-use Rattle.pvm_core.specs.Access.{IsFoundIn}
-use Rattle.pvm_core.specs.Pieces.{bytes_found}
+use Rattle.pvm_core.specs.Access.{IsFoundIn, IsMissAt}
+use Rattle.pvm_core.specs.Pieces.{bytes_found, fault_at}
 use Rattle.pvm_core.proofs.Answering.Kept.{seen}
 
 zero_is : (x : OwnState) → true ≡ is_zero x → x ≡ Zero
@@ -61,6 +64,15 @@ missed_pulls Absent r c d e made idle = subst (λ (q : Result (Option FrameId) M
 missed_pulls (Resident dirty) r c d e made idle = subst (λ (q : Result (Option FrameId) Miss). RoseBy (pulls_for q (Resident dirty)) c.pulls d.pulls) e (made refl).1.pulled
 missed_pulls (Slot s) r c d e made idle = subst (λ (q : Result (Option FrameId) Miss). RoseBy (pulls_for q (Slot s)) c.pulls d.pulls) e (made refl).1.pulled
 missed_pulls OnSegment r c d e made idle = subst (λ (q : Result (Option FrameId) Miss). RoseBy (pulls_for q OnSegment) c.pulls d.pulls) e (made refl).1.pulled
+
+-- and so an access missed its page
+pub missed_at : (x : OwnState) (r : Result (Option FrameId) Miss) (c d : MapperCounts) (miss : Miss) (page : PageNo) (at : FaultAt) → at ≡ fault_at miss page → r ≡ Err miss → (is_zero x ≡ false → (pushes : ℕ) × Traffic (pulls_for r x) pushes c d) → (is_at_hand x ≡ true → IsOk r) → IsMissAt c d (troubles.Mapper at)
+missed_at x r c d miss page at is e made idle = record {
+  miss = miss;
+  page = page;
+  is = ap (λ (f : FaultAt). troubles.Mapper f) is;
+  no_pull = λ victim. missed_pulls x r c d (e ∙ ap (λ (m : Miss). Err m) victim) made idle;
+}
 
 -- a page that isn't at hand is pulled
 pub pulled_one : (x : OwnState) (r : Result (Option FrameId) Miss) (found : Option FrameId) (c d : MapperCounts) → r ≡ Ok found → IsSome (page_of x) → is_at_hand x ≡ false → (is_zero x ≡ false → (pushes : ℕ) × Traffic (pulls_for r x) pushes c d) → RoseBy 1 c.pulls d.pulls

@@ -62,6 +62,10 @@ mapper_call {M = M} {m = m} {command = command} {answer = answer} done valid = r
   page = refl;
 }
 
+-- of a manager that is another
+pub mapper_seen : {X : Type 0} {M : Ghosts X} {m n : X} {p q r : Manager} {command : Command} {answer : Answer} → p ≡ r → MapperCall M meaning m p command answer n q → MapperCall M meaning m r command answer n q
+mapper_seen {M = M} {m = m} {n = n} {q = q} {command = command} {answer = answer} same call = subst (λ (p : Manager). MapperCall M meaning m p command answer n q) same call
+
 -- The mapper was only asked, and then called
 
 module _ (c d e : MapperCounts) (later : Later d e) (asked : Traffic 0 0 c d) where

@@ -7,7 +7,7 @@ use Rattle.vm_ids.specs.declared.command.Command.TheVariants as commands
 use Rattle.vm_ids.specs.declared.node_name.NodeName.{NodeName}
 use Rattle.vm_ids.specs.declared.refusal.Refusal.{Refusal}
 use Rattle.vm_ids.specs.declared.refusal.Refusal.TheVariants as refusals
-use Rattle.local_cache.specs.Arena.{Arena}
+use Rattle.local_cache.specs.Arena.{Arena, HasNode}
 use Rattle.residency.specs.declared.store.Store.{Store}
 use Rattle.page_release.specs.Homes.{IsWritable}
 use Rattle.vm_model.specs.Machine.{Actor, numbered}
@@ -28,9 +28,11 @@ use Rattle.local_cache.specs.Own.{is_resident, own_of}
 use Rattle.page_tables.specs.declared.entry.Translation.{Translation}
 use Rattle.residency.specs.World.{IsStoreRight, world}
 use Rattle.residency.proofs.Worlds.Homes.{home}
-use Rattle.fault_path.specs.Faults.{is_at_hand}
+use Rattle.fault_path.specs.Faults.{is_at_hand, IsOwner}
 use Rattle.pvm_core.specs.Manager.{IsManagerSound}
 use Rattle.pvm_core.proofs.Accesses.AtHand.{owner_hand}
+use Rattle.local_cache.specs.Reading.{name_of}
+use Rattle.pvm_core.proofs.Accesses.Seen.{same_grants}
 use Rattle.pvm_core.proofs.Accesses.There.{IsThere}
 
 -- one byte at an address has the place that more bytes have there
@@ -45,6 +47,12 @@ place_one b address n some (Some rs) at e =
 -- so an access is ready where the page at its place is at hand
 pub ready_is : (a : Arena) (s : Store) (t : Actors) → 1 ≤ t.page_bytes → (actor address n : ℕ) (at : Place) → place_of_actor t.page_bytes (numbered t.actors actor) address n ≡ Ok at → is_ready (seen a s t) actor address ≡ is_page_at_hand a (name_at at)
 ready_is a s t some actor address n at e = ap (is_ready_at (seen a s t)) (place_one t.page_bytes address n some (numbered t.actors actor) at e)
+
+-- and where the owner of that page is
+pub ready_hand : (a : Arena) (s : Store) (t : Actors) (live : ℕ) → IsManagerSound a s t live → (p : Manager) → seen a s t ≡ p → (actor address n : ℕ) (at : Place) → place_of_actor t.page_bytes (numbered t.actors actor) address n ≡ Ok at → (node owner : NodeId) → HasNode a node → IsOwner a node owner → name_of a node ≡ name_at at
+    → is_ready p actor address ≡ is_at_hand (own_of a owner)
+ready_hand a s t live sound p view actor address n at e node owner held owns name = subst (λ (p : Manager). is_ready p actor address ≡ is_at_hand (own_of a owner)) view
+    (ready_is a s t sound.actors.some actor address n at e ∙ ap (is_page_at_hand a) (sym name) ∙ owner_hand a sound.nodes.sound sound.nodes.consistent.shaped node owner held owns)
 
 module _ (p q : Manager) (bytes : q.page_bytes ≡ p.page_bytes) (actors : q.actors ≡ p.actors) where
   same_place : (actor address n : ℕ) → place_of q actor address n ≡ place_of p actor address n
@@ -68,6 +76,14 @@ module _ (p q : Manager) (bytes : q.page_bytes ≡ p.page_bytes) (actors : q.act
       go (Err r) e = e
   still_admits writable command e = e
 
+-- of managers that are seen
+module _ (a b : Arena) (s u : Store) (t : Actors) {p : Manager} (view : seen a s t ≡ p) where
+  pub seen_no_more : ((x : NodeName) → is_page_at_hand b x ≡ true → is_page_at_hand a x ≡ true) → NoMoreReady is_ready p (seen b u t)
+  seen_no_more hands = subst (λ (p : Manager). NoMoreReady is_ready p (seen b u t)) view (no_more (seen a s t) (seen b u t) refl refl hands)
+
+  pub seen_admits : b.caches ≡ a.caches → StillAdmits Admits p (seen b u t)
+  seen_admits tables = subst (λ (p : Manager). StillAdmits Admits p (seen b u t)) view (still_admits (seen a s t) (seen b u t) refl refl (same_grants a b tables))
+
 pub here_hand : (x : OwnState) → is_resident x ≡ true → is_at_hand x ≡ true
 here_hand Absent e = absurd (cc e)
 here_hand Zero e = refl
@@ -84,5 +100,4 @@ found_hand p o (Some f) there = here_hand (own_of p.caches o) there.0
 pub there_ready : (a : Arena) (s : Store) (t : Actors) (live : ℕ) → IsManagerSound a s t live → (h : Option Held) → IsStoreRight (world h None a s) → (actor address n : ℕ) (to : Translation) → IsThere a s t actor address n to → is_ready (seen a s t) actor address ≡ true
 there_ready a s t live sound h right actor address n to k =
     let here = home (world h None a s) to.frame.0 k.owner right k.below k.bound in
-    ready_is a s t sound.actors.some actor address n k.at k.is ∙ ap (is_page_at_hand a) (sym k.name)
-    ∙ owner_hand a sound.nodes.sound sound.nodes.consistent.shaped k.node k.owner k.there k.owns ∙ here_hand (own_of a k.owner) here.resident
+    ready_hand a s t live sound (seen a s t) refl actor address n k.at k.is k.node k.owner k.there k.owns k.name ∙ here_hand (own_of a k.owner) here.resident

@@ -43,6 +43,7 @@ use Rattle.pvm_core.specs.Manager.{IsManagerSound, IsValid, machine_by, machine_
 use Rattle.pvm_core.specs.Translated.{AreTranslationsRight, IsTranslationRight, Leads, LeadsFound, MayBeWritten, OnlySeen, found_for, frame_to_write, name_at}
 use Rattle.pvm_core.proofs.Accesses.AccessedPages.{page_of_access}
 use Rattle.pvm_core.proofs.Answering.Kept.{seen}
+use Rattle.pvm_core.proofs.Translating.Tables.{led_sound}
 use Rattle.pvm_core.proofs.Translating.Alike.{still_right}
 
 pub same_seen : (s : Store) → OnlySeen s s
@@ -65,18 +66,7 @@ module _ (s t : Store) (only : OnlySeen s t) where
   seen_world h size a = (λ i. world h size a (only.same i)) ∙ (λ i. record (world h size a s) { marks = only.marks i; places = only.places i })
 
   pub seen_sound : (a : Arena) (u : Actors) (live : ℕ) → IsManagerSound a s u live → IsManagerSound a t u live
-  seen_sound a u live k = subst (λ (x : Store). IsManagerSound a x u live) (sym only.same) (record {
-    nodes = k.nodes;
-    apart = k.apart;
-    bounded = k.bounded;
-    slots = k.slots;
-    counted = k.counted;
-    few = k.few;
-    loose = k.loose;
-    locked = record { counted = k.locked.counted; resident = k.locked.resident; pinned = k.locked.pinned; pins = k.locked.pins; few = k.locked.few };
-    actors = k.actors;
-    page = k.page;
-  })
+  seen_sound a u live k = subst (λ (x : Store). IsManagerSound a x u live) (sym only.same) (led_sound a s t.tables t.marks u live k)
 
   module _ (a : Arena) (u : Actors) (h : Option Held) where
     pub seen_forest : manager.forest_of (seen a t u) h ≡ manager.forest_of (seen a s u) h

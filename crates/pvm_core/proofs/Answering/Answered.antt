@@ -140,13 +140,12 @@ called c d p q h g command answer reach nodes then valid forest none reaches syn
     (no_save (machine_of p h) (machine_by q (forest_of p h)) (Some (forest_of p h)) command no_segments answer (rises_between (length reach.pushes) c d) (λ done. none done (machine_of p h) (Some (forest_of p h)) no_segments) (outcome (forest_of p h) no_segments)))
     reaches synchronised outcome
 
--- A call without a mapper at whose answer the forest stays.
-pub answered : (p q : Manager) (h : Option Held) (command : Command) (answer : Answer) → IsWhole p.caches → IsWhole q.caches → IsValid q h → forest_of q h ≡ forest_of p h
-    → forest_after (forest_of p h) (machine_of p h) command answer (machine_of q h) ≡ forest_of p h → ReachesMapper command no_counts → IsSynchronised (machine_of p h) (segments_of h) command answer
-    → ((f : PageForest) (s : Segments) → Outcome (machine_by p f) (Some (forest_of p h)) command s answer (machine_by q f) no_counts)
-    → AnswerIs (state_at p h) command answer [] no_counts (state_at q h)
-answered p q h command answer nodes then valid forest stays reaches synchronised outcome = record {
-  outcome = outcome_at p q h h command answer no_counts no_segments nodes then refl (λ e f. outcome f no_segments) (λ s e. subst (λ (f : PageForest). Outcome (machine_of p h) (Some (forest_of p h)) command s answer (machine_by q f) no_counts) (sym forest) (outcome (forest_of p h) s));
+-- the answer of a call that pushed nothing, at which the forest stays
+pub stayed : (p q : Manager) (h : Option Held) (command : Command) (answer : Answer) (rises : MapperCounts) → IsValid q h → forest_of q h ≡ forest_of p h
+    → forest_after (forest_of p h) (machine_of p h) command answer (machine_of q h) ≡ forest_of p h → ReachesMapper command rises → IsSynchronised (machine_of p h) (segments_of h) command answer
+    → OutcomeAt (segments_of h) (machine_of p h) (Some (forest_of p h)) command answer (machine_of q h) rises → AnswerIs (state_at p h) command answer [] rises (state_at q h)
+stayed p q h command answer rises valid forest stays reaches synchronised outcome = record {
+  outcome = outcome;
   forest = ap Some (forest ∙ sym stays);
   reaches = reaches;
   few = omega arith;
@@ -154,6 +153,14 @@ answered p q h command answer nodes then valid forest stays reaches synchronised
   synchronised = synchronised;
   whole = as_segments (HasWholePages (machine_of q h)) h valid.whole;
 }
+
+-- A call without a mapper at whose answer the forest stays.
+pub answered : (p q : Manager) (h : Option Held) (command : Command) (answer : Answer) → IsWhole p.caches → IsWhole q.caches → IsValid q h → forest_of q h ≡ forest_of p h
+    → forest_after (forest_of p h) (machine_of p h) command answer (machine_of q h) ≡ forest_of p h → ReachesMapper command no_counts → IsSynchronised (machine_of p h) (segments_of h) command answer
+    → ((f : PageForest) (s : Segments) → Outcome (machine_by p f) (Some (forest_of p h)) command s answer (machine_by q f) no_counts)
+    → AnswerIs (state_at p h) command answer [] no_counts (state_at q h)
+answered p q h command answer nodes then valid forest stays reaches synchronised outcome = stayed p q h command answer no_counts valid forest stays reaches synchronised
+    (outcome_at p q h h command answer no_counts no_segments nodes then refl (λ e f. outcome f no_segments) (λ s e. subst (λ (f : PageForest). Outcome (machine_of p h) (Some (forest_of p h)) command s answer (machine_by q f) no_counts) (sym forest) (outcome (forest_of p h) s)))
 
 -- The same where the command saves nothing.
 pub seated : (p q : Manager) (h : Option Held) (command : Command) (answer : Answer) → IsWhole p.caches → IsWhole q.caches → IsValid q h → forest_of q h ≡ forest_of p h

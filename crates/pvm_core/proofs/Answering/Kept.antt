@@ -5,11 +5,12 @@ use Rattle.std.specs.FinMap as ids
 use Rattle.std.proofs.lemmas.List.{length-map}
 use Rattle.vm_ids.specs.Counting.{MapperCounts}
 use Rattle.vm_ids.specs.Held.{Held}
+use Rattle.vm_ids.specs.declared.command.Command.{Command}
 use Rattle.vm_ids.specs.declared.numbers.SegId.{SegId}
 use Rattle.vm_ids.specs.declared.node_name.NodeName.{NodeName}
 use Rattle.vm_ids.specs.declared.node_name.NodeName.TheVariants.{Working}
 use Rattle.vm_ids.specs.Forest.Commands.{page_name}
-use Rattle.vm_ids.specs.Forest.NameMap.{contains_key, from_entries, insert, len}
+use Rattle.vm_ids.specs.Forest.NameMap.{contains_key, from_entries, len}
 use Rattle.vm_ids.specs.Forest.Nodes.{IsNode}
 use Rattle.vm_ids.proofs.Forest.Agreeing.{bounded_from, live_count-le, working_count-le}
 use Rattle.vm_ids.proofs.Forest.NameMap.{len-insert}
@@ -18,7 +19,6 @@ use Rattle.local_cache.specs.Arena as arena_of
 use Rattle.local_cache.specs.Changes.{Like}
 use Rattle.local_cache.specs.Own.{own_states}
 use Rattle.local_cache.specs.Reading as arena
-use Rattle.local_cache.specs.Reading.{name_of}
 use Rattle.local_cache.proofs.Forest.Reading.{IsNode-forest_of, forest_of-IsNode}
 use Rattle.local_cache.proofs.Nodes.Values.{same_keys}
 use Rattle.residency.specs.declared.store.Store.{Store}
@@ -27,9 +27,11 @@ use Rattle.residency.specs.World.{IsStoreRight, world}
 use Rattle.fault_path.specs.Faults.{Kept}
 use Rattle.local_cache.proofs.Nodes.Count.{forest_len}
 use Rattle.local_cache.specs.Whole.{segment_of, size_of}
+use Rattle.vm_model.specs.Answering.{Answer}
 use Rattle.vm_model.specs.Machine.{Machine}
 use Rattle.vm_model.specs.Outcome.{HasWholePages}
 use Rattle.vm_model.specs.PageForest.{PageForest}
+use Rattle.vm_model.specs.Run.{AnswerIs, CallIs, State}
 use Rattle.contexts.specs.Actors.{Actors}
 use Rattle.contexts.specs.Placed.{AreRight}
 use Rattle.pvm_core.proofs.Holding.Bound.{AreBound}
@@ -41,7 +43,7 @@ use Rattle.pvm_core.specs.Reaching.{Reach}
 use Rattle.pvm_core.proofs.Answering.Reaching.{as_told, reach_told}
 use Rattle.pvm_core.proofs.Homes.Full.{full_after}
 use Rattle.pvm_core.proofs.Homes.Sized.{sized_after}
-use Rattle.pvm_core.specs.Manager.{IsManagerSound, IsValid, Manager, caches_shown, forest_of, machine_by, machine_of}
+use Rattle.pvm_core.specs.Manager.{IsManagerSound, IsValid, Manager, caches_shown, forest_of, machine_by, machine_of, state_at}
 
 pub seated_sound : (a : Arena) (s : Store) (t u : Actors) (live : ℕ) → u.page_bytes ≡ t.page_bytes → AreRight (size_of a) u → ((cache page : ℕ) → locks_over u.actors cache page ≡ locks_over t.actors cache page) → IsManagerSound a s t live → IsManagerSound a s u live
 seated_sound a s t u live page right over i = record {
@@ -101,33 +103,9 @@ pub sizeless : (h : Option Held) (i : Option ℕ) (a : Arena) (s : Store) → st
 unfolding store_forest
 sizeless h i a s = refl
 
-pub unsized_right : (h : Option Held) (i : Option ℕ) (a : Arena) (s : Store) → IsStoreRight (world h i a s) → IsStoreRight (world h None a s)
-unsized_right h i a s r = record {
-  tied = record {
-    placed = r.tied.placed;
-    backed = record {
-      there = r.tied.backed.there;
-      homes = r.tied.backed.homes;
-      apart = r.tied.backed.apart;
-      lies = r.tied.backed.lies;
-      clean = r.tied.backed.clean;
-    };
-    fitted = record {
-      map_frames = r.tied.fitted.map_frames;
-      bytes_frames = r.tied.fitted.bytes_frames;
-      pinned_frames = r.tied.fitted.pinned_frames;
-      marks_frames = r.tied.fitted.marks_frames;
-      places_frames = r.tied.fitted.places_frames;
-      few = r.tied.fitted.few;
-      page = tt;
-    };
-  };
-  granted = record { granted = r.granted.granted; allowed = r.granted.allowed };
-  capacity = r.capacity;
-}
-
-pub sized_right : (h : Option Held) (i : Option ℕ) (a : Arena) (s : Store) → IfSome i (λ n. n ≡ s.frames.page) → IsStoreRight (world h None a s) → IsStoreRight (world h i a s)
-sized_right h i a s fits r = record {
+-- nor that the store is right, where the size fits the frames
+resized_right : (h : Option Held) (i j : Option ℕ) (a : Arena) (s : Store) → IfSome j (λ n. n ≡ s.frames.page) → IsStoreRight (world h i a s) → IsStoreRight (world h j a s)
+resized_right h i j a s fits r = record {
   tied = record {
     placed = r.tied.placed;
     backed = record {
@@ -150,6 +128,12 @@ sized_right h i a s fits r = record {
   granted = record { granted = r.granted.granted; allowed = r.granted.allowed };
   capacity = r.capacity;
 }
+
+pub unsized_right : (h : Option Held) (i : Option ℕ) (a : Arena) (s : Store) → IsStoreRight (world h i a s) → IsStoreRight (world h None a s)
+unsized_right h i a s = resized_right h i None a s tt
+
+pub sized_right : (h : Option Held) (i : Option ℕ) (a : Arena) (s : Store) → IfSome i (λ n. n ≡ s.frames.page) → IsStoreRight (world h None a s) → IsStoreRight (world h i a s)
+sized_right h i a s = resized_right h None i a s
 
 module _ (a b : Arena) (s t : Store) (h g : Option Held) (i j : Option ℕ) (k : Kept (world h i a s) (world g j b t)) (actors : Actors) (live : ℕ) (sound : IsManagerSound a s actors live) where
   kept_node : (x : NodeName) → IsNode (arena.forest_of a) x → IsNode (arena.forest_of b) x
@@ -227,6 +211,21 @@ module _ (a b : Arena) (s t : Store) (h g : Option Held) (i j : Option ℕ) (k :
 
         same_size : (cache : ℕ) → size_of b cache ≡ size_of a cache
         same_size cache = ap (λ (ts : List (Option Table)). option_map (λ (t : Table). length t.pages) (table_at ts cache)) k.nodes.caches
+
+-- From a manager that is seen to the one that it is
+
+pub valid_seen : {p q : Manager} {h : Option Held} → p ≡ q → IsValid q h → IsValid p h
+valid_seen {h = h} view valid = subst (λ (p : Manager). IsValid p h) (sym view) valid
+
+module _ (h : Option Held) {p q : Manager} {command : Command} {answer : Answer} (view : p ≡ q) where
+  pub call_seen : {c d : MapperCounts} {z : State} → CallIs c d (state_at p h) command answer z → CallIs c d (state_at q h) command answer z
+  call_seen {c = c} {d = d} {z = z} is = subst (λ (p : Manager). CallIs c d (state_at p h) command answer z) view is
+
+  pub answer_seen : {pushes : List (ℕ × ℕ)} {rises : MapperCounts} {z : State} → AnswerIs (state_at p h) command answer pushes rises z → AnswerIs (state_at q h) command answer pushes rises z
+  answer_seen {pushes = pushes} {rises = rises} {z = z} is = subst (λ (p : Manager). AnswerIs (state_at p h) command answer pushes rises z) view is
+
+  pub answer_still : {pushes : List (ℕ × ℕ)} {rises : MapperCounts} → AnswerIs (state_at p h) command answer pushes rises (state_at p h) → AnswerIs (state_at q h) command answer pushes rises (state_at q h)
+  answer_still {pushes = pushes} {rises = rises} is = subst (λ (p : Manager). AnswerIs (state_at p h) command answer pushes rises (state_at p h)) view is
 
 -- actors that look the same
 pub seated_same : (a : Arena) (s : Store) (t u : Actors) → u ≡ t → seen a s u ≡ seen a s t

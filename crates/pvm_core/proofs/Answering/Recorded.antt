@@ -1,5 +1,5 @@
 -- What is said of each call, from its parts.
-use Rattle.std.proofs.Common.{◌≡◌, [], Option, refl, arith}
+use Rattle.std.proofs.Common.{◌≡◌, [], Option, refl, sym, subst, arith}
 use Rattle.std.specs.Prelude.{Err, Ok, Result}
 use Rattle.vm_ids.specs.Counting.{MapperCounts, no_counts}
 use Rattle.vm_ids.specs.Held.{Held}
@@ -84,3 +84,10 @@ refused_mapper_call {M = M} {m = m} valid answers = record {
   room = refl;
   page = refl;
 }
+
+-- of the manager that is seen
+pub refused_seen : {X : Type 0} {M : Ghosts X} {m : X} {p q : Manager} {command : Command} {r : Refusal} → q ≡ p → IsValid p (M.held m)
+    → (IsValid q (M.held m) → CallIs (M.counts m) (M.counts m) (state_at q (M.held m)) command (Err (troubles.Refused r)) (state_at q (M.held m)))
+    → MapperCall M meaning m p command (Err (troubles.Refused r)) m p
+refused_seen {M = M} {m = m} {command = command} {r = r} view valid is = refused_mapper_call valid
+    (subst (λ (p : Manager). CallIs (M.counts m) (M.counts m) (state_at p (M.held m)) command (Err (troubles.Refused r)) (state_at p (M.held m))) view (is (subst (λ (p : Manager). IsValid p (M.held m)) (sym view) valid)))

@@ -12,6 +12,7 @@ use Rattle.local_cache.specs.Arena.{is_locked}
 use Rattle.vm_model.specs.Machine.{Actor, Machine, Region, is_locked_page, locks, locks_any}
 use Rattle.vm_model.specs.Regions.{region_among, region_with, replace_in, replace_region, with_lock}
 use Rattle.pvm_core.specs.Locks.{locks_by, locks_over}
+use Rattle.pvm_core.proofs.Locking.Extents.{and_left, and_right}
 use Rattle.contexts.specs.Placed.{ArePlaced, HasItsPages}
 
 -- Whether a page is locked
@@ -80,14 +81,6 @@ pub gone_over : (cache page i : ℕ) (rs : Actor) (xs : List (Option Actor)) →
 gone_over cache page i rs xs less here = omega (arith, sum_by-set (locks_by cache page) xs i None None less, ap (locks_by cache page) here)
 
 -- Regions lie in caches
-
-and_left : (a b : Bool) → (a && b) ≡ true → a ≡ true
-and_left true b e = refl
-and_left false b e = absurd (cc e)
-
-and_right : (a b : Bool) → (a && b) ≡ true → b ≡ true
-and_right true b e = e
-and_right false b e = absurd (cc e)
 
 -- a locked region that covers a page
 pub record IsCovered (cache page : ℕ) (r : Region) : Type 0 where

@@ -15,11 +15,11 @@ pub record IsIn (e : Extent) (cache page : ℕ) : Type 0 where
   pub from : e.first.0 ≤ page
   pub past : page < e.first.0 + e.pages
 
-and_left : (a b : Bool) → (a && b) ≡ true → a ≡ true
+pub and_left : (a b : Bool) → (a && b) ≡ true → a ≡ true
 and_left true b e = refl
 and_left false b e = absurd (cc e)
 
-and_right : (a b : Bool) → (a && b) ≡ true → b ≡ true
+pub and_right : (a b : Bool) → (a && b) ≡ true → b ≡ true
 and_right true b e = e
 and_right false b e = absurd (cc e)
 

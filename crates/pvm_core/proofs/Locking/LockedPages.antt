@@ -1,5 +1,5 @@
 -- One page is owned, locked and let go; and one after the other.
-use Rattle.std.proofs.Common.{◌≡◌, ℕ, zero, suc, ◌+◌, ◌-◌, ◌<◌, ◌≤◌, Bool, true, false, cond, [], ◌∷◌, length, length-set, set, Option, Some, None, is_none, is_some, refl, sym, ap, ◌∙◌, subst, arith, inl, inr}
+use Rattle.std.proofs.Common.{◌≡◌, ℕ, zero, suc, ◌+◌, ◌-◌, ◌<◌, ◌≤◌, Bool, true, false, cond, List, [], ◌∷◌, length, length-set, set, Option, Some, None, is_none, is_some, refl, sym, ap, ◌∙◌, subst, arith, inl, inr}
 use Rattle.std.specs.Prelude.{IsSome, MatchOption, option_and_then, OnOk, Result, Ok, Err}
 use Rattle.std.proofs.lemmas.Bool.{cases_eq}
 use Rattle.std.proofs.lemmas.List.{get_or-set_other, get_or-set_same, set-get_or}
@@ -15,13 +15,13 @@ use Rattle.vm_ids.specs.Forest.Rules.{own, owned}
 use Rattle.vm_ids.specs.Forest.Shape.{IsWellShaped}
 use Rattle.vm_ids.proofs.Forest.Counters.{own-copies}
 use Rattle.vm_ids.proofs.Forest.Laws.Commands.{lock_keeps_values}
-use Rattle.vm_ids.proofs.Places.{bit, count-set}
+use Rattle.vm_ids.proofs.Places.{bit, bit_true, count-set}
 use Rattle.frame_pool.specs.Pool.{is_pinned}
-use Rattle.global_map.specs.Pairs.{node_of}
+use Rattle.global_map.specs.Pairs.{node_of, bound_times}
 use Rattle.local_cache.specs.declared.own_state.OwnState.TheVariants.{Absent}
 use Rattle.local_cache.specs.declared.page_entry.PageEntry.{PageEntry}
 use Rattle.local_cache.specs.Arena.{Arena, HasNode, is_locked, locks_of, node_at, table_locking, with_locks}
-use Rattle.local_cache.specs.Own.{is_absent, own_of}
+use Rattle.local_cache.specs.Own.{is_absent, own_of, is_resident}
 use Rattle.local_cache.specs.Reading.{forest_of, name_of}
 use Rattle.local_cache.specs.Sound.{IsSound}
 use Rattle.local_cache.specs.Whole.{IsWhole}
@@ -42,6 +42,8 @@ use Rattle.pvm_core.proofs.Holding.Kept.{has_name}
 use Rattle.pvm_core.proofs.Locking.Alike.{alike_then}
 use Rattle.pvm_core.proofs.Locking.Changed.{Repins, changed_pages, relocked_names, relocked_owns}
 use Rattle.pvm_core.proofs.Locking.Extents.{covers_no, covers_yes}
+use Rattle.vm_ids.specs.declared.numbers.FrameId.{FrameId}
+use Rattle.local_cache.specs.declared.own_state.OwnState.{OwnState}
 use Rattle.pvm_core.proofs.Locking.Holds.{holds_changed}
 
 -- A page is owned
@@ -117,34 +119,35 @@ pub found_at : {A : Type 0} (o : Option A) (P : Type 0) (Q : A → Type 0) (x : 
 found_at None P Q x m e = absurd (cc e)
 found_at (Some y) P Q x m e = let same : y ≡ x = cc e in subst Q same m
 
+-- a resident node has one
+pub frame_some : (o : Option FrameId) (Q : FrameId → Type 0) (told map : List (Option NodeId)) (n : NodeId) (x : OwnState) → told ≡ map → bound_times map n.0 ≡ bit (is_resident x) → is_resident x ≡ true → MatchOption o (bound_times told n.0 ≡ 0) Q → IsSome o
+frame_some o Q told map n x same bound resident m = found_some o (bound_times told n.0) Q m (omega (arith, ap (λ (map : List (Option NodeId)). bound_times map n.0) same, bound, bit_true (is_resident x) resident))
+
+pub frame_at : (o : Option FrameId) (P : Type 0) (told map : List (Option NodeId)) (n : NodeId) (f : FrameId) → told ≡ map → MatchOption o P (λ f. (f.0 < length told) × (node_of told f.0 ≡ Some n)) → o ≡ Some f → (f.0 < length map) × (node_of map f.0 ≡ Some n)
+frame_at o P told map n f same m e = subst (λ (map : List (Option NodeId)). (f.0 < length map) × (node_of map f.0 ≡ Some n)) same (found_at o P (λ f. (f.0 < length told) × (node_of told f.0 ≡ Some n)) f m e)
+
 -- One page has other locks
 
 module _ (a b : Arena) (cache : CacheId) (page count : ℕ) (is : b ≡ with_locks a cache.0 page count) where
-  pub one_more : locks_of b cache.0 page ≡ locks_of a cache.0 page + 1 → LocksMore (one_page cache page) a b
-  one_more now c p = elim (cases_eq c cache.0) [
-    | inr d ↦ (let no = covers_no (one_page cache page) c p (λ k. d (sym k.same)) in omega (arith, locked_other a b cache.0 page count is c p (λ q r. d q), ap bit no))
+  -- each other page has as many
+  of_page : (x y : Arena) → ((c p : ℕ) → (c ≡ cache.0 → p ≡ page → ⊥) → locks_of y c p ≡ locks_of x c p) → locks_of y cache.0 page ≡ locks_of x cache.0 page + 1 → LocksMore (one_page cache page) x y
+  of_page x y others now c p = elim (cases_eq c cache.0) [
+    | inr d ↦ (let no = covers_no (one_page cache page) c p (λ k. d (sym k.same)) in omega (arith, others c p (λ q r. d q), ap bit no))
     | inl q ↦ elim (cases_eq p page) [
-      | inr d ↦ (let no = covers_no (one_page cache page) c p (λ k. d (omega (arith, k.from, k.past))) in omega (arith, locked_other a b cache.0 page count is c p (λ q r. d r), ap bit no))
+      | inr d ↦ (let no = covers_no (one_page cache page) c p (λ k. d (omega (arith, k.from, k.past))) in omega (arith, others c p (λ q r. d r), ap bit no))
       | inl r ↦ (
           let yes = covers_yes (one_page cache page) c p (record { same = sym q; from = omega (arith, r); past = omega (arith, r) }) in
-          let at_b : locks_of b c p ≡ locks_of b cache.0 page = (λ i. locks_of b (q i) (r i)) in
-          let at_a : locks_of a c p ≡ locks_of a cache.0 page = (λ i. locks_of a (q i) (r i)) in
+          let at_y : locks_of y c p ≡ locks_of y cache.0 page = (λ i. locks_of y (q i) (r i)) in
+          let at_x : locks_of x c p ≡ locks_of x cache.0 page = (λ i. locks_of x (q i) (r i)) in
           omega (arith, now, ap bit yes))
     ]
   ]
 
+  pub one_more : locks_of b cache.0 page ≡ locks_of a cache.0 page + 1 → LocksMore (one_page cache page) a b
+  one_more = of_page a b (locked_other a b cache.0 page count is)
+
   pub one_less : locks_of b cache.0 page + 1 ≡ locks_of a cache.0 page → LocksMore (one_page cache page) b a
-  one_less now c p = elim (cases_eq c cache.0) [
-    | inr d ↦ (let no = covers_no (one_page cache page) c p (λ k. d (sym k.same)) in omega (arith, locked_other a b cache.0 page count is c p (λ q r. d q), ap bit no))
-    | inl q ↦ elim (cases_eq p page) [
-      | inr d ↦ (let no = covers_no (one_page cache page) c p (λ k. d (omega (arith, k.from, k.past))) in omega (arith, locked_other a b cache.0 page count is c p (λ q r. d r), ap bit no))
-      | inl r ↦ (
-          let yes = covers_yes (one_page cache page) c p (record { same = sym q; from = omega (arith, r); past = omega (arith, r) }) in
-          let at_b : locks_of b c p ≡ locks_of b cache.0 page = (λ i. locks_of b (q i) (r i)) in
-          let at_a : locks_of a c p ≡ locks_of a cache.0 page = (λ i. locks_of a (q i) (r i)) in
-          omega (arith, now, ap bit yes))
-    ]
-  ]
+  one_less now = of_page b a (λ c p other. sym (locked_other a b cache.0 page count is c p other)) (sym now)
 
 -- the frame of a page is pinned or not
 pub pinned_as : (s t : Store) (f : ℕ) (v : Bool) (n : NodeId) → t ≡ record s { frames = with_pinned s.frames f v } → node_of s.map f ≡ Some n → Repins s t

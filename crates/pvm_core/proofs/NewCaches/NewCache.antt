@@ -26,7 +26,7 @@ use Rattle.vm_model.proofs.Parts.ListParts.{numbered_pushed}
 use Rattle.pvm_core.specs.Manager.{Manager, caches_shown, forest_of, machine_by, machine_of, state_at}
 use Rattle.pvm_core.proofs.Answering.Answered.{no_segments}
 use Rattle.pvm_core.proofs.Answering.Reaching.{as_segments, no_push}
-use Rattle.pvm_core.proofs.Meaning.Determined.{IsShaped, followed_is}
+use Rattle.pvm_core.proofs.Meaning.Determined.{followed_is}
 use Rattle.pvm_core.proofs.NewCaches.Making.{all_with, equal_pages}
 use Rattle.pvm_core.proofs.Meaning.Shown.{shown_live, shown_made}
 use Rattle.pvm_core.proofs.Meaning.Values.{blank_of, zeroed, zeroed_whole}
@@ -38,22 +38,23 @@ use Rattle.vm_ids.specs.declared.node_name.NodeName.{NodeName}
 use Rattle.vm_ids.specs.Forest.NameLists.{◌∈◌, Once}
 use Rattle.vm_ids.specs.Forest.Laws.Commands.{AreFresh}
 use Rattle.vm_ids.specs.Forest.Nodes.{IsNode, is_live}
+use Rattle.pvm_core.proofs.Opening.Machine.{shape_at}
 use Rattle.vm_ids.proofs.Forest.Laws.Ranges.{ranges_hold_pages_once, ranges_hold_their_pages}
 
 or_true : (b : Bool) → (b || true) ≡ true
 or_true true = refl
 or_true false = refl
 
-at_most : (a b : ℕ) → a ≤ b → nat_le a b ≡ true
+pub at_most : (a b : ℕ) → a ≤ b → nat_le a b ≡ true
 at_most a b e = grind (arith, nat_tests)
 
-not_most : (a b : ℕ) → b < a → nat_le a b ≡ false
+pub not_most : (a b : ℕ) → b < a → nat_le a b ≡ false
 not_most a b e = grind (arith, nat_tests)
 
-less : (a b : ℕ) → a < b → nat_lt a b ≡ true
+pub less : (a b : ℕ) → a < b → nat_lt a b ≡ true
 less a b e = grind (arith, nat_tests)
 
-not_less : (a b : ℕ) → b ≤ a → nat_lt a b ≡ false
+pub not_less : (a b : ℕ) → b ≤ a → nat_lt a b ≡ false
 not_less a b e = grind (arith, nat_tests)
 
 module _ (p : Manager) (f : PageForest) (n : ℕ) where
@@ -103,13 +104,6 @@ map_equal g (suc n) x = ap (λ xs. g x ∷ xs) (map_equal g n x)
 nodes_for : (h : Option Held) (b n : ℕ) (cache : CacheId) → 1 ≤ b → nodes_of cache.0 (Some (cache_for h b n)) ≡ all_with (option_map (λ _. replicate b 0) h) (page_names cache 0 n)
 nodes_for h b n cache some =
     ap (pages_at cache 0) (map_equal told n (zeros_for h b) ∙ ap (replicate n) (told_zeros h b some)) ∙ equal_pages cache 0 n (option_map (λ _. replicate b 0) h)
-
-shape_at : (f : PageForest) (first : ℕ) (ts : List (Option Table)) (x : Option Cache) (t : Option Table) → IsShaped x t → (k : ℕ) → IsShaped (get_or (caches_shown f first ts ++ x ∷ []) k None) (get_or (ts ++ t ∷ []) k None)
-shape_at f first [] x t s zero = s
-shape_at f first [] x t s (suc k) = tt
-shape_at f first (None ∷ ts) x t s zero = tt
-shape_at f first (Some u ∷ ts) x t s zero = (refl, Rattle.pvm_core.proofs.Meaning.Shown.length-pages f first 0 (length u.pages))
-shape_at f first (u ∷ ts) x t s (suc k) = shape_at f (first + 1) ts x t s k
 
 module _ (p q : Manager) (h : Option Held) (cache : CacheId) (n : ℕ) (nodes : List NodeId) (size : length nodes ≡ n) (made : IsMade p.caches q.caches cache None Zero nodes) (some : 1 ≤ p.page_bytes) (followed : IsFollowed (machine_of p h) (forest_of p h))
     (forest : forest_of q h ≡ make (all_with (option_map (λ _. replicate p.page_bytes 0) h) (page_names cache 0 n)) (forest_of p h)) (same : (q.page_bytes ≡ p.page_bytes) × (length q.store.frames.held ≡ length p.store.frames.held) × (q.actors ≡ p.actors) × (q.regions_made ≡ p.regions_made)) where

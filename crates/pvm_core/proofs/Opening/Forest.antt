@@ -42,11 +42,11 @@ bare_with : {P : Type 0} (v : NodeName → P) (xs : List NodeName) → map (λ e
 bare_with v [] = refl
 bare_with v (x ∷ xs) = ap (λ es. (x, tt) ∷ es) (bare_with v xs)
 
-pub bare_make : {P : Type 0} (v : NodeName → P) (xs : List NodeName) (f : Forest P) → bare (make (with_pages v xs) f) ≡ make (with_pages (λ _. tt) xs) (bare f)
+bare_make : {P : Type 0} (v : NodeName → P) (xs : List NodeName) (f : Forest P) → bare (make (with_pages v xs) f) ≡ make (with_pages (λ _. tt) xs) (bare f)
 bare_make v xs f = make-map no_page (with_pages v xs) f ∙ ap (λ es. make es (bare f)) (bare_with v xs)
 
 module _ {P : Type 0} (v : NodeName → P) (f : Forest P) where
-  pub make_here : (xs : List NodeName) (x : NodeName) → x ∈ xs → (node (make (with_pages v xs) f) x).own ≡ Some (v x)
+  make_here : (xs : List NodeName) (x : NodeName) → x ∈ xs → (node (make (with_pages v xs) f) x).own ≡ Some (v x)
   make_here [] x i = absurd i
   make_here (y ∷ ys) x i = at (name_cases x y) i (make_here ys x)
     where
@@ -59,7 +59,7 @@ module _ {P : Type 0} (v : NodeName → P) (f : Forest P) where
   make_other [] x out = refl
   make_other (y ∷ ys) x out = node-put_other (make (with_pages v ys) f) y x (childless (Some (v y)) Root) (λ e. out (inl e)) ∙ make_other ys x (λ i. out (inr i))
 
-  pub make_cases : (xs : List NodeName) (x : NodeName) → IsNode (make (with_pages v xs) f) x → (x ∈ xs) ⊎ IsNode f x
+  make_cases : (xs : List NodeName) (x : NodeName) → IsNode (make (with_pages v xs) f) x → (x ∈ xs) ⊎ IsNode f x
   make_cases [] x is = inr is
   make_cases (y ∷ ys) x is = elim (IsNode-put_cases (make (with_pages v ys) f) y x (childless (Some (v y)) Root) is) [
     | inl e ↦ inl (inl e)
@@ -68,47 +68,54 @@ module _ {P : Type 0} (v : NodeName → P) (f : Forest P) where
 
 -- The nodes of a new cache
 
-module _ (h : Option Held) (a b : Arena) (s : Store) (cache : CacheId) (n : ℕ) (own : OwnState) (v : NodeName → Option (List ℕ)) (has : (page : ℕ) → page < n → HasPage b cache page own) (stays : (m : NodeId) → HasNode a m → find b m ≡ find a m)
-    (new_page : (m : NodeId) (page : ℕ) → page < n → find b m ≡ Some (new_cell (page_name cache page) own) → own_page (world h None b s) m ≡ Some (v (page_name cache page)))
-    (page_stays : (m : NodeId) → HasNode a m → own_page (world h None b s) m ≡ own_page (world h None a s) m)
-    (forest : arena.forest_of b ≡ make (map (λ x. (x, own)) (page_names cache 0 n)) (arena.forest_of a)) (sound : IsSound a) (then : IsSound b) (fresh : (x : NodeName) → x ∈ page_names cache 0 n → IsNode (arena.forest_of a) x → ⊥) where
-  cell_stays : (m : NodeId) → HasNode a m → cell b m ≡ cell a m
+-- by what the nodes have as their own pages, before and now
+module _ {P : Type 0} (a b : Arena) (cache : CacheId) (n : ℕ) (own : OwnState) (v : NodeName → P) (was now : NodeId → Option P) (old : Forest P) (has : (page : ℕ) → page < n → HasPage b cache page own) (stays : (m : NodeId) → HasNode a m → find b m ≡ find a m)
+    (new_page : (m : NodeId) (page : ℕ) → page < n → find b m ≡ Some (new_cell (page_name cache page) own) → now m ≡ Some (v (page_name cache page))) (page_stays : (m : NodeId) → HasNode a m → now m ≡ was m)
+    (forest : arena.forest_of b ≡ make (map (λ x. (x, own)) (page_names cache 0 n)) (arena.forest_of a)) (then : IsSound b) (fresh : (x : NodeName) → x ∈ page_names cache 0 n → IsNode (arena.forest_of a) x → ⊥)
+    (bare_old : bare old ≡ bare (arena.forest_of a)) (reads : (m : NodeId) → HasNode a m → (node old (name_of a m)).own ≡ was m) where
+  name_stays : (m : NodeId) → HasNode a m → name_of b m ≡ name_of a m
   unfolding cell
-  cell_stays m k = ap (λ o. unwrap_or o blank) (stays m k)
-
-  held_stays : (m : NodeId) → HasNode a m → HasNode b m
-  held_stays m k = ap is_some (stays m k) ∙ k
+  name_stays m k = ap (λ o. (unwrap_or o blank).name) (stays m k)
 
   of_cell : (m : NodeId) (x : NodeName) → find b m ≡ Some (new_cell x own) → name_of b m ≡ x
   unfolding cell
   of_cell m x e = ap (λ o. (unwrap_or o blank).name) e
 
-  new_own : (m : NodeId) → HasNode b m → name_of b m ∈ page_names cache 0 n → own_page (world h None b s) m ≡ Some (v (name_of b m))
+  new_own : (m : NodeId) → HasNode b m → name_of b m ∈ page_names cache 0 n → now m ≡ Some (v (name_of b m))
   new_own m k i =
       let at = (ranges_hold_their_pages cache 0 n (name_of b m)).0 i in
       let low : 0 + at.0 < n = omega (arith, at.1) in
       let p = has (0 + at.0) low in
       let name : name_of b p.node ≡ page_name cache (0 + at.0) = of_cell p.node (page_name cache (0 + at.0)) p.is in
-      subst (λ (m : NodeId). own_page (world h None b s) m ≡ Some (v (name_of b m))) (then.kept.named.apart p.node m (ap is_some p.is) k (name ∙ sym at.2))
+      subst (λ (m : NodeId). now m ≡ Some (v (name_of b m))) (then.kept.named.apart p.node m (ap is_some p.is) k (name ∙ sym at.2))
       (new_page p.node (0 + at.0) low p.is ∙ ap (λ x. Some (v x)) (sym name))
 
-  own_made : (m : NodeId) → HasNode b m → own_page (world h None b s) m ≡ (node (make (with_pages v (page_names cache 0 n)) (store_forest (world h None a s))) (name_of b m)).own
+  own_made : (m : NodeId) → HasNode b m → now m ≡ (node (make (with_pages v (page_names cache 0 n)) old) (name_of b m)).own
   own_made m k = elim (make_cases (λ _. own) (arena.forest_of a) (page_names cache 0 n) (name_of b m) (subst (λ f. IsNode f (name_of b m)) forest (IsNode-forest_of b then.kept.named m k))) [
-    | inl i ↦ new_own m k i ∙ sym (make_here v (store_forest (world h None a s)) (page_names cache 0 n) (name_of b m) i)
+    | inl i ↦ new_own m k i ∙ sym (make_here v old (page_names cache 0 n) (name_of b m) i)
     | inr is ↦ (
         let f = forest_of-IsNode a (name_of b m) is in
-        let same : f.0 ≡ m = then.kept.named.apart f.0 m (held_stays f.0 f.1) k (ap (λ c. c.name) (cell_stays f.0 f.1) ∙ f.2) in
-        let was : HasNode a m = subst (HasNode a) same f.1 in
-        page_stays m was ∙ sym (store_page (world h None a s) sound m was) ∙ ap (λ x. (node (store_forest (world h None a s)) x).own) (sym (ap (λ c. c.name) (cell_stays m was)))
-        ∙ sym (ap (λ k. k.own) (make_other v (store_forest (world h None a s)) (page_names cache 0 n) (name_of b m) (λ i. fresh (name_of b m) i is))))
+        let same : f.0 ≡ m = then.kept.named.apart f.0 m (ap is_some (stays f.0 f.1) ∙ f.1) k (name_stays f.0 f.1 ∙ f.2) in
+        let there : HasNode a m = subst (HasNode a) same f.1 in
+        page_stays m there ∙ sym (reads m there) ∙ ap (λ x. (node old x).own) (sym (name_stays m there)) ∙ sym (ap (λ k. k.own) (make_other v old (page_names cache 0 n) (name_of b m) (λ i. fresh (name_of b m) i is))))
   ]
 
+  pub made_pages : (bare (arena.forest_of b) ≡ bare (make (with_pages v (page_names cache 0 n)) old)) × ((m : NodeId) → HasNode b m → now m ≡ (node (make (with_pages v (page_names cache 0 n)) old) (name_of b m)).own)
+  made_pages = (
+    ap bare forest ∙ bare_make (λ _. own) (page_names cache 0 n) (arena.forest_of a) ∙ ap (make (with_pages (λ _. tt) (page_names cache 0 n))) (sym bare_old) ∙ sym (bare_make v (page_names cache 0 n) old),
+    own_made,
+  )
+
+module _ (h : Option Held) (a b : Arena) (s : Store) (cache : CacheId) (n : ℕ) (own : OwnState) (v : NodeName → Option (List ℕ)) (has : (page : ℕ) → page < n → HasPage b cache page own) (stays : (m : NodeId) → HasNode a m → find b m ≡ find a m)
+    (new_page : (m : NodeId) (page : ℕ) → page < n → find b m ≡ Some (new_cell (page_name cache page) own) → own_page (world h None b s) m ≡ Some (v (page_name cache page)))
+    (page_stays : (m : NodeId) → HasNode a m → own_page (world h None b s) m ≡ own_page (world h None a s) m)
+    (forest : arena.forest_of b ≡ make (map (λ x. (x, own)) (page_names cache 0 n)) (arena.forest_of a)) (sound : IsSound a) (then : IsSound b) (fresh : (x : NodeName) → x ∈ page_names cache 0 n → IsNode (arena.forest_of a) x → ⊥) where
   -- the forest of the store gets these pages
   pub made_forest : store_forest (world h None b s) ≡ make (with_pages v (page_names cache 0 n)) (store_forest (world h None a s))
   unfolding store_forest
-  made_forest = lifted (own_page (world h None b s)) b then.kept.named (tells (world h None b s)) (make (with_pages v (page_names cache 0 n)) (store_forest (world h None a s)))
-      (ap bare forest ∙ bare_make (λ _. own) (page_names cache 0 n) (arena.forest_of a) ∙ ap (make (with_pages (λ _. tt) (page_names cache 0 n))) (sym (store_bare (world h None a s) sound)) ∙ sym (bare_make v (page_names cache 0 n) (store_forest (world h None a s))))
-      own_made
+  made_forest =
+      let pages = made_pages a b cache n own v (own_page (world h None a s)) (own_page (world h None b s)) (store_forest (world h None a s)) has stays new_page page_stays forest then fresh (store_bare (world h None a s) sound) (store_page (world h None a s) sound) in
+      lifted (own_page (world h None b s)) b then.kept.named (tells (world h None b s)) (make (with_pages v (page_names cache 0 n)) (store_forest (world h None a s))) pages.0 pages.1
 
 -- the pages of a cache, each under its name
 pub named_pages : (v : NodeName → Option Page) (cache : CacheId) (first : ℕ) (ps : List Page) → ((i : ℕ) (p : Page) → slice_get ps i ≡ Some p → v (page_name cache (first + i)) ≡ told p)

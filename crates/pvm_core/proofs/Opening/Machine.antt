@@ -21,7 +21,7 @@ use Rattle.pvm_core.proofs.Meaning.Shown.{length-pages, shown_made}
 abbrev pub with_cache : Machine → Cache → Machine
 with_cache m c = record m { caches = m.caches ++ Some c ∷ [] }
 
-shape_at : (f : PageForest) (first : ℕ) (ts : List (Option Table)) (x : Option Cache) (t : Option Table) → IsShaped x t → (k : ℕ) → IsShaped (get_or (caches_shown f first ts ++ x ∷ []) k None) (get_or (ts ++ t ∷ []) k None)
+pub shape_at : (f : PageForest) (first : ℕ) (ts : List (Option Table)) (x : Option Cache) (t : Option Table) → IsShaped x t → (k : ℕ) → IsShaped (get_or (caches_shown f first ts ++ x ∷ []) k None) (get_or (ts ++ t ∷ []) k None)
 shape_at f first [] x t s zero = s
 shape_at f first [] x t s (suc k) = tt
 shape_at f first (None ∷ ts) x t s zero = tt

@@ -15,19 +15,15 @@ use Rattle.local_cache.specs.Arena.{page_count}
 use Rattle.local_cache.specs.Whole as whole
 use Rattle.vm_model.specs.declared.limits.TheConstants.{LIVE_PAGES, MOST_MADE}
 use Rattle.vm_model.specs.Answering.{Answer, open_of}
-use Rattle.vm_model.specs.Asking.{ReachesMapper}
-use Rattle.vm_model.specs.Following.{forest_after}
 use Rattle.vm_model.specs.Machine.{Page, zero_page}
-use Rattle.vm_model.specs.Outcome.{HasWholePages, NotRefusedButFor, Outcome, OutcomeAt}
+use Rattle.vm_model.specs.Outcome.{NotRefusedButFor, Outcome, OutcomeAt}
 use Rattle.vm_model.specs.PageForest.{PageForest}
 use Rattle.vm_model.specs.Run.{AnswerIs}
-use Rattle.vm_model.specs.Synchronised.{IsSynchronised}
 use Rattle.pvm_core.specs.Manager.{IsValid, Manager, forest_of, machine_by, machine_of, state_at}
 use Rattle.pvm_core.specs.Opening.{HasSegment, IsOpened}
-use Rattle.pvm_core.proofs.Answering.Answered.{alike_itself}
+use Rattle.pvm_core.proofs.Answering.Answered.{alike_itself, stayed}
 use Rattle.pvm_core.proofs.Opening.Answer.{held_for, many, pages_for, zeros_in, zeros_there}
 use Rattle.pvm_core.proofs.Opening.Rows.{many_live, none_held, open_row}
-use Rattle.pvm_core.proofs.Answering.Reaching.{as_segments, no_push}
 use Rattle.pvm_core.proofs.Meaning.Values.{blank_of, zeroed, zeroed_whole}
 
 -- Where the manager stands for the same, and the answer is that over these segments where none are
@@ -48,20 +44,6 @@ outcome_over p q None z command answer rises nodes then blind told = record {
   outcome = blind (zeroed p None);
 }
 outcome_over p q (Some h) z command answer rises nodes then blind told = told h refl
-
--- the answer of a call that pushed nothing, at which the forest stays
-pub stayed : (p q : Manager) (h : Option Held) (command : Command) (answer : Answer) (rises : MapperCounts) → IsValid q h → forest_of q h ≡ forest_of p h
-    → forest_after (forest_of p h) (machine_of p h) command answer (machine_of q h) ≡ forest_of p h → ReachesMapper command rises → IsSynchronised (machine_of p h) (segments_of h) command answer
-    → OutcomeAt (segments_of h) (machine_of p h) (Some (forest_of p h)) command answer (machine_of q h) rises → AnswerIs (state_at p h) command answer [] rises (state_at q h)
-stayed p q h command answer rises valid forest stays reaches synchronised outcome = record {
-  outcome = outcome;
-  forest = ap Some (forest ∙ sym stays);
-  reaches = reaches;
-  few = omega arith;
-  pushed = no_push (machine_of p h) (segments_of h) (segments_of h) refl;
-  synchronised = synchronised;
-  whole = as_segments (HasWholePages (machine_of q h)) h valid.whole;
-}
 
 module _ (p : Manager) (f : PageForest) (seg : SegId) (free : IsOpened p.caches seg → ⊥) (few : length p.caches.caches < MOST_MADE) where
   abbrev not_named : (n : ℕ) → whole.segment_of p.caches n ≡ Some (Some seg) → ⊥

@@ -1,6 +1,6 @@
 -- The answers of opening a segment.
 use Rattle.std.proofs.Common.{◌≡◌, ◌==◌, ℕ, zero, suc, ◌+◌, ◌<◌, ◌≤◌, Bool, true, false, cond, List, [], ◌∷◌, length, get_or, Option, Some, None, is_some, refl, ap, ◌∙◌, arith}
-use Rattle.std.specs.Prelude.{nat_le, nat_lt, option_map, sum_by}
+use Rattle.std.specs.Prelude.{nat_le, option_map, sum_by}
 use Rattle.std.specs.Option.{option_map_or}
 use Rattle.std.proofs.lemmas.Bool.Decides.{nat_tests}
 use Rattle.vm_ids.specs.declared.numbers.SegId.{SegId}
@@ -15,6 +15,7 @@ use Rattle.vm_model.specs.PageForest.{PageForest}
 use Rattle.pvm_core.specs.Manager.{Manager, cache_shown, caches_shown, machine_by}
 use Rattle.pvm_core.proofs.Homes.Named.{named_back}
 use Rattle.pvm_core.proofs.Opening.Machine.{with_cache}
+use Rattle.pvm_core.proofs.NewCaches.NewCache.{at_most, less, not_less, not_most}
 use Rattle.pvm_core.proofs.Meaning.Shown.{shown_live, shown_made}
 
 itself : (n : ℕ) → (n == n) ≡ true
@@ -40,18 +41,6 @@ found f first (t ∷ ts) (suc k) s e = here t (found f (first + 1) ts k s e)
     here : (o : Option Table) → is_some (cache_named (caches_shown f (first + 1) ts) s.0) ≡ true → is_some (cond (is_named_by s.0 (option_map (cache_shown f first) o)) (option_map (cache_shown f first) o) (cache_named (caches_shown f (first + 1) ts) s.0)) ≡ true
     here None rest = rest
     here (Some u) rest = either (is_named_by s.0 (Some (cache_shown f first u))) (cache_shown f first u) (cache_named (caches_shown f (first + 1) ts) s.0) rest
-
-most : (a b : ℕ) → a ≤ b → nat_le a b ≡ true
-most a b e = grind (arith, nat_tests)
-
-not_most : (a b : ℕ) → b < a → nat_le a b ≡ false
-not_most a b e = grind (arith, nat_tests)
-
-less : (a b : ℕ) → a < b → nat_lt a b ≡ true
-less a b e = grind (arith, nat_tests)
-
-not_less : (a b : ℕ) → b ≤ a → nat_lt a b ≡ false
-not_less a b e = grind (arith, nat_tests)
 
 module _ (p : Manager) (f : PageForest) (seg : SegId) where
   count : length (machine_by p f).caches ≡ length p.caches.caches
@@ -80,7 +69,7 @@ module _ (p : Manager) (f : PageForest) (seg : SegId) where
     unfolding open_of unless
     many_made held e =
         let out = unnamed free in
-        let many = most MOST_MADE (length (machine_by p f).caches) (omega (arith, e, count)) in
+        let many = at_most MOST_MADE (length (machine_by p f).caches) (omega (arith, e, count)) in
         rw (out, many) refl
 
     module _ (low : length p.caches.caches < MOST_MADE) where

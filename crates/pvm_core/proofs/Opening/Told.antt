@@ -42,16 +42,6 @@ quiet c d r k = record {
   pushes = k.pushed;
 }
 
-pub still_rise : (c : MapperCounts) → Rise c c no_counts
-still_rise c = record {
-  faults_later = omega arith;
-  pulls_later = omega arith;
-  pushes_later = omega arith;
-  faults = λ below. omega arith;
-  pulls = λ below. omega arith;
-  pushes = λ below. omega arith;
-}
-
 -- a fault, and no pull and no push
 abbrev pub one_fault : MapperCounts
 one_fault = record { faults = 1; pulls = 0; pushes = 0 }

@@ -23,6 +23,8 @@ use Rattle.pvm_core.proofs.Answering.Standing.{Stands, stands}
 use Rattle.pvm_core.proofs.Homes.Pushed.{values_reached}
 use Rattle.pvm_core.proofs.Readiness.Granted.{granted_by, granted_forest, granted_machine, granted_sound, granted_valid}
 use Rattle.pvm_core.proofs.Readiness.Readying.{keeps_then}
+use Rattle.fault_path.specs.Answers.{IsAnswered}
+use Rattle.pvm_core.proofs.Homes.Homed.{reached}
 use Rattle.pvm_core.proofs.Spanning.Reserved.{reserved}
 
 -- the manager with these caches, this store and these actors is sound and valid, and keeps what p
@@ -81,6 +83,10 @@ module _ (a b : Arena) (s u : Store) (h g : Option Held) (i j : Option ℕ) (t :
         machine = record { machine = k.machine; by = k.by; same = sizes_same a b stays.kept.nodes.caches; made = stays.kept.made; reach = k.reach };
         forest = record { forest = k.forest; copies = sym (store_copies (world_of (seen b u t) g)) ∙ ap (λ f. f.copies) k.forest ∙ store_copies (world_of (seen a s t) h) };
       }
+
+-- a page was brought in, or wasn't
+pub stands_answered : (a b : Arena) (s u : Store) (h g : Option Held) (i j : Option ℕ) (t : Actors) (live : ℕ) → IsManagerSound a s t live → (c d : MapperCounts) → IsAnswered (world h i a s) (world g j b u) c d → store_forest (world g j b u) ≡ store_forest (world h i a s) → IsValid (seen a s t) h → Stands (seen a s t) b u t live h g c d
+stands_answered a b s u h g i j t live sound c d answered forest valid = stands a b s u h g i j answered.kept t live sound c d forest (reached (seen a s t) h sound.nodes sound.apart i j b u g c d answered.later answered.told) valid
 
 -- the machine that a manager keeps is that of the manager which is seen
 pub keeps_seen : {p r q : Manager} {h g : Option Held} {c d : MapperCounts} → p ≡ r → KeepsMachine p q h g c d → KeepsMachine r q h g c d

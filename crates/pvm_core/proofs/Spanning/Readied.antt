@@ -33,7 +33,7 @@ use Rattle.pvm_core.proofs.Accesses.Loading.{size_le}
 use Rattle.pvm_core.proofs.Answering.Answered.{call_is}
 use Rattle.pvm_core.proofs.Answering.Changed.{changed_sound, slots_enough}
 use Rattle.pvm_core.proofs.Answering.Ended.{Ended}
-use Rattle.pvm_core.proofs.Answering.Kept.{seen}
+use Rattle.pvm_core.proofs.Answering.Kept.{seen, valid_seen}
 use Rattle.pvm_core.proofs.Answering.Rising.{rises_between}
 use Rattle.pvm_core.proofs.Holding.Counted.{same_locked}
 use Rattle.pvm_core.proofs.Holding.Kept.{held_released}
@@ -58,7 +58,7 @@ module _ (p : Manager) (h g : Option Held) (c d : MapperCounts) (a : Arena) (s :
   pub readied : (old q : Manager) → p ≡ old → seen a s t ≡ q → (range : Extent) → range ≡ replaced span → ((cache page : ℕ) → locks_of p.caches cache page ≡ locks_over p.actors cache page)
       → IsOpen (size_of p.caches span.from.0) (size_of p.caches span.to.0) (any_locked p.caches (replaced span)) span → IsValid q g → KeepsMachine old q h g c d → IsReady range nodes old q h g → IsReadied p h g c d a s t span nodes
   readied old q view back range is counted out now kept fit =
-      let valid = subst (λ (m : Manager). IsValid m g) (sym back) now in
+      let valid = valid_seen back now in
       let keeps = subst (λ (m : Manager). KeepsMachine p m h g c d) (sym back) (subst (λ (m : Manager). KeepsMachine m q h g c d) (sym view) kept) in
       record {
         valid = valid;

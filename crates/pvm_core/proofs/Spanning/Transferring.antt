@@ -1,7 +1,7 @@
 -- A copy or a move that isn't carried out, though nothing refuses it but the mapper: a write that
 -- is denied, a fault, or want of memory.
 use Rattle.std.proofs.Common.{◌≡◌, ◌≢◌, ◌⊎◌, ℕ, ◌+◌, ◌-◌, ◌<◌, ◌≤◌, Bool, true, false, length, Option, Some, None, refl, sym, ap, ◌∙◌, subst, arith, inl, inr}
-use Rattle.std.specs.Prelude.{Err, IfErr, Result, option_map}
+use Rattle.std.specs.Prelude.{Err, option_map}
 use Rattle.std.specs.List.{list_any, range_with_len}
 use Rattle.std.proofs.lemmas.List.Folds.{list_any_at, list_any_none}
 use Rattle.std.proofs.lemmas.List.FromFn.{get_or-range_with_len, length-range_with_len}
@@ -35,7 +35,7 @@ use Rattle.vm_model.specs.PageForest.{PageForest, forest_shown}
 use Rattle.vm_model.specs.Run.{CallIs}
 use Rattle.vm_model.specs.Synchronised.{IsSynchronised}
 use Rattle.pvm_core.specs.Manager.{IsValid, Manager, forest_of, machine_by, machine_of, numbered, state_at, world_of}
-use Rattle.pvm_core.specs.Saving.{CopiesSaved, FailedToSave, IfNotReady, IsNotReady, KeepsForest, KeepsMachine}
+use Rattle.pvm_core.specs.Saving.{CopiesSaved, FailedToSave, IsNotReady, KeepsForest, KeepsMachine}
 use Rattle.local_cache.specs.Arena.{Arena, table_of}
 use Rattle.pvm_core.proofs.Answering.Kept.{seen}
 use Rattle.page_release.specs.Homes.{IsWritable}
@@ -43,7 +43,7 @@ use Rattle.page_release.proofs.CommandSteps.Ranges.{destination_names}
 use Rattle.vm_ids.proofs.Forest.Laws.Ranges.{ranges_hold_their_pages}
 use Rattle.pvm_core.specs.Keeping.{CopiesNothing}
 use Rattle.pvm_core.proofs.Readiness.Copies.{saves_copied}
-use Rattle.gmi_calls.specs.Calling.{RaisesMade, done_by}
+use Rattle.gmi_calls.specs.Calling.{RaisesMade}
 use Rattle.vm_ids.specs.declared.refusal.Refusal.{Refusal}
 use Rattle.vm_ids.specs.Forest.NameLists.{◌∈◌}
 use Rattle.pvm_core.specs.Spans.{replaced}
@@ -210,7 +210,7 @@ module _ (p q : Manager) (h g : Option Held) (c d : MapperCounts) (span : Span) 
       (λ e f. told f no_segments (undenied_any p f span)) (λ s e. told (forest_of p h) s (open_now writable (forest_of p h) s e)) keeps.by)
 
   -- any of these
-  transfer_failed : (trouble : Trouble) → IsNotReady (replaced span) p h q g trouble → ((at : FaultAt) → trouble ≡ troubles.Mapper at → Rose c.faults d.faults) → CallIs c d (state_at p h) command (Err trouble) (state_at q g)
+  pub transfer_failed : (trouble : Trouble) → IsNotReady (replaced span) p h q g trouble → ((at : FaultAt) → trouble ≡ troubles.Mapper at → Rose c.faults d.faults) → CallIs c d (state_at p h) command (Err trouble) (state_at q g)
   transfer_failed trouble out rose = elim (not_ready_cases (replaced span) p q h g trouble out).is [
     | inl w ↦ subst (λ (t : Trouble). CallIs c d (state_at p h) command (Err t) (state_at q g)) (sym w.0) (denied_call w.1 w.2)
     | inr w ↦ elim w [
@@ -225,7 +225,7 @@ module _ (p q : Manager) (h g : Option Held) (c d : MapperCounts) (span : Span) 
 -- What was numbered and copied
 
 module _ (p q : Manager) (h g : Option Held) (c d : MapperCounts) (span : Span) (command : Command) (T : IsTransfer p span command) (keeps : KeepsMachine p q h g c d) (nodes : IsWhole p.caches) where
-  failed_made : (trouble : Trouble) → IsNotReady (replaced span) p h q g trouble → RaisesMade (machine_of p h) command (Err trouble) (machine_of q g) (numbered p) (numbered q)
+  pub failed_made : (trouble : Trouble) → IsNotReady (replaced span) p h q g trouble → RaisesMade (machine_of p h) command (Err trouble) (machine_of q g) (numbered p) (numbered q)
   failed_made trouble out = elim (not_ready_cases (replaced span) p q h g trouble out).is [
     | inl w ↦ subst (λ (t : Trouble). RaisesMade (machine_of p h) command (Err t) (machine_of q g) (numbered p) (numbered q)) (sym w.0) (let e : numbered q ≡ numbered p = omega (arith, keeps.made, w.1.copies) in e)
     | inr w ↦ elim w [
@@ -237,7 +237,7 @@ module _ (p q : Manager) (h g : Option Held) (c d : MapperCounts) (span : Span) 
     ]
   ]
 
-  failed_copied : (trouble : Trouble) → IsNotReady (replaced span) p h q g trouble → CopiesSaved (replaced span) p h q (Err trouble)
+  pub failed_copied : (trouble : Trouble) → IsNotReady (replaced span) p h q g trouble → CopiesSaved (replaced span) p h q (Err trouble)
   failed_copied trouble out = elim (not_ready_cases (replaced span) p q h g trouble out).is [
     | inl w ↦ subst (λ (t : Trouble). CopiesSaved (replaced span) p h q (Err t)) (sym w.0) w.1.copies
     | inr w ↦ elim w [
@@ -250,7 +250,7 @@ module _ (p q : Manager) (h g : Option Held) (c d : MapperCounts) (span : Span) 
   ]
 
   -- of what is refused then, `WriteDenied` is all
-  failed_refused : (trouble : Trouble) → IsNotReady (replaced span) p h q g trouble → (r : Refusal) → trouble ≡ troubles.Refused r → r ≢ refusals.WriteDenied → ⊥
+  pub failed_refused : (trouble : Trouble) → IsNotReady (replaced span) p h q g trouble → (r : Refusal) → trouble ≡ troubles.Refused r → r ≢ refusals.WriteDenied → ⊥
   failed_refused trouble out r e other = elim (not_ready_cases (replaced span) p q h g trouble out).is [
     | inl w ↦ other (let k : troubles.Refused r ≡ troubles.Refused refusals.WriteDenied = sym e ∙ w.0 in cc k)
     | inr w ↦ elim w [
@@ -261,31 +261,6 @@ module _ (p q : Manager) (h g : Option Held) (c d : MapperCounts) (span : Span) 
       ]
     ]
   ]
-
--- how a call ends where the pages of its span aren't ready
-pub record IsUnready (p q : Manager) (h g : Option Held) (c d : MapperCounts) (span : Span) (command : Command) (result : Result (Unit {0}) Trouble) : Type 0 where
-  pub answers : CallIs c d (state_at p h) command (done_by result) (state_at q g)
-  pub made : RaisesMade (machine_of p h) command (done_by result) (machine_of q g) (numbered p) (numbered q)
-  pub copies : CopiesSaved (replaced span) p h q result
-  pub refused : (r : Refusal) → result ≡ Err (troubles.Refused r) → r ≢ refusals.WriteDenied → ⊥
-  pub unready : IfNotReady (replaced span) p h q g result
-
--- from p, which the call that readied the range of these pages knows as old
-pub unready : (p old q : Manager) → p ≡ old → (h g : Option Held) (c d : MapperCounts) (span : Span) (command : Command) → IsTransfer p span command → IsWhole p.caches → IsWhole q.caches → IsValid old h → IsValid q g → KeepsMachine old q h g c d
-    → (count : ℕ) → size_of p.caches span.to.0 ≡ Some count → span.to_page.0 + span.pages ≤ count → (range : Extent) → range ≡ replaced span → (readied result : Result (Unit {0}) Trouble) (trouble : Trouble) → readied ≡ Err trouble → result ≡ Err trouble
-    → IfErr readied (IsNotReady range old h q g) → ((at : FaultAt) → readied ≡ Err (troubles.Mapper at) → Rose c.faults d.faults) → IsUnready old q h g c d span command result
-unready p old q view h g c d span command T nodes then valid now keeps count size within range is readied result trouble was gave wrong rose =
-    let kept = subst (λ (p : Manager). KeepsMachine p q h g c d) (sym view) keeps in
-    let before = subst (λ (p : Manager). IsValid p h) (sym view) valid in
-    let out : IsNotReady (replaced span) p h q g trouble = subst (λ (e : Extent). IsNotReady e p h q g trouble) is (subst (λ (p : Manager). IsNotReady range p h q g trouble) (sym view) (subst (λ (r : Result (Unit {0}) Trouble). IfErr r (IsNotReady range old h q g)) was wrong)) in
-    subst (λ (p : Manager). IsUnready p q h g c d span command result) view
-    (subst (λ (r : Result (Unit {0}) Trouble). IsUnready p q h g c d span command r) (sym gave) (record {
-      answers = transfer_failed p q h g c d span command T kept nodes then before now count size within trouble out (λ at e. rose at (was ∙ ap (λ t. Err t) e));
-      made = failed_made p q h g c d span command T kept nodes trouble out;
-      copies = failed_copied p q h g c d span command T kept nodes trouble out;
-      refused = λ r e other. failed_refused p q h g c d span command T kept nodes trouble out r (let k : trouble ≡ troubles.Refused r = cc e in k) other;
-      unready = λ t e only. subst (IsNotReady (replaced span) p h q g) (let k : trouble ≡ t = cc e in k) out;
-    }))
 
 -- each page that is replaced may be written
 pub names_written : (a : Arena) (span : Span) → AreWritable (replaced span) a → (x : NodeName) → x ∈ firsts (span_pairs span) → IsWritable a x

@@ -42,7 +42,7 @@ use Rattle.residency.specs.World.{page_by}
 use Rattle.residency.specs.declared.store.Store.{Store}
 use Rattle.page_release.specs.Homes.{IsWritable}
 use Rattle.pvm_core.specs.Translated.{KeepsTranslations, name_at}
-use Rattle.pvm_core.proofs.Opening.Forest.{bare_make, make_cases, make_here, make_other, with_pages}
+use Rattle.pvm_core.proofs.Opening.Forest.{make_other, with_pages, made_pages}
 use Rattle.pvm_core.proofs.Translating.Alike.{still_right}
 use Rattle.pvm_core.proofs.Translating.Cells.{cells_right}
 use Rattle.pvm_core.proofs.Translating.Writable.{tables_writable}
@@ -129,44 +129,19 @@ module _ (a b : Arena) (s : Store) (cache : CacheId) (n : ℕ) (own : OwnState) 
       let unmade : size_of a cache.0 ≡ None = ap (option_map (λ (t : Table). length t.pages)) (no_table a.caches cache.0 (omega (arith, number))) in
       (let e : Some p.0 ≡ None = sym p.1 ∙ unmade in cc e)
 
-  cell_stays : (m : NodeId) → HasNode a m → cell b m ≡ cell a m
+  new_frame : (m : NodeId) (page : ℕ) → page < n → find b m ≡ Some (new_cell (page_name cache page) own) → own_frame b s.map m ≡ Some None
   unfolding cell
-  cell_stays m k = ap (λ o. unwrap_or o blank) (stays m k)
-
-  held_stays : (m : NodeId) → HasNode a m → HasNode b m
-  held_stays m k = ap is_some (stays m k) ∙ k
-
-  of_cell : (m : NodeId) (x : NodeName) → find b m ≡ Some (new_cell x own) → (own_of b m ≡ own) × (name_of b m ≡ x)
-  unfolding cell
-  of_cell m x e = (ap (λ o. (unwrap_or o blank).own) e, ap (λ o. (unwrap_or o blank).name) e)
-
-  new_frame : (m : NodeId) → HasNode b m → name_of b m ∈ names → own_frame b s.map m ≡ Some None
-  new_frame m k i =
-      let at = (ranges_hold_their_pages cache 0 n (name_of b m)).0 i in
-      let p = has (0 + at.0) (omega (arith, at.1)) in
-      let c = of_cell p.node (page_name cache (0 + at.0)) p.is in
-      subst (λ (m : NodeId). own_frame b s.map m ≡ Some None) (then.kept.named.apart p.node m (ap is_some p.is) k (c.1 ∙ sym at.2))
-      (ap (page_by None (Some (frame_of s.map p.node.0)) (λ slot. None) None) c.0 ∙ nowhere (Some (frame_of s.map p.node.0)))
+  new_frame m page low e = ap (λ o. page_by None (Some (frame_of s.map m.0)) (λ slot. None) None (unwrap_or o blank).own) e ∙ nowhere (Some (frame_of s.map m.0))
 
   frame_stays : (m : NodeId) → HasNode a m → own_frame b s.map m ≡ own_frame a s.map m
-  frame_stays m k = ap (λ c. page_by None (Some (frame_of s.map m.0)) (λ slot. None) None c.own) (cell_stays m k)
-
-  own_made : (m : NodeId) → HasNode b m → own_frame b s.map m ≡ (node new (name_of b m)).own
-  own_made m k = elim (make_cases (λ _. own) (arena.forest_of a) names (name_of b m) (subst (λ f. IsNode f (name_of b m)) forest (IsNode-forest_of b then.kept.named m k))) [
-    | inl i ↦ new_frame m k i ∙ sym (make_here (λ _. None) old names (name_of b m) i)
-    | inr is ↦ (
-        let f = forest_of-IsNode a (name_of b m) is in
-        let same : f.0 ≡ m = then.kept.named.apart f.0 m (held_stays f.0 f.1) k (ap (λ c. c.name) (cell_stays f.0 f.1) ∙ f.2) in
-        let was : HasNode a m = subst (HasNode a) same f.1 in
-        frame_stays m was ∙ sym (frames_own a s.map whole.sound m was) ∙ ap (λ x. (node old x).own) (sym (ap (λ c. c.name) (cell_stays m was)))
-        ∙ sym (ap (λ k. k.own) (make_other (λ _. None) old names (name_of b m) (λ i. fresh (name_of b m) i is))))
-  ]
+  unfolding cell
+  frame_stays m k = ap (λ o. page_by None (Some (frame_of s.map m.0)) (λ slot. None) None (unwrap_or o blank).own) (stays m k)
 
   frames_made : frame_forest b s.map ≡ new
   unfolding frame_forest
-  frames_made = lifted (own_frame b s.map) b then.kept.named (frames_tell b s.map) new
-      (ap bare forest ∙ bare_make (λ _. own) names (arena.forest_of a) ∙ ap (make (with_pages (λ _. tt) names)) (sym (frames_bare a s.map whole.sound)) ∙ sym (bare_make (λ _. None) names old))
-      own_made
+  frames_made =
+      let pages = made_pages a b cache n own (λ _. None) (own_frame a s.map) (own_frame b s.map) old has stays new_frame frame_stays forest then fresh (frames_bare a s.map whole.sound) (frames_own a s.map whole.sound) in
+      lifted (own_frame b s.map) b then.kept.named (frames_tell b s.map) new pages.0 pages.1
 
   are_fresh : AreFresh old (with_pages (λ _. None) names)
   are_fresh = record {

@@ -1,5 +1,5 @@
 -- A manager whose translations alone changed stands for what it stood for.
-use Rattle.std.proofs.Common.{◌≡◌, ℕ, List, length, Option, Some, None, sym, ap, subst}
+use Rattle.std.proofs.Common.{◌≡◌, ℕ, Bool, List, length, Option, Some, None, sym, ap, subst}
 use Rattle.std.specs.Prelude.{IfSome}
 use Rattle.vm_ids.specs.Held.{Held}
 use Rattle.local_cache.specs.Arena.{Arena}
@@ -20,9 +20,9 @@ module _ (h : Option Held) (size : Option ℕ) (a : Arena) (s : Store) (ts : Lis
   pub tables_world : world h size a (with_tables s ts) ≡ world h size a s
   tables_world i = record (world h size a s) { places = many i }
 
--- what holds of a manager's fields says nothing of translations
-pub tables_sound : (a : Arena) (s : Store) (ts : List (Option Entry)) (u : Actors) (live : ℕ) → IsManagerSound a s u live → IsManagerSound a (with_tables s ts) u live
-tables_sound a s ts u live k = record {
+-- what holds of a manager's fields says nothing of translations, nor of the marks of frames
+pub led_sound : (a : Arena) (s : Store) (ts : List (Option Entry)) (marks : List Bool) (u : Actors) (live : ℕ) → IsManagerSound a s u live → IsManagerSound a (record s { tables = ts; marks = marks }) u live
+led_sound a s ts marks u live k = record {
   nodes = k.nodes;
   apart = k.apart;
   bounded = k.bounded;
@@ -34,6 +34,9 @@ tables_sound a s ts u live k = record {
   actors = k.actors;
   page = k.page;
 }
+
+pub tables_sound : (a : Arena) (s : Store) (ts : List (Option Entry)) (u : Actors) (live : ℕ) → IsManagerSound a s u live → IsManagerSound a (with_tables s ts) u live
+tables_sound a s ts = led_sound a s ts s.marks
 
 module _ (p : Manager) (ts : List (Option Entry)) (many : length ts ≡ length p.store.tables) (h : Option Held) where
   abbrev changed : Manager

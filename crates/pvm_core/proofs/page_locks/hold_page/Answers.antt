@@ -1,8 +1,9 @@
 use Rattle.std.proofs.Common.{ap, ◌∙◌}
 use Rattle.vm_ids.specs.Forest.Reading.{value_of}
+use Rattle.residency.specs.Between.{world_at}
 use Rattle.local_cache.specs.Arena.{HasNode}
 use Rattle.local_cache.proofs.Whole.Like.{like_whole}
-use Rattle.residency.specs.World.{World, world}
+use Rattle.residency.specs.World.{World}
 use Rattle.pvm_core.proofs.Locking.Alike.{alike_answered, alike_then}
 use Rattle.pvm_core.proofs.Locking.Holds.{holds_kept}
 use Rattle.pvm_core.proofs.Locking.LockedPages.{owned_values}
@@ -10,12 +11,8 @@ use Rattle.pvm_core.proofs.page_locks.hold_page.Goals as goal
 
 pub returns-in_err-bring_own-clause-alike : goal.returns-in_err-bring_own-clause-alike
 returns-in_err-bring_own-clause-alike g c =
-    let M = g.M.Mapper in
-    let old : World = world (M.held c.args.mapper.now) (M.page_bytes c.args.mapper.now) c.args.caches.now c.args.store.now in
-    let n = c.bring_own.new in
-    let w : World = world (M.held n.mapper) (M.page_bytes n.mapper) n.caches n.store in
     let e = c.in_err-bring_own.ensures in
-    alike_answered old w _ _ c.requires.whole e.answered (λ x. ap (λ f. value_of f x) e.missed.forest)
+    alike_answered _ _ _ _ c.requires.whole e.answered (λ x. ap (λ f. value_of f x) e.missed.forest)
 
 pub returns-in_err-bring_own-clause-held : goal.returns-in_err-bring_own-clause-held
 returns-in_err-bring_own-clause-held g c =
@@ -37,10 +34,10 @@ pin_page-requires-clause-held g c =
 pub returns-clause-alike : goal.returns-clause-alike
 returns-clause-alike g c =
     let M = g.M.Mapper in
-    let old : World = world (M.held c.args.mapper.now) (M.page_bytes c.args.mapper.now) c.args.caches.now c.args.store.now in
+    let old : World = world_at M c.args.mapper.now c.args.caches.now c.args.store.now in
     let n = c.bring_own.new in
-    let w : World = world (M.held n.mapper) (M.page_bytes n.mapper) n.caches n.store in
-    let v : World = world (M.held n.mapper) (M.page_bytes n.mapper) c.pin_page.new.caches c.pin_page.new.store in
+    let w : World = world_at M n.mapper n.caches n.store in
+    let v : World = world_at M n.mapper c.pin_page.new.caches c.pin_page.new.store in
     let e = c.in_ok-bring_own.ensures in
     let there : HasNode c.args.caches.now c.node_of-node.result = c.node_of-node.ensures.held in
     let first = alike_answered old w (M.counts c.args.mapper.now) (M.counts n.mapper) c.requires.whole e.answered

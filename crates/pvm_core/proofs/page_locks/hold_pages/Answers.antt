@@ -1,8 +1,9 @@
 use Rattle.std.proofs.Common.{◌-◌, ◌≤◌, ℕ, not, arith}
 use Rattle.vm_ids.specs.Counting.{MapperCounts}
+use Rattle.residency.specs.Between.{world_at}
 use Rattle.local_cache.specs.Arena.{is_locked, locks_of}
 use Rattle.residency.specs.StoreForest.{store_forest}
-use Rattle.residency.specs.World.{World, world}
+use Rattle.residency.specs.World.{World}
 use Rattle.segment_ops.proofs.Unsaved.{range_fits}
 use Rattle.pvm_core.proofs.Locking.Alike.{alike_then}
 use Rattle.pvm_core.proofs.Locking.Extents.{extent, more_upto}
@@ -28,8 +29,8 @@ hold_page-requires-clause-copies g c =
     let M = g.M.Mapper in
     let i = c.loop-number.invariant in
     let range = c.args.range in
-    let old : World = world (M.held c.args.mapper.now) (M.page_bytes c.args.mapper.now) c.args.caches.now c.args.store.now in
-    let w : World = world (M.held c.loop-number.mapper) (M.page_bytes c.loop-number.mapper) c.loop-number.caches c.loop-number.store in
+    let old : World = world_at M c.args.mapper.now c.args.caches.now c.args.store.now in
+    let w : World = world_at M c.loop-number.mapper c.loop-number.caches c.loop-number.store in
     let few = owned_few old w range.cache range.first.0 (c.loop-number.number - range.first.0) i.owned in
     omega (arith, few, c.requires.copies, c.loop-number-test.true)
 
@@ -38,10 +39,10 @@ returns-in_default-clause-alike g c =
     let M = g.M.Mapper in
     let i = c.loop-number.invariant in
     let h = c.hold_page.new in
-    let old : World = world (M.held c.args.mapper.now) (M.page_bytes c.args.mapper.now) c.args.caches.now c.args.store.now in
-    let w : World = world (M.held c.loop-number.mapper) (M.page_bytes c.loop-number.mapper) c.loop-number.caches c.loop-number.store in
-    let v : World = world (M.held h.mapper) (M.page_bytes h.mapper) h.caches h.store in
-    let u : World = world (M.held h.mapper) (M.page_bytes h.mapper) c.let_go.new.caches c.let_go.new.store in
+    let old : World = world_at M c.args.mapper.now c.args.caches.now c.args.store.now in
+    let w : World = world_at M c.loop-number.mapper c.loop-number.caches c.loop-number.store in
+    let v : World = world_at M h.mapper h.caches h.store in
+    let u : World = world_at M h.mapper c.let_go.new.caches c.let_go.new.store in
     let before : MapperCounts = M.counts c.args.mapper.now in
     let now : MapperCounts = M.counts c.loop-number.mapper in
     let after : MapperCounts = M.counts h.mapper in
@@ -55,9 +56,9 @@ loop-number-preserved g c =
     let e = c.in-Ok.ensures in
     let h = c.hold_page.new in
     let range = c.args.range in
-    let old : World = world (M.held c.args.mapper.now) (M.page_bytes c.args.mapper.now) c.args.caches.now c.args.store.now in
-    let w : World = world (M.held c.loop-number.mapper) (M.page_bytes c.loop-number.mapper) c.loop-number.caches c.loop-number.store in
-    let v : World = world (M.held h.mapper) (M.page_bytes h.mapper) h.caches h.store in
+    let old : World = world_at M c.args.mapper.now c.args.caches.now c.args.store.now in
+    let w : World = world_at M c.loop-number.mapper c.loop-number.caches c.loop-number.store in
+    let v : World = world_at M h.mapper h.caches h.store in
     record {
       alike = alike_then old w v (M.counts c.args.mapper.now) (M.counts c.loop-number.mapper) (M.counts h.mapper) i.alike e.alike;
       held = e.held;

@@ -1,7 +1,8 @@
 use Rattle.std.proofs.Common.{◌≡◌, ◌-◌}
 use Rattle.vm_ids.specs.Forest.Commands.{lock, page_names}
+use Rattle.residency.specs.Between.{world_at}
 use Rattle.residency.specs.StoreForest.{store_forest}
-use Rattle.residency.specs.World.{World, world}
+use Rattle.residency.specs.World.{World}
 use Rattle.pvm_core.specs.Holding.{HoldsLocked, LocksMore, ReadsAlike}
 use Rattle.pvm_core.specs.Translated.{KeepsTranslations}
 use Rattle.pvm_core.proofs.Locking.Extents.{extent}
@@ -10,8 +11,8 @@ use Rattle.pvm_core.proofs.page_locks.hold_pages.Given as goal
 abbrev pub invariant-loop-number : goal.invariant-loop-number
 invariant-loop-number g l =
     let M = g.M.Mapper in
-    let old : World = world (M.held l.fn.mapper) (M.page_bytes l.fn.mapper) l.fn.caches l.fn.store in
-    let now : World = world (M.held l.mapper) (M.page_bytes l.mapper) l.caches l.store in
+    let old : World = world_at M l.fn.mapper l.fn.caches l.fn.store in
+    let now : World = world_at M l.mapper l.caches l.store in
     record {
       alike : ReadsAlike old now (M.counts l.fn.mapper) (M.counts l.mapper);
       held : HoldsLocked l.caches l.store;

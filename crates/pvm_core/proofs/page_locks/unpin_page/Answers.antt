@@ -1,16 +1,13 @@
-use Rattle.std.proofs.Common.{◌≡◌, ℕ, ◌-◌, ◌<◌, ◌≤◌, true, false, List, length, Option, Some, sym, ap, subst, arith}
-use Rattle.vm_ids.specs.declared.numbers.FrameId.{FrameId}
-use Rattle.vm_ids.specs.declared.numbers.NodeId.{NodeId}
-use Rattle.vm_ids.proofs.Places.{bit_true}
+use Rattle.std.proofs.Common.{◌≡◌, ℕ, ◌-◌, ◌<◌, true, false, length, Some, sym, ap, arith}
 use Rattle.frame_pool.specs.Pool.{is_pinned}
-use Rattle.global_map.specs.Pairs.{bound_times, node_of}
+use Rattle.global_map.specs.Pairs.{node_of}
 use Rattle.local_cache.specs.Arena.{is_locked, locks_of}
-use Rattle.local_cache.specs.Own.{is_resident, own_of}
+use Rattle.local_cache.specs.Own.{own_of}
 use Rattle.local_cache.proofs.Whole.LivePages.{page_there}
 use Rattle.pvm_core.proofs.Holding.Bound.{frame_within}
 use Rattle.pvm_core.proofs.Locking.Totals.{locked_above}
 use Rattle.pvm_core.proofs.Locking.Holds.{locked_frame}
-use Rattle.pvm_core.proofs.Locking.LockedPages.{found_at, found_some, one_less, paged_held, paged_kept, pinned_again}
+use Rattle.pvm_core.proofs.Locking.LockedPages.{one_less, paged_held, paged_kept, pinned_again, frame_some, frame_at}
 use Rattle.pvm_core.proofs.page_locks.unpin_page.Goals.{After-drop_lock, After-unwrap-frame}
 use Rattle.pvm_core.proofs.page_locks.unpin_page.Goals as goal
 
@@ -24,13 +21,7 @@ pub unwrap-frame-requires : goal.unwrap-frame-requires
 unwrap-frame-requires c =
     let n = c.node_of-node.result in
     let here = c.requires.held.resident c.args.cache.0 c.args.page.0 n c.node_of-node.ensures (locked_above (locks_of c.args.caches.now c.args.cache.0 c.args.page.0) c.requires.locked) in
-    let some : 1 ≤ bound_times c.map.result.now n.0 = omega (
-      arith,
-      ap (λ (map : List (Option NodeId)). bound_times map n.0) c.map.ensures,
-      c.requires.right.2.tied.placed.bound n,
-      bit_true (is_resident (own_of c.args.caches.now n)) here,
-    ) in
-    found_some c.get.result (bound_times c.map.result.now n.0) _ c.get.ensures.found some
+    frame_some c.get.result _ c.map.result.now c.args.store.now.map n (own_of c.args.caches.now n) c.map.ensures (c.requires.right.2.tied.placed.bound n) here c.get.ensures.found
 
 -- the page has one lock fewer
 left : (c : After-drop_lock) → locks_of c.drop_lock.new.self c.args.cache.0 c.args.page.0 ≡ locks_of c.args.caches.now c.args.cache.0 c.args.page.0 - 1
@@ -38,10 +29,7 @@ left c = omega (arith, c.drop_lock.ensures.locks)
 
 -- the frame of its node
 framed : (c : After-unwrap-frame) → (c.unwrap-frame.result.0 < length c.args.store.now.map) × (node_of c.args.store.now.map c.unwrap-frame.result.0 ≡ Some c.node_of-node.result)
-framed c =
-    let n = c.node_of-node.result in
-    let found = found_at c.get.result _ (λ (f : FrameId). (f.0 < length c.map.result.now) × (node_of c.map.result.now f.0 ≡ Some n)) c.unwrap-frame.result c.get.ensures.found c.unwrap-frame.ensures in
-    subst (λ (map : List (Option NodeId)). (c.unwrap-frame.result.0 < length map) × (node_of map c.unwrap-frame.result.0 ≡ Some n)) c.map.ensures found
+framed c = frame_at c.get.result _ c.map.result.now c.args.store.now.map c.node_of-node.result c.unwrap-frame.result c.map.ensures c.get.ensures.found c.unwrap-frame.ensures
 
 -- a page that has a lock still has a frame that is pinned
 still_pinned : (c : After-drop_lock) → (f : ℕ) × (node_of c.args.store.now.map f ≡ Some c.node_of-node.result) × (is_pinned c.args.store.now.frames f ≡ true)

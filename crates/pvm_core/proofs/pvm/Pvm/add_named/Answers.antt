@@ -1,14 +1,14 @@
-use Rattle.std.proofs.Common.{◌≡◌, ◌<◌, [], Some, length, refl, sym, ap, subst, ◌∙◌, arith}
+use Rattle.std.proofs.Common.{◌≡◌, ℕ, ◌<◌, [], Option, Some, length, refl, sym, ap, subst, ◌∙◌, arith}
 use Rattle.std.specs.Prelude.{Result, Ok, Err}
-use Rattle.std.proofs.lemmas.Result.{err_from_is_err_and}
+use Rattle.vm_ids.specs.Held.{Held}
+use Rattle.std.proofs.result.Match.{err_is}
 use Rattle.vm_ids.specs.Counting.{no_counts}
 use Rattle.vm_ids.specs.declared.command.Command.TheVariants as commands
-use Rattle.vm_ids.specs.declared.refusal.Refusal.TheVariants as refusals
 use Rattle.vm_ids.specs.declared.reply.Reply.TheVariants as replies
 use Rattle.vm_ids.specs.declared.reply.Trouble.TheVariants as troubles
-use Rattle.vm_model.specs.Answering.{Answer, answer_by}
+use Rattle.vm_model.specs.Answering.{answer_by}
 use Rattle.vm_model.specs.Run.{AnswerIs, State}
-use Rattle.pvm_core.specs.Manager.{IsValid, Manager, state_at}
+use Rattle.pvm_core.specs.Manager.{Manager, state_at}
 use Rattle.pvm_core.specs.Opening.{HasSegment, IsOpened}
 use Rattle.local_cache.specs.declared.own_state.OwnState.TheVariants.{OnSegment}
 use Rattle.local_cache.specs.Arena.{Arena}
@@ -18,7 +18,7 @@ use Rattle.vm_model.specs.declared.limits.TheConstants.{MOST_MADE}
 use Rattle.pvm_core.specs.contracts.pvm.Pvm.{the_view}
 use Rattle.pvm_core.proofs.NewCaches.Roomy.{IsRoomy, roomy}
 use Rattle.pvm_core.proofs.NewCaches.Ungranted.{ungranted}
-use Rattle.pvm_core.proofs.Answering.Kept.{seen}
+use Rattle.pvm_core.proofs.Answering.Kept.{seen, valid_seen, answer_seen, answer_still}
 use Rattle.pvm_core.proofs.Opening.Named.{named_answer, named_sound, named_valid}
 use Rattle.pvm_core.proofs.Opening.Refused.{lacking, too_many}
 use Rattle.pvm_core.proofs.Translating.Made.{made_right, roomy_right}
@@ -32,6 +32,9 @@ free_of {seg = seg} e free = subst (λ (p : Manager). IsOpened p.caches seg → 
 few_of : {p q : Manager} → p ≡ q → length q.caches.caches < MOST_MADE → length p.caches.caches < MOST_MADE
 few_of e few = subst (λ (p : Manager). length p.caches.caches < MOST_MADE) (sym e) few
 
+has_of : (h : Option Held) (seg : SegId) (n : ℕ) {p q : Manager} → p ≡ q → HasSegment h seg q.page_bytes n → HasSegment h seg p.page_bytes n
+has_of h seg n e has = subst (λ (p : Manager). HasSegment h seg p.page_bytes n) (sym e) has
+
 -- and after room was taken
 free_in : (a b : Arena) {seg : SegId} → b ≡ record a { room = b.room } → (IsOpened a seg → ⊥) → IsOpened b seg → ⊥
 free_in a b {seg} e free opened = free (opened.0, ap (λ (k : Arena). segment_of k opened.0) (sym e) ∙ opened.1)
@@ -43,9 +46,8 @@ pub returns-then-self-pages-clause-answers : goal.returns-then-self-pages-clause
 returns-then-self-pages-clause-answers c = λ h v has.
     let p : Manager = the_view c.self.inside in
     let i = c.self.invariant.sound in
-    subst (λ (p : Manager). AnswerIs (state_at p h) (commands.OpenSegment c.args.seg) (Err (troubles.Refused refusals.TooMany)) [] no_counts (state_at p h)) c.self.view_is
-    (too_many p p h c.args.seg c.args.pages (free_of c.self.view_is c.requires.free) (few_of c.self.view_is c.requires.few)
-    (subst (λ (p : Manager). HasSegment h c.args.seg p.page_bytes c.args.pages) (sym c.self.view_is) has) i.nodes i.nodes (subst (λ (p : Manager). IsValid p h) (sym c.self.view_is) v) refl (λ f. refl) c.self.inside.live i.counted (omega (arith, c.if-self-pages.true)))
+    answer_still h c.self.view_is (too_many p p h c.args.seg c.args.pages (free_of c.self.view_is c.requires.free) (few_of c.self.view_is c.requires.few)
+    (has_of h c.args.seg c.args.pages c.self.view_is has) i.nodes i.nodes (valid_seen c.self.view_is v) refl (λ f. refl) c.self.inside.live i.counted (omega (arith, c.if-self-pages.true)))
 
 -- there is more room
 roomier : (c : After-reserve) → IsRoomy c.self.inside.caches c.reserve.new.caches c.self.inside.store c.reserve.new.store c.self.inside.contexts c.self.inside.live
@@ -63,25 +65,21 @@ invariant_of-self c = record {
 
 pub returns-in_err-reserve-clause-valid : goal.returns-in_err-reserve-clause-valid
 returns-in_err-reserve-clause-valid c = λ h v has.
-    (roomier (goal.at.returns-in_err-reserve-clause-valid c).After-reserve).valid h (subst (λ (p : Manager). IsValid p h) (sym c.self.view_is) v)
+    (roomier (goal.at.returns-in_err-reserve-clause-valid c).After-reserve).valid h (valid_seen c.self.view_is v)
 
 pub returns-in_err-reserve-clause-answers : goal.returns-in_err-reserve-clause-answers
 returns-in_err-reserve-clause-answers c = λ h v has.
     let i = c.self.inside in
     let r = c.reserve.new in
-    let e = c.reserve.ensures in
     let p : Manager = seen i.caches i.store i.contexts in
     let q : Manager = seen r.caches r.store i.contexts in
     let room = roomier (goal.at.returns-in_err-reserve-clause-answers c).After-reserve in
     let k = room.sound in
-    let answer : Answer = Err troubles.Memory in
-    let gave = err_from_is_err_and c.from_residual.result c.from_residual.ensures.1 in
-    let is : c.from_residual.result ≡ Err troubles.Memory = gave.1 ∙ ap (λ t. Err t) gave.2 in
-    subst (λ (p : Manager). AnswerIs (state_at p h) (commands.OpenSegment c.args.seg) (answer_by replies.Cache c.from_residual.result) [] no_counts (state_at q h)) c.self.view_is
-    (subst (λ (r : Result _ _). AnswerIs (state_at p h) (commands.OpenSegment c.args.seg) (answer_by replies.Cache r) [] no_counts (state_at q h)) (sym is)
+    let is : c.from_residual.result ≡ Err troubles.Memory = err_is c.from_residual.result _ c.from_residual.ensures.1 in
+    answer_seen h c.self.view_is (subst (λ (r : Result _ _). AnswerIs (state_at p h) (commands.OpenSegment c.args.seg) (answer_by replies.Cache r) [] no_counts (state_at q h)) (sym is)
     (lacking p q h c.args.seg c.args.pages (free_of c.self.view_is c.requires.free) (few_of c.self.view_is c.requires.few)
-    (subst (λ (p : Manager). HasSegment h c.args.seg p.page_bytes c.args.pages) (sym c.self.view_is) has) c.self.invariant.sound.nodes k.nodes
-    (room.valid h (subst (λ (p : Manager). IsValid p h) (sym c.self.view_is) v))
+    (has_of h c.args.seg c.args.pages c.self.view_is has) c.self.invariant.sound.nodes k.nodes
+    (room.valid h (valid_seen c.self.view_is v))
     (room.forest h)
     (room.by)
     i.live c.self.invariant.sound.counted (omega (arith, c.if-self-pages.false))))
@@ -118,9 +116,9 @@ returns-clause-valid c = λ h v has.
     let m = c.make_named.ensures in
     let room = roomier (goal.at.returns-clause-valid c).After-reserve in
     let k = room.sound in
-    let w = room.valid h (subst (λ (p : Manager). IsValid p h) (sym c.self.view_is) v) in
+    let w = room.valid h (valid_seen c.self.view_is v) in
     named_valid r.caches c.make_named.new.self r.store i.contexts i.live c.args.pages c.make_named.result c.args.seg m.made.0 m.made.1 m.made.2 m.pages m.stays (m.forest e.sound) (m.sound e.sound) k
-    (free_in i.caches r.caches c.reserve.ensures.caches (free_of c.self.view_is c.requires.free)) (omega (arith, c.if-self-pages.false)) c.in_ok-reserve.ensures.capacity h w (subst (λ (p : Manager). HasSegment h c.args.seg p.page_bytes c.args.pages) (sym c.self.view_is) has)
+    (free_in i.caches r.caches c.reserve.ensures.caches (free_of c.self.view_is c.requires.free)) (omega (arith, c.if-self-pages.false)) c.in_ok-reserve.ensures.capacity h w (has_of h c.args.seg c.args.pages c.self.view_is has)
 
 pub returns-clause-answers : goal.returns-clause-answers
 returns-clause-answers c = λ h v has.
@@ -130,14 +128,11 @@ returns-clause-answers c = λ h v has.
     let m = c.make_named.ensures in
     let room = roomier (goal.at.returns-clause-answers c).After-reserve in
     let k = room.sound in
-    let p : Manager = seen r.caches r.store i.contexts in
     let q : Manager = seen c.make_named.new.self r.store i.contexts in
-    let w = room.valid h (subst (λ (p : Manager). IsValid p h) (sym c.self.view_is) v) in
-    let answer : Answer = Ok (replies.Cache c.make_named.result) in
-    subst (λ (p : Manager). AnswerIs (state_at p h) (commands.OpenSegment c.args.seg) answer [] no_counts (state_at q h)) c.self.view_is
-    (subst (λ (x : State). AnswerIs x (commands.OpenSegment c.args.seg) answer [] no_counts (state_at q h)) (room.state h)
+    let w = room.valid h (valid_seen c.self.view_is v) in
+    answer_seen h c.self.view_is (subst (λ (x : State). AnswerIs x (commands.OpenSegment c.args.seg) (Ok (replies.Cache c.make_named.result)) [] no_counts (state_at q h)) (room.state h)
     (named_answer r.caches c.make_named.new.self r.store i.contexts i.live c.args.pages c.make_named.result c.args.seg m.made.0 m.made.1 m.made.2 m.pages m.stays (m.forest e.sound) (m.sound e.sound) k
-    (free_in i.caches r.caches c.reserve.ensures.caches (free_of c.self.view_is c.requires.free)) (omega (arith, c.if-self-pages.false)) c.in_ok-reserve.ensures.capacity h w (subst (λ (p : Manager). HasSegment h c.args.seg p.page_bytes c.args.pages) (sym c.self.view_is) has) (few_in i.caches r.caches c.reserve.ensures.caches (few_of c.self.view_is c.requires.few))))
+    (free_in i.caches r.caches c.reserve.ensures.caches (free_of c.self.view_is c.requires.free)) (omega (arith, c.if-self-pages.false)) c.in_ok-reserve.ensures.capacity h w (has_of h c.args.seg c.args.pages c.self.view_is has) (few_in i.caches r.caches c.reserve.ensures.caches (few_of c.self.view_is c.requires.few))))
 
 pub returns-clause-grants : goal.returns-clause-grants
 returns-clause-grants c = let made = c.make_named.ensures.made in ungranted c.reserve.new.caches c.make_named.new.self c.make_named.result (Some c.args.seg) OnSegment made.0 made.2

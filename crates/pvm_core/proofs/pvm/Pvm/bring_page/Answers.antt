@@ -1,21 +1,21 @@
-use Rattle.std.proofs.Common.{ℕ, rules, false, ◌≡◌, length, refl, sym, ap, subst, ◌∙◌, arith}
+use Rattle.std.proofs.Common.{ℕ, rules, ◌≡◌, length, refl, sym, subst, ◌∙◌, arith}
 use Rattle.std.specs.Prelude.{Ok, Err}
+use Rattle.pvm_core.proofs.Readiness.Steps.{stands_answered}
+use Rattle.residency.specs.Between.{world_at}
 use Rattle.vm_ids.specs.declared.command.Command.TheVariants as commands
 use Rattle.vm_ids.specs.declared.numbers.PageNo.{PageNo}
 use Rattle.vm_ids.specs.declared.reply.Trouble.TheVariants as troubles
 use Rattle.vm_ids.specs.declared.reply.FaultAt.{FaultAt}
-use Rattle.vm_ids.specs.declared.numbers.NodeId.{NodeId}
 use Rattle.vm_ids.specs.Forest.Commands.{page_name}
 use Rattle.local_cache.specs.Own.{own_of}
 use Rattle.residency.specs.declared.miss.Miss.{Miss}
-use Rattle.residency.specs.World.{World, world}
-use Rattle.fault_path.specs.Faults.{IsOwner, is_at_hand}
+use Rattle.residency.specs.World.{World}
 use Rattle.gmi_calls.specs.Calling.{MapperCall, RaisesMade}
 use Rattle.vm_ids.specs.declared.command.Command.{Command}
 use Rattle.vm_model.specs.Machine.{Machine}
-use Rattle.pvm_core.specs.Access.{AreNodesOf, is_page_at_hand, is_ready, IsFoundIn, IsLookedFor}
+use Rattle.pvm_core.specs.Access.{AreNodesOf, IsFoundIn, IsLookedFor}
 use Rattle.pvm_core.specs.Translated.{AreTranslationsRight}
-use Rattle.pvm_core.proofs.Accesses.Found.{missed_pulls, found_in, pulled_one}
+use Rattle.pvm_core.proofs.Accesses.Found.{found_in, pulled_one, missed_at}
 use Rattle.vm_model.specs.PageForest.{PageForest}
 use Rattle.vm_model.specs.Machine.{numbered as has_number}
 use Rattle.vm_model.specs.Place.{Place, place, place_of_actor}
@@ -24,10 +24,9 @@ use Rattle.local_cache.specs.Whole.{size_of}
 use Rattle.pvm_core.specs.Manager.{IsValid, Manager, meaning, forest_of, machine_by, machine_of, state_at, numbered}
 use Rattle.pvm_core.specs.Pieces.{fault_at}
 use Rattle.pvm_core.proofs.Answering.Answered.{failed_at, no_segments}
-use Rattle.pvm_core.proofs.Homes.Homed.{reached}
 use Rattle.pvm_core.proofs.Answering.Reaching.{reach_denied}
-use Rattle.pvm_core.proofs.Answering.Kept.{seen}
-use Rattle.pvm_core.proofs.Answering.Standing.{Stands, stands}
+use Rattle.pvm_core.proofs.Answering.Kept.{seen, valid_seen, call_seen}
+use Rattle.pvm_core.proofs.Answering.Standing.{Stands}
 use Rattle.contexts.proofs.Placing.{IsFoundAt, found_at, spot}
 use Rattle.pvm_core.proofs.Accesses.Seen.{same_grants}
 use Rattle.pvm_core.proofs.Translating.Dropped.{dropped_right}
@@ -35,11 +34,10 @@ use Rattle.pvm_core.proofs.Answering.Recorded.{asks_missed}
 use Rattle.regions.specs.AddressSpace.{place_told}
 use Rattle.pvm_core.proofs.pvm.Pvm.bring_page.Given.{Over}
 use Rattle.pvm_core.proofs.pvm.Pvm.bring_page.Goals.{After-read_owner, After-self}
-use Rattle.gmi_calls.specs.Parking.{NoMoreReady}
 use Rattle.residency.specs.declared.miss.Miss.TheVariants.{Pull, Victim}
 use Rattle.fault_path.proofs.OnePage.FoundPage.{owner_page}
-use Rattle.pvm_core.proofs.Accesses.AtHand.{failed_hand, owner_hand, owner_some}
-use Rattle.pvm_core.proofs.Accesses.Ready.{no_more, ready_is, found_hand}
+use Rattle.pvm_core.proofs.Accesses.AtHand.{failed_hand, owner_some}
+use Rattle.pvm_core.proofs.Accesses.Ready.{found_hand, seen_no_more, ready_hand}
 use Rattle.vm_model.specs.Answering.{Answer}
 use Rattle.pvm_core.proofs.Accesses.Stored.{kept_copies, not_saved, store_fault, undenied, undenied_blank}
 use Rattle.page_release.specs.Homes.{IsWritable}
@@ -54,7 +52,7 @@ found g c =
     (subst (λ (p : Manager). Ok c.args.place ≡ place_told (place_of_actor p.page_bytes (has_number p.actors c.args.actor.0) c.args.address n)) (sym c.self.view_is) c.requires.place.1)
 
 valid_before : (g : Over) (c : After-self g) → IsValid (seen c.self.inside.caches c.self.inside.store c.self.inside.contexts) (g.M.Mapper.held c.args.mapper.now)
-valid_before g c = subst (λ (p : Manager). IsValid p (g.M.Mapper.held c.args.mapper.now)) (sym c.self.view_is) c.requires.valid
+valid_before g c = valid_seen c.self.view_is c.requires.valid
 
 -- a fault leaves the counters
 raised : (miss : Miss) (page : PageNo) (m : Machine) (command : Command) (next : Machine) (before now : ℕ) → now ≡ before → RaisesMade m command (Err (troubles.Mapper (fault_at miss page))) next before now
@@ -67,11 +65,7 @@ looked g c =
     let i = c.self.inside in
     let n = c.read_owner.new in
     let e = c.read_owner.ensures in
-    let size = g.M.Mapper.page_bytes c.args.mapper.now in
-    let now = g.M.Mapper.page_bytes n.mapper in
-    stands i.caches n.caches i.store n.store (g.M.Mapper.held c.args.mapper.now) (g.M.Mapper.held c.read_owner.new.mapper) size now e.answered.kept i.contexts i.live c.self.invariant.sound (g.M.Mapper.counts c.args.mapper.now) (g.M.Mapper.counts c.read_owner.new.mapper) e.forest
-    (reached (seen c.self.inside.caches c.self.inside.store c.self.inside.contexts) (g.M.Mapper.held c.args.mapper.now) c.self.invariant.sound.nodes c.self.invariant.sound.apart size now n.caches n.store (g.M.Mapper.held c.read_owner.new.mapper) (g.M.Mapper.counts c.args.mapper.now) (g.M.Mapper.counts c.read_owner.new.mapper) e.answered.later e.answered.told)
-    (valid_before g (goal.at.After-read_owner g c).After-self)
+    stands_answered i.caches n.caches i.store n.store _ _ _ _ i.contexts i.live c.self.invariant.sound _ _ e.answered e.forest (valid_before g (goal.at.After-read_owner g c).After-self)
 
 -- the nodes of the page
 told_nodes : (g : Over) (c : After-self g) → AreNodesOf c.self.inside.caches c.args.place.cache c.args.place.page c.args.nodes.node c.args.nodes.owner
@@ -132,8 +126,8 @@ still_nodes g c =
     let l = looked g c in
     let node = c.args.nodes.node in
     let o = told_nodes g (goal.at.After-read_owner g c).After-self in
-    let w : World = world (g.M.Mapper.held c.args.mapper.now) (g.M.Mapper.page_bytes c.args.mapper.now) i.caches i.store in
-    let v : World = world (g.M.Mapper.held n.mapper) (g.M.Mapper.page_bytes n.mapper) n.caches n.store in
+    let w : World = world_at g.M.Mapper c.args.mapper.now i.caches i.store in
+    let v : World = world_at g.M.Mapper n.mapper n.caches n.store in
     let held = e.answered.kept.nodes.held node ∙ o.held in
     let owner = still_owner w v e.still old.sound node c.args.nodes.owner o.owner in
     record {
@@ -159,47 +153,31 @@ returns-clause-ready g c =
     let r = found g places.After-self in
     let o = still_nodes g places.After-read_owner in
     let there : IsFoundIn (seen n.caches n.store i.contexts) c.args.nodes.owner c.in_default.field-0 = found_in (g.M.Mapper.held n.mapper) (g.M.Mapper.page_bytes n.mapper) i.caches n.caches n.store i.contexts e.answered.kept.right c.args.nodes.owner c.in_default.field-0 c.in_default.ensures.frame (λ hand. (e.idle hand).2) in
-    ready_is n.caches n.store i.contexts c.self.invariant.sound.actors.some c.args.actor.0 c.args.address c.requires.place.0 (found_at r.region c.args.place) (sym r.is)
-    ∙ ap (is_page_at_hand n.caches) (sym o.name)
-    ∙ owner_hand n.caches l.sound.nodes.sound l.sound.nodes.consistent.shaped c.args.nodes.node c.args.nodes.owner o.held o.owner
+    ready_hand n.caches n.store i.contexts i.live l.sound (seen n.caches n.store i.contexts) refl c.args.actor.0 c.args.address c.requires.place.0 (found_at r.region c.args.place) (sym r.is) c.args.nodes.node c.args.nodes.owner o.held o.owner o.name
     ∙ found_hand (seen n.caches n.store i.contexts) c.args.nodes.owner c.in_default.field-0 there
 
 pub returns-clause-pulled : goal.returns-clause-pulled
 returns-clause-pulled g c = λ away.
     let i = c.self.inside in
     let nodes = c.self.invariant.sound.nodes in
-    let p : Manager = seen i.caches i.store i.contexts in
     let o = told_nodes g (goal.at.returns-clause-pulled g c).After-self in
     let r = found g (goal.at.returns-clause-pulled g c).After-self in
-    let at : Place = found_at r.region c.args.place in
-    let before : is_ready p c.args.actor.0 c.args.address ≡ false = subst (λ (p : Manager). is_ready p c.args.actor.0 c.args.address ≡ false) (sym c.self.view_is) away in
-    let out : is_at_hand (own_of i.caches c.args.nodes.owner) ≡ false = sym (owner_hand i.caches nodes.sound nodes.consistent.shaped c.args.nodes.node c.args.nodes.owner o.held o.owner) ∙ ap (is_page_at_hand i.caches) o.name
-    ∙ sym (ready_is i.caches i.store i.contexts c.self.invariant.sound.actors.some c.args.actor.0 c.args.address c.requires.place.0 at (sym r.is)) ∙ before in
-    pulled_one (own_of i.caches c.args.nodes.owner) c.read_owner.result c.in_default.field-0 (g.M.Mapper.counts c.args.mapper.now) (g.M.Mapper.counts c.read_owner.new.mapper) c.in_default.is (owner_some i.caches nodes.sound nodes.consistent.shaped c.args.nodes.node c.args.nodes.owner o.held o.owner) out
+    let hand = ready_hand i.caches i.store i.contexts i.live c.self.invariant.sound c.args.self.now c.self.view_is c.args.actor.0 c.args.address c.requires.place.0 (found_at r.region c.args.place) (sym r.is) c.args.nodes.node c.args.nodes.owner o.held o.owner o.name in
+    pulled_one (own_of i.caches c.args.nodes.owner) c.read_owner.result c.in_default.field-0 (g.M.Mapper.counts c.args.mapper.now) (g.M.Mapper.counts c.read_owner.new.mapper) c.in_default.is (owner_some i.caches nodes.sound nodes.consistent.shaped c.args.nodes.node c.args.nodes.owner o.held o.owner) (sym hand ∙ away)
     (λ zero. (_, c.read_owner.ensures.traffic zero))
 
 pub returns-in-Err-clause-missed : goal.returns-in-Err-clause-missed
 returns-in-Err-clause-missed g c =
-    let i = c.self.inside in
     let e = c.read_owner.ensures in
-    record {
-      miss = c.in-Err.miss;
-      page = c.args.place.page;
-      is = ap (λ (f : FaultAt). troubles.Mapper f) c.fault_of.ensures;
-      no_pull = λ victim. missed_pulls (own_of i.caches c.args.nodes.owner) c.read_owner.result (g.M.Mapper.counts c.args.mapper.now) (g.M.Mapper.counts c.read_owner.new.mapper) (c.in-Err.is ∙ ap (λ (m : Miss). Err m) victim)
-          (λ zero. (_, e.traffic zero)) (λ hand. (e.idle hand).0);
-    }
+    missed_at (own_of c.self.inside.caches c.args.nodes.owner) c.read_owner.result (g.M.Mapper.counts c.args.mapper.now) (g.M.Mapper.counts c.read_owner.new.mapper) c.in-Err.miss c.args.place.page c.fault_of.result c.fault_of.ensures c.in-Err.is (λ zero. (_, e.traffic zero)) (λ hand. (e.idle hand).0)
 
 pub returns-in-Err-clause-no_more : goal.returns-in-Err-clause-no_more
 returns-in-Err-clause-no_more g c =
     let i = c.self.inside in
     let n = c.read_owner.new in
-    let p : Manager = seen i.caches i.store i.contexts in
-    let q : Manager = seen n.caches n.store i.contexts in
-    let w : World = world (g.M.Mapper.held c.args.mapper.now) (g.M.Mapper.page_bytes c.args.mapper.now) i.caches i.store in
-    let v : World = world (g.M.Mapper.held n.mapper) (g.M.Mapper.page_bytes n.mapper) n.caches n.store in
-    subst (λ (p : Manager). NoMoreReady is_ready p q) c.self.view_is
-    (no_more p q refl refl (failed_hand w v c.read_owner.ensures.still c.self.invariant.sound.nodes.sound c.self.invariant.sound.nodes.consistent.shaped c.in-Err.ensures.failed))
+    let nodes = c.self.invariant.sound.nodes in
+    seen_no_more i.caches n.caches i.store n.store i.contexts c.self.view_is
+    (failed_hand (world_at g.M.Mapper c.args.mapper.now i.caches i.store) (world_at g.M.Mapper n.mapper n.caches n.store) c.read_owner.ensures.still nodes.sound nodes.consistent.shaped c.in-Err.ensures.failed)
 
 pub returns-in-Err-clause-call : goal.returns-in-Err-clause-call
 returns-in-Err-clause-call g c = λ piece may granted told.
@@ -231,7 +209,7 @@ returns-in-Err-clause-call g c = λ piece may granted told.
     (undenied p h nodes valid.right c.args.place.cache page.0 r.count r.there r.less written f k s (reach_denied (machine_of p h) h k before after l.reach) shown) refl c.in-Err.ensures.cause) in
     subst (λ (f : FaultAt). MapperCall g.M.Mapper meaning c.args.mapper.now c.args.self.now command (Err (troubles.Mapper f)) n.mapper q) (sym c.fault_of.ensures) (record {
       valid = l.valid;
-      answers = subst (λ (p : Manager). CallIs before after (state_at p h) command answer (state_at q k)) c.self.view_is answers;
+      answers = call_seen h c.self.view_is answers;
       asks_first = asks_missed command miss page before after;
       made = raised miss page (machine_of c.args.self.now h) command (machine_of q k) (numbered c.args.self.now) (numbered q) brought.numbered;
       room = refl;

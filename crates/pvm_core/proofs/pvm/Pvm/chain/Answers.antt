@@ -1,6 +1,6 @@
-use Rattle.std.proofs.Common.{◌+◌, ◌≤◌, List, [], length, refl, sym, ap, subst, ◌∙◌, arith}
+use Rattle.std.proofs.Common.{◌+◌, ◌≤◌, List, length, refl, sym, ap, subst, ◌∙◌, arith}
 use Rattle.std.specs.Prelude.{Ok, Err}
-use Rattle.vm_ids.specs.Counting.{no_counts}
+use Rattle.pvm_core.proofs.Answering.Kept.{valid_seen, answer_still}
 use Rattle.vm_ids.specs.declared.chain.ChainItem.{ChainItem}
 use Rattle.vm_ids.specs.declared.command.Command.TheVariants as commands
 use Rattle.vm_ids.specs.declared.reply.Reply.TheVariants as replies
@@ -8,11 +8,10 @@ use Rattle.vm_ids.specs.declared.reply.Trouble.TheVariants as troubles
 use Rattle.vm_ids.specs.declared.refusal.Refusal.TheVariants as refusals
 use Rattle.vm_ids.specs.Forest.Reading.{chain_of, live_count, working_count}
 use Rattle.local_cache.specs.Reading as arena
-use Rattle.vm_model.specs.Answering.{Answer, reply}
-use Rattle.vm_model.specs.Run.{AnswerIs}
+use Rattle.vm_model.specs.Answering.{reply}
 use Rattle.vm_ids.proofs.Forest.Laws.Reading.{chains_are_short}
 use Rattle.local_cache.specs.Reading.{name_of}
-use Rattle.pvm_core.specs.Manager.{nodes_of, Manager, forest_of, machine_by, state_at, IsValid}
+use Rattle.pvm_core.specs.Manager.{nodes_of, Manager, forest_of, machine_by}
 use Rattle.pvm_core.specs.contracts.pvm.Pvm.{the_view}
 use Rattle.pvm_core.proofs.Answering.Answered.{seated}
 use Rattle.pvm_core.proofs.Answering.Chains.{chain_no_cache, chain_out, chain_row, chains_of}
@@ -23,29 +22,20 @@ use Rattle.pvm_core.proofs.pvm.Pvm.chain.Goals as goal
 pub returns-in_default-clause-answers : goal.returns-in_default-clause-answers
 returns-in_default-clause-answers c = λ h v.
     let p : Manager = the_view c.self.inside in
-    let command = commands.Chain c.args.cache c.args.page in
-    let answer : Answer = Err (troubles.Refused refusals.NoCache) in
-    subst (λ (p : Manager). AnswerIs (state_at p h) command answer [] no_counts (state_at p h)) c.self.view_is
-    (seated p p h command answer c.self.invariant.sound.nodes c.self.invariant.sound.nodes (subst (λ (p : Manager). IsValid p h) (sym c.self.view_is) v) refl (λ done m f s none. none) refl tt (λ f. refl) (λ page. refl)
+    answer_still h c.self.view_is (seated p p h (commands.Chain c.args.cache c.args.page) (Err (troubles.Refused refusals.NoCache)) c.self.invariant.sound.nodes c.self.invariant.sound.nodes (valid_seen c.self.view_is v) refl (λ done m f s none. none) refl tt (λ f. refl) (λ page. refl)
     (λ f s. chain_no_cache (machine_by p f) (forest_of p h) c.args.cache c.args.page.0 (unsized _ (shown_size f p.caches.caches c.args.cache.0 ∙ sym c.pages.ensures ∙ c.in_default.is))))
 
 pub returns-then-page-count-clause-answers : goal.returns-then-page-count-clause-answers
 returns-then-page-count-clause-answers c = λ h v.
     let p : Manager = the_view c.self.inside in
-    let command = commands.Chain c.args.cache c.args.page in
-    let answer : Answer = Err (troubles.Refused refusals.OutOfCache) in
-    subst (λ (p : Manager). AnswerIs (state_at p h) command answer [] no_counts (state_at p h)) c.self.view_is
-    (seated p p h command answer c.self.invariant.sound.nodes c.self.invariant.sound.nodes (subst (λ (p : Manager). IsValid p h) (sym c.self.view_is) v) refl (λ done m f s none. none) refl tt (λ f. refl) (λ page. refl)
+    answer_still h c.self.view_is (seated p p h (commands.Chain c.args.cache c.args.page) (Err (troubles.Refused refusals.OutOfCache)) c.self.invariant.sound.nodes c.self.invariant.sound.nodes (valid_seen c.self.view_is v) refl (λ done m f s none. none) refl tt (λ f. refl) (λ page. refl)
     (λ f s. let k = sized _ c.in-Some.count (shown_size f p.caches.caches c.args.cache.0 ∙ sym c.pages.ensures ∙ c.in-Some.is) in
     chain_out (machine_by p f) (forest_of p h) c.args.cache c.args.page.0 k.0 k.1 (omega (arith, k.2, c.if-page-count.true))))
 
 pub returns-in-Ok-clause-answers : goal.returns-in-Ok-clause-answers
 returns-in-Ok-clause-answers c = λ h v.
     let p : Manager = the_view c.self.inside in
-    let command = commands.Chain c.args.cache c.args.page in
-    let answer : Answer = Ok (replies.Chain c.in-Ok.list) in
-    subst (λ (p : Manager). AnswerIs (state_at p h) command answer [] no_counts (state_at p h)) c.self.view_is
-    (seated p p h command answer c.self.invariant.sound.nodes c.self.invariant.sound.nodes (subst (λ (p : Manager). IsValid p h) (sym c.self.view_is) v) refl (λ done m f s none. none) refl tt (λ f. refl) (λ page. refl)
+    answer_still h c.self.view_is (seated p p h (commands.Chain c.args.cache c.args.page) (Ok (replies.Chain c.in-Ok.list)) c.self.invariant.sound.nodes c.self.invariant.sound.nodes (valid_seen c.self.view_is v) refl (λ done m f s none. none) refl tt (λ f. refl) (λ page. refl)
     (λ f s. let k = sized _ c.in-Some.count (shown_size f p.caches.caches c.args.cache.0 ∙ sym c.pages.ensures ∙ c.in-Some.is) in
     chain_row (machine_by p f) (forest_of p h) c.args.cache c.args.page.0 k.0 k.1 (omega (arith, k.2, c.if-page-count.false))
     ∙ ap (λ (items : List ChainItem). reply (replies.Chain items) (machine_by p f)) (chains_of p h c.self.invariant.sound.nodes _ ∙ ap (chain_of (arena.forest_of p.caches)) (sym c.node_of-node.ensures.name) ∙ sym c.in-Ok.ensures)))
@@ -53,10 +43,7 @@ returns-in-Ok-clause-answers c = λ h v.
 pub returns-in-Err-clause-answers : goal.returns-in-Err-clause-answers
 returns-in-Err-clause-answers c = λ h v.
     let p : Manager = the_view c.self.inside in
-    let command = commands.Chain c.args.cache c.args.page in
-    let answer : Answer = Err troubles.Memory in
-    subst (λ (p : Manager). AnswerIs (state_at p h) command answer [] no_counts (state_at p h)) c.self.view_is
-    (seated p p h command answer c.self.invariant.sound.nodes c.self.invariant.sound.nodes (subst (λ (p : Manager). IsValid p h) (sym c.self.view_is) v) refl (λ done m f s none. none) refl tt (λ f. refl) (λ page. refl)
+    answer_still h c.self.view_is (seated p p h (commands.Chain c.args.cache c.args.page) (Err troubles.Memory) c.self.invariant.sound.nodes c.self.invariant.sound.nodes (valid_seen c.self.view_is v) refl (λ done m f s none. none) refl tt (λ f. refl) (λ page. refl)
     (λ f s. let k = sized _ c.in-Some.count (shown_size f p.caches.caches c.args.cache.0 ∙ sym c.pages.ensures ∙ c.in-Some.is) in
     let row = chain_row (machine_by p f) (forest_of p h) c.args.cache c.args.page.0 k.0 k.1 (omega (arith, k.2, c.if-page-count.false)) in
     (refl, tt, rw row tt)))

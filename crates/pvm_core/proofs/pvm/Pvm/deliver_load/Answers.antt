@@ -1,5 +1,6 @@
 use Rattle.std.proofs.Common.{◌≡◌, Bool, true, false, Ok, Err, refl, sym, ap, subst, ◌∙◌, arith, Result}
 use Rattle.std.specs.Prelude.{IfErr, IsOk, OnOk}
+use Rattle.pvm_core.proofs.Answering.Kept.{valid_seen}
 use Rattle.vm_ids.specs.Counting.{RoseBy}
 use Rattle.vm_ids.specs.declared.command.Command.TheVariants as commands
 use Rattle.vm_ids.specs.declared.piece.Piece.{Piece}
@@ -10,10 +11,10 @@ use Rattle.vm_model.specs.Answering.{Answer, answer_by}
 use Rattle.gmi_calls.specs.Calling.{MapperCall}
 use Rattle.gmi_calls.specs.Parking.{AccessCall, IsDelivered}
 use Rattle.pvm_core.specs.Access.{IsMissAt, is_ready}
-use Rattle.pvm_core.specs.Manager.{IsValid, Manager, meaning}
+use Rattle.pvm_core.specs.Manager.{Manager, meaning}
 use Rattle.pvm_core.proofs.Accesses.Found.{no_rise}
 use Rattle.pvm_core.proofs.Accesses.Parked.{access_call, any_access, came_not, came_ok, missed_access}
-use Rattle.pvm_core.proofs.Accesses.Parts.{mapper_call}
+use Rattle.pvm_core.proofs.Accesses.Parts.{mapper_call, mapper_seen}
 use Rattle.pvm_core.proofs.pvm.Pvm.deliver_load.Given.{Over}
 use Rattle.pvm_core.proofs.pvm.Pvm.deliver_load.Goals.{After-is_here-ready, After-load_at, In-None}
 use Rattle.pvm_core.proofs.pvm.Pvm.deliver_load.Goals as goal
@@ -38,7 +39,7 @@ asked g c = ready g c ∙ ap (λ (p : Manager). is_ready p c.args.actor.0 c.args
 loaded : (g : Over) (c : After-load_at g) (r : Result Piece Trouble) → c.load_at.result ≡ r → MapperCall g.M.Mapper meaning c.args.mapper.now c.args.self.now (commands.Load c.args.actor c.args.address c.args.bytes) (answer_by replies.Bytes r) c.load_at.new.mapper c.load_at.new.self
 loaded g c r is =
     subst (λ (r : Result Piece Trouble). MapperCall g.M.Mapper meaning c.args.mapper.now c.args.self.now (commands.Load c.args.actor c.args.address c.args.bytes) (answer_by replies.Bytes r) c.load_at.new.mapper c.load_at.new.self) is
-    (subst (λ (p : Manager). MapperCall g.M.Mapper meaning c.args.mapper.now p (commands.Load c.args.actor c.args.address c.args.bytes) (answer_by replies.Bytes c.load_at.result) c.load_at.new.mapper c.load_at.new.self) (unseen g (goal.at.After-load_at g c).In-None) c.load_at.ensures.call)
+    (mapper_seen (unseen g (goal.at.After-load_at g c).In-None) c.load_at.ensures.call)
 
 pub returns-in-Ok-load_at-clause-delivered : goal.returns-in-Ok-load_at-clause-delivered
 returns-in-Ok-load_at-clause-delivered g c = go (is_ready c.args.self.now c.args.actor.0 c.args.address) refl
@@ -75,6 +76,6 @@ returns-in-Err-clause-delivered g c =
     let m = c.args.mapper.now in
     let command = commands.Load c.args.actor c.args.address c.args.bytes in
     let answer : Answer = Err (troubles.Refused c.in-Err.refusal) in
-    let valid = subst (λ (p : Manager). IsValid p (g.M.Mapper.held m)) (sym (unseen g at.In-None)) c.requires.valid in
-    let call = subst (λ (p : Manager). MapperCall g.M.Mapper meaning m p command answer m q) (unseen g at.In-None) (mapper_call c.in-Err.ensures.load valid) in
+    let valid = valid_seen (unseen g at.In-None) c.requires.valid in
+    let call = mapper_seen (unseen g at.In-None) (mapper_call c.in-Err.ensures.load valid) in
     access_call _ 0 call tt tt (no_rise _) (λ r e. came_not _ _ _ r (c.is_ready.ensures ∙ ap (λ (p : Manager). is_ready p c.args.actor.0 c.args.address) (unseen g at.In-None)) e)

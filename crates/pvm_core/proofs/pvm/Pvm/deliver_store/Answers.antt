@@ -9,7 +9,7 @@ use Rattle.pvm_core.specs.Access.{IsMissAt, is_ready}
 use Rattle.pvm_core.specs.Manager.{Manager, meaning, numbered, state_at}
 use Rattle.pvm_core.proofs.Accesses.Behind.{done_or_victim, looked_then}
 use Rattle.pvm_core.proofs.Accesses.Parked.{access_call, any_access, came_not, came_ready, came_stored, missed_access, trouble_no_page, victim_no_page}
-use Rattle.pvm_core.proofs.Accesses.Parts.{quiet_then}
+use Rattle.pvm_core.proofs.Accesses.Parts.{quiet_then, mapper_seen}
 use Rattle.pvm_core.proofs.pvm.Pvm.deliver_store.Given.{Over}
 use Rattle.pvm_core.proofs.pvm.Pvm.deliver_store.Goals.{After-is_here, After-place_to_write, Else-store_seen, In-Ok}
 use Rattle.pvm_core.proofs.pvm.Pvm.deliver_store.Goals as goal
@@ -37,7 +37,7 @@ pub returns-in-Err-clause-delivered : goal.returns-in-Err-clause-delivered
 returns-in-Err-clause-delivered g c =
     let at = goal.at.returns-in-Err-clause-delivered g c in
     let command = commands.Store c.args.actor c.args.address c.args.piece.now in
-    let call = subst (λ (p : Manager). MapperCall g.M.Mapper meaning c.args.mapper.now p command (Err c.in-Err.trouble) c.place_to_write.new.mapper c.place_to_write.new.self) (unseen g at.Else-store_seen) c.in-Err.ensures.call in
+    let call = mapper_seen (unseen g at.Else-store_seen) c.in-Err.ensures.call in
     access_call _ 0 call tt (trouble_no_page c.in-Err.trouble c.in-Err.ensures.no_page) c.place_to_write.ensures.no_pull (λ r e. came_not _ _ c.in-Err.trouble r (c.is_ready.ensures ∙ as_before g at.After-place_to_write) e)
 
 -- a call behind the questions for write access

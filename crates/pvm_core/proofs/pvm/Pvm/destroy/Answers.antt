@@ -1,6 +1,6 @@
 use Rattle.std.proofs.Common.{rules, ◌≡◌, ℕ, ◌+◌, ◌-◌, Bool, false, Option, Some, None, is_some, length, refl, sym, ap, subst, ◌∙◌, arith}
 use Rattle.std.specs.Prelude.{IfErr, IsOk, OnErr, Result, Ok, Err, unwrap_or}
-use Rattle.std.proofs.lemmas.Result.{err_from_is_err_and}
+use Rattle.std.proofs.result.Match.{err_is}
 use Rattle.std.specs.List.{list_any}
 use Rattle.vm_ids.specs.Counting.{MapperCounts, Rose}
 use Rattle.vm_ids.specs.declared.command.Command.TheVariants as commands
@@ -33,12 +33,12 @@ use Rattle.pvm_core.specs.Manager.{IsValid, Manager, forest_of, machine_by, mach
 use Rattle.pvm_core.specs.Saving.{CopiesSaved, IsNotWrittenBack, IsWrittenBack, KeepsMachine, all_of, is_named}
 use Rattle.pvm_core.specs.contracts.pvm.Pvm.{the_view}
 use Rattle.pvm_core.proofs.Answering.Answered.{call_is, failed}
-use Rattle.pvm_core.proofs.Answering.Ended.{Ended}
+use Rattle.pvm_core.proofs.Answering.Ended.{Ended, ended_call}
 use Rattle.pvm_core.proofs.Readiness.Copies.{range_copied}
 use Rattle.pvm_core.proofs.Destroying.Failed.{IsNotDestroyed, of_cache, touched, not_destroyed}
 use Rattle.pvm_core.proofs.Destroying.Rows.{destroy_in_use, destroy_no_cache}
 use Rattle.pvm_core.proofs.Destroying.Taken.{follows, taken, taken_sound, taken_valid}
-use Rattle.pvm_core.proofs.Answering.Kept.{seen}
+use Rattle.pvm_core.proofs.Answering.Kept.{seen, valid_seen}
 use Rattle.pvm_core.proofs.Accesses.Loading.{size_le, sized_table}
 use Rattle.pvm_core.proofs.Answering.Reaching.{reach_none}
 use Rattle.pvm_core.proofs.Answering.Rising.{rises_between}
@@ -64,7 +64,7 @@ returns-in_default-clause-call g c = refused_mapper_call c.requires.valid (
     let command = commands.Destroy c.args.cache in
     let answer : Answer = Err (troubles.Refused refusals.NoCache) in
     subst (λ (p : Manager). CallIs counts counts (state_at p h) command answer (state_at p h)) c.self.view_is
-    (failed counts counts p p h h command answer (reach_none (machine_of p h) h counts) c.self.invariant.sound.nodes c.self.invariant.sound.nodes (subst (λ (p : Manager). IsValid p h) (sym c.self.view_is) c.requires.valid) refl refl tt tt
+    (failed counts counts p p h h command answer (reach_none (machine_of p h) h counts) c.self.invariant.sound.nodes c.self.invariant.sound.nodes (valid_seen c.self.view_is c.requires.valid) refl refl tt tt
     (λ f s. destroy_no_cache (machine_by p f) c.args.cache.0 (unsized _ (shown_size f p.caches.caches c.args.cache.0 ∙ sym c.pages.ensures ∙ c.in_default.is)))))
 
 pub returns-then-maps-clause-call : goal.returns-then-maps-clause-call
@@ -75,7 +75,7 @@ returns-then-maps-clause-call g c = refused_mapper_call c.requires.valid (
     let command = commands.Destroy c.args.cache in
     let answer : Answer = Err (troubles.Refused refusals.InUse) in
     subst (λ (p : Manager). CallIs counts counts (state_at p h) command answer (state_at p h)) c.self.view_is
-    (failed counts counts p p h h command answer (reach_none (machine_of p h) h counts) c.self.invariant.sound.nodes c.self.invariant.sound.nodes (subst (λ (p : Manager). IsValid p h) (sym c.self.view_is) c.requires.valid) refl refl tt tt
+    (failed counts counts p p h h command answer (reach_none (machine_of p h) h counts) c.self.invariant.sound.nodes c.self.invariant.sound.nodes (valid_seen c.self.view_is c.requires.valid) refl refl tt tt
     (λ f s. let k = sized _ c.in-Some.pages (shown_size f p.caches.caches c.args.cache.0 ∙ sym c.pages.ensures ∙ c.in-Some.is) in
     destroy_in_use (machine_by p f) c.args.cache.0 k.0 k.1
     (sym c.maps.ensures ∙ c.if-maps.true))))
@@ -102,9 +102,8 @@ not_written g c =
     let after = g.M.Mapper.counts c.write_back.new.mapper in
     let p : Manager = seen i.caches i.store i.contexts in
     let keeps : KeepsMachine p q h k before after = subst (λ (p : Manager). KeepsMachine p q h k before after) (sym c.self.view_is) e.keeps in
-    let gave = err_from_is_err_and c.from_residual.result c.from_residual.ensures.1 in
     let trouble = c.in_err-write_back.field-0.0 in
-    let is : c.from_residual.result ≡ Err trouble = gave.1 ∙ ap (λ t. Err t) gave.2 in
+    let is : c.from_residual.result ≡ Err trouble = err_is c.from_residual.result _ c.from_residual.ensures.1 in
     let wrong : IsNotWrittenBack all p h q k trouble = subst (λ (p : Manager). IsNotWrittenBack all p h q k trouble) (sym c.self.view_is) (subst (λ (r : Result _ Trouble). IfErr r (IsNotWrittenBack all c.args.self.now h q k)) c.in_err-write_back.was e.not_written) in
     subst (λ (p : Manager). IsNotDestroyed p q h k before after c.args.cache c.from_residual.result) c.self.view_is
     (subst (λ (r : Result _ Trouble). IsNotDestroyed p q h k before after c.args.cache r) (sym is)
@@ -262,14 +261,7 @@ invariant_of-self g c = record {
 }
 
 pub returns-clause-call : goal.returns-clause-call
-returns-clause-call g c = record {
-  valid = (gone g (goal.at.returns-clause-call g c).After-remove).0.valid;
-  answers = (gone g (goal.at.returns-clause-call g c).After-remove).0.answers;
-  asks_first = tt;
-  made = (gone g (goal.at.returns-clause-call g c).After-remove).0.made;
-  room = refl;
-  page = search rules;
-}
+returns-clause-call g c = ended_call g.M.Mapper c.args.mapper.now c.write_back.new.mapper (gone g (goal.at.returns-clause-call g c).After-remove).0 tt (search rules)
 
 pub returns-clause-copies : goal.returns-clause-copies
 returns-clause-copies g c = (gone g (goal.at.returns-clause-copies g c).After-remove).1

@@ -17,7 +17,7 @@ use Rattle.contexts.proofs.Placing.{right_without_actor}
 use Rattle.contexts.proofs.RegionRows.{exit_none, exit_row, without_actor}
 use Rattle.pvm_core.specs.Manager.{IsManagerRight, IsValid, Manager, caches_shown, numbered, state_at}
 use Rattle.pvm_core.proofs.Acting.{exited, told}
-use Rattle.pvm_core.proofs.Answering.Kept.{seen}
+use Rattle.pvm_core.proofs.Answering.Kept.{seen, valid_seen, answer_seen}
 use Rattle.pvm_core.proofs.Locking.Gone.{IsGone, actor_locks, actor_placed, ended_counts, gone_answer, gone_numbered, gone_sound, gone_valid, mapped_is, mapped_none}
 use Rattle.pvm_core.proofs.Translating.Commands.{ended_right}
 use Rattle.pvm_core.proofs.Translating.Tables.{tables_sound, tables_state, tables_valid, with_tables}
@@ -66,7 +66,7 @@ pub invariant_of-self : goal.invariant_of-self
 invariant_of-self c =
     let i = c.self.inside in
     let n = c.let_all_go.new in
-    let v = subst (λ (p : Manager). IsValid p c.requires.0) (sym c.self.view_is) c.requires.1 in
+    let v = valid_seen c.self.view_is c.requires.1 in
     let ts : List (Option Entry) = map (unless (is_of_actor c.args.actor.0)) n.store.tables in
     subst (λ (xs : List (Option Entry)). IsManagerRight n.caches (with_tables n.store xs) c.exit.new.self i.live) (sym (dropped (goal.at.invariant_of-self c).After-drop_actor))
     (subst (λ (x : Actors). IsManagerRight n.caches (with_tables n.store ts) x i.live) (sym c.exit.ensures) (record {
@@ -79,7 +79,7 @@ returns-clause-call c = record {
   valid = (
       λ h valid.
       let n = c.let_all_go.new in
-      let v = subst (λ (p : Manager). IsValid p h) (sym c.self.view_is) valid in
+      let v = valid_seen c.self.view_is valid in
       let ts : List (Option Entry) = map (unless (is_of_actor c.args.actor.0)) n.store.tables in
       subst (λ (xs : List (Option Entry)). IsValid (seen n.caches (with_tables n.store xs) c.exit.new.self) h) (sym (dropped (goal.at.returns-clause-call c).After-drop_actor))
       (tables_valid (seen n.caches n.store c.exit.new.self) ts (length-map n.store.tables (unless (is_of_actor c.args.actor.0))) h
@@ -89,19 +89,18 @@ returns-clause-call c = record {
       λ h valid.
       let i = c.self.inside in
       let n = c.let_all_go.new in
-      let v = subst (λ (p : Manager). IsValid p h) (sym c.self.view_is) valid in
+      let v = valid_seen c.self.view_is valid in
       let ts : List (Option Entry) = map (unless (is_of_actor c.args.actor.0)) n.store.tables in
       let last : Manager = seen n.caches n.store c.exit.new.self in
       subst (λ (xs : List (Option Entry)). AnswerIs (state_at c.args.self.now h) (commands.ExitActor c.args.actor) (Ok replies.Done) [] no_counts (state_at (seen n.caches (with_tables n.store xs) c.exit.new.self) h)) (sym (dropped (goal.at.returns-clause-call c).After-drop_actor))
       (subst (λ (m : State). AnswerIs (state_at c.args.self.now h) (commands.ExitActor c.args.actor) (Ok replies.Done) [] no_counts m) (sym (tables_state last ts (length-map n.store.tables (unless (is_of_actor c.args.actor.0))) h))
-      (subst (λ (p : Manager). AnswerIs (state_at p h) (commands.ExitActor c.args.actor) (Ok replies.Done) [] no_counts (state_at last h)) c.self.view_is
-      (subst (λ (x : Actors). AnswerIs (state_at (seen i.caches i.store i.contexts) h) (commands.ExitActor c.args.actor) (Ok replies.Done) [] no_counts (state_at (seen n.caches n.store x) h)) (sym c.exit.ensures)
+      (answer_seen h c.self.view_is (subst (λ (x : Actors). AnswerIs (state_at (seen i.caches i.store i.contexts) h) (commands.ExitActor c.args.actor) (Ok replies.Done) [] no_counts (state_at (seen n.caches n.store x) h)) (sym c.exit.ensures)
       (gone_answer (gone (goal.at.returns-clause-call c).After-let_all_go) h v (commands.ExitActor c.args.actor) refl (λ m next f. refl) (λ m g. tt)
       (λ f g k. exit_row (caches_shown f 1 i.caches.caches) (length i.store.frames.held) i.contexts c.args.actor.0 (ap is_some (here (goal.at.returns-clause-call c).In-Some)))))))
       );
   made = (
       λ h valid.
-      let v = subst (λ (p : Manager). IsValid p h) (sym c.self.view_is) valid in
+      let v = valid_seen c.self.view_is valid in
       let same = gone_numbered (gone (goal.at.returns-clause-call c).After-let_all_go) h v in
       omega (arith, same, ap numbered c.self.view_is)
       );

@@ -1,6 +1,6 @@
-use Rattle.std.proofs.Common.{length, sym, ap, ◌∙◌}
-use Rattle.std.specs.Prelude.{Ok, Err}
-use Rattle.std.proofs.lemmas.Result.{err_from_is_err_and}
+use Rattle.std.proofs.Common.{length, sym, ◌∙◌}
+use Rattle.std.specs.Prelude.{Ok}
+use Rattle.std.proofs.result.Match.{err_is}
 use Rattle.vm_ids.specs.declared.command.Command.TheVariants as commands
 use Rattle.vm_ids.specs.declared.reply.Reply.TheVariants as replies
 use Rattle.vm_model.specs.Answering.{answer_by}
@@ -13,10 +13,9 @@ pub returns-in_err-find : goal.returns-in_err-find
 returns-in_err-find c = record {
   answers = λ h v.
       let i = c.self.inside in
-      let gave = err_from_is_err_and c.from_residual.result c.from_residual.ensures.1 in
       told i.caches i.store i.contexts _ c.self.view_is h v (commands.Find c.args.actor c.args.address) (found c.args.actor c.args.address) (answer_by replies.Region c.from_residual.result) c.self.invariant.sound.nodes
       (λ f g k. find_err (caches_shown f 1 i.caches.caches) (length i.store.frames.held) i.contexts g k c.args.actor c.args.address c.in_err-find.field-0.0 c.from_residual.result
-      (sym c.in_err-find.was ∙ c.find.ensures) (gave.1 ∙ ap (λ t. Err t) gave.2));
+      (sym c.in_err-find.was ∙ c.find.ensures) (err_is c.from_residual.result _ c.from_residual.ensures.1));
 }
 
 pub returns : goal.returns

@@ -1,8 +1,10 @@
 use Rattle.std.proofs.Common.{rules, ◌≡◌, ℕ, ◌+◌, ◌*◌, ◌≤◌, false, Some, None, refl, sym, ap, subst, ◌∙◌, arith}
 use Rattle.std.specs.Prelude.{Result, Ok, Err, length, option_map}
-use Rattle.std.proofs.lemmas.Result.{err_from_is_err_and}
+use Rattle.std.proofs.result.Match.{err_is}
 use Rattle.gmi_calls.specs.Calling.{AsksFirst, RaisesMade, done_by}
 use Rattle.vm_ids.specs.Held.{segments_of}
+use Rattle.vm_ids.specs.Forest.Saving.{is_unsaved}
+use Rattle.local_cache.specs.Reading as arena
 use Rattle.vm_ids.specs.declared.command.Command.TheVariants as commands
 use Rattle.vm_ids.specs.declared.reply.FaultAt.TheVariants as faults
 use Rattle.vm_ids.specs.declared.reply.Reply.TheVariants as replies
@@ -14,30 +16,31 @@ use Rattle.local_cache.proofs.Nodes.Count.{forest_len}
 use Rattle.local_cache.proofs.Whole.LivePages.{range_there}
 use Rattle.page_release.proofs.TiedStores.Tied.{tied_right}
 use Rattle.vm_model.specs.Machine.{cache_of, pages_in}
-use Rattle.vm_model.specs.Answering.{Answer, held_for, is_any_locked}
+use Rattle.vm_model.specs.Answering.{held_for, is_any_locked}
 use Rattle.vm_model.specs.Outcome.{IsNotRefused}
 use Rattle.vm_model.specs.PageForest.{PageForest}
 use Rattle.vm_model.specs.Synchronised.{ArePushed}
 use Rattle.vm_model.specs.Run.{CallIs, State}
 use Rattle.pvm_core.specs.Manager.{IsValid, Manager, forest_of, machine_by, machine_of, numbered, state_at}
-use Rattle.pvm_core.specs.Keeping.{HasMoreRoom}
+use Rattle.pvm_core.specs.Keeping.{CopiesNothing, HasMoreRoom}
 use Rattle.pvm_core.specs.Saving.{CopiesSaved, KeepsMachine}
 use Rattle.pvm_core.specs.Writes.{SameGrants}
 use Rattle.pvm_core.proofs.Readiness.Granted.{tables_grants}
 use Rattle.pvm_core.proofs.Readiness.Readying.{failed_save, more_room}
 use Rattle.pvm_core.specs.contracts.pvm.Pvm.{the_view}
 use Rattle.pvm_core.proofs.Answering.Answered.{failed, made_stays}
-use Rattle.pvm_core.proofs.Answering.Ended.{Ended}
+use Rattle.pvm_core.proofs.Answering.Ended.{Ended, ended_call}
 use Rattle.pvm_core.proofs.Answering.Changed.{changed_sound, slots_enough}
 use Rattle.pvm_core.proofs.Extents.Rows.{IsExtent, extent_by, extent_open, extent_unlocked, invalidate_refused, invalidate_row}
 use Rattle.pvm_core.proofs.Extents.Taken.{IsTaking, taken_is, taken_pushed, taken_valid, taking, taking_copied, taking_copies, taking_saved}
 use Rattle.pvm_core.proofs.Extents.Unsaved.{unsaved_asks, unsaved_is, unsaved_made}
-use Rattle.pvm_core.proofs.Answering.Kept.{seen}
+use Rattle.pvm_core.proofs.Answering.Kept.{seen, valid_seen, call_seen}
 use Rattle.pvm_core.proofs.Meaning.Live.{nodes_most}
 use Rattle.pvm_core.proofs.Accesses.Loading.{size_le}
 use Rattle.pvm_core.proofs.Answering.Reaching.{reach_none}
 use Rattle.pvm_core.proofs.NewCaches.Roomy.{IsRoomy}
 use Rattle.pvm_core.proofs.Spanning.Reserved.{reserved}
+use Rattle.pvm_core.proofs.Spanning.Transferring.{nothing_given_back}
 use Rattle.pvm_core.specs.Locks.{any_locked}
 use Rattle.pvm_core.proofs.Holding.Counted.{any_same, same_locked}
 use Rattle.pvm_core.proofs.Holding.Kept.{held_released}
@@ -45,21 +48,19 @@ use Rattle.pvm_core.proofs.Holding.Loose.{unpinned_names, working_unpinned}
 use Rattle.pvm_core.proofs.Translating.Cells.{roomier_right}
 use Rattle.pvm_core.proofs.Translating.Left.{left_right}
 use Rattle.pvm_core.proofs.Translating.Writable.{homes_writable}
-use Rattle.pvm_core.proofs.Answering.Recorded.{asks_quiet, no_traffic, refused_mapper_call}
+use Rattle.pvm_core.proofs.Answering.Recorded.{asks_quiet, no_traffic, refused_seen}
 use Rattle.pvm_core.proofs.pvm.Pvm.invalidate.Given.{Over}
-use Rattle.pvm_core.proofs.pvm.Pvm.invalidate.Goals.{After-invalidate_pages, After-reserve, After-save, After-self-2, In-Err, In_default}
+use Rattle.pvm_core.proofs.pvm.Pvm.invalidate.Goals.{After-from_residual-in_err-save, After-invalidate_pages, After-reserve, After-save, After-self-2, In_default}
 use Rattle.pvm_core.proofs.pvm.Pvm.invalidate.Goals as goal
 
 pub returns-in-Some-clause-call : goal.returns-in-Some-clause-call
-returns-in-Some-clause-call g c = refused_mapper_call c.requires.valid (
+returns-in-Some-clause-call g c = refused_seen c.self.view_is c.requires.valid (λ valid.
     let h = g.M.Mapper.held c.args.mapper.now in
     let before = g.M.Mapper.counts c.args.mapper.now in
     let p : Manager = the_view c.self.inside in
     let i = c.self.invariant.sound in
-    let answer : Answer = Err (troubles.Refused c.in-Some.refusal) in
-    subst (λ (p : Manager). CallIs before before (state_at p h) (commands.Invalidate c.args.extent) answer (state_at p h)) c.self.view_is
-    (failed before before p p h h (commands.Invalidate c.args.extent) answer (reach_none _ h before) i.nodes i.nodes (subst (λ (p : Manager). IsValid p h) (sym c.self.view_is) c.requires.valid) refl refl tt tt
-    (λ f s. invalidate_refused p f c.args.extent i.locked.counted c.in-Some.refusal (sym c.extent_refusal.ensures ∙ c.in-Some.is) (held_for (machine_by p f) s c.args.extent.cache.0))))
+    failed before before p p h h (commands.Invalidate c.args.extent) (Err (troubles.Refused c.in-Some.refusal)) (reach_none _ h before) i.nodes i.nodes valid refl refl tt tt
+    (λ f s. invalidate_refused p f c.args.extent i.locked.counted c.in-Some.refusal (sym c.extent_refusal.ensures ∙ c.in-Some.is) (held_for (machine_by p f) s c.args.extent.cache.0)))
 
 -- nothing refuses the extent
 extent : (g : Over) (c : In_default g) → IsExtent c.self.inside.caches c.args.extent
@@ -76,7 +77,7 @@ roomy g c =
     reserved i.caches c.reserve.new.self i.store i.contexts i.live r.kept r.no_less.0 r.forest (r.sound c.self.invariant.sound.nodes.sound) c.self.invariant.sound
 
 roomy_valid : (g : Over) (c : After-reserve g) → IsValid (seen c.reserve.new.self c.self.inside.store c.self.inside.contexts) (g.M.Mapper.held c.args.mapper.now)
-roomy_valid g c = (roomy g c).valid (g.M.Mapper.held c.args.mapper.now) (subst (λ (p : Manager). IsValid p (g.M.Mapper.held c.args.mapper.now)) (sym c.self.view_is) c.requires.valid)
+roomy_valid g c = (roomy g c).valid (g.M.Mapper.held c.args.mapper.now) (valid_seen c.self.view_is c.requires.valid)
 
 pub invariant_of-self : goal.invariant_of-self
 invariant_of-self g c = record {
@@ -96,12 +97,9 @@ returns-in_err-reserve-clause-call g c = record {
       let p : Manager = seen i.caches i.store i.contexts in
       let q : Manager = seen c.reserve.new.self i.store i.contexts in
       let command = commands.Invalidate c.args.extent in
-      let answer : Answer = Err troubles.Memory in
-      let gave = err_from_is_err_and c.from_residual.result c.from_residual.ensures.1 in
-      let is : c.from_residual.result ≡ Err troubles.Memory = gave.1 ∙ ap (λ t. Err t) gave.2 in
-      subst (λ (p : Manager). CallIs before before (state_at p h) command (done_by c.from_residual.result) (state_at q h)) c.self.view_is
-      (subst (λ (r : Result _ _). CallIs before before (state_at p h) command (done_by r) (state_at q h)) (sym is)
-      (failed before before p q h h command answer (reach_none _ h before) c.self.invariant.sound.nodes r.sound.nodes (roomy_valid g at.After-reserve) (r.forest h) refl tt tt
+      let is : c.from_residual.result ≡ Err troubles.Memory = err_is c.from_residual.result _ c.from_residual.ensures.1 in
+      call_seen h c.self.view_is (subst (λ (r : Result _ _). CallIs before before (state_at p h) command (done_by r) (state_at q h)) (sym is)
+      (failed before before p q h h command (Err troubles.Memory) (reach_none _ h before) c.self.invariant.sound.nodes r.sound.nodes (roomy_valid g at.After-reserve) (r.forest h) refl tt tt
       (λ f s. (
         r.by f,
         tt,
@@ -129,12 +127,12 @@ save-requires-clause-range g c =
     record { pages = length x.table.pages; size = ap (option_map (λ (t : Table). length t.pages)) x.there; within = x.ends }
 
 -- a page wasn't saved
-unsaved : (g : Over) (c : In-Err g)
-    → CallIs (g.M.Mapper.counts c.args.mapper.now) (g.M.Mapper.counts c.save.new.mapper) (state_at c.args.self.now (g.M.Mapper.held c.args.mapper.now)) (commands.Invalidate c.args.extent) (Err c.in-Err.trouble) (state_at c.save.new.self (g.M.Mapper.held c.save.new.mapper))
-    × RaisesMade (machine_of c.args.self.now (g.M.Mapper.held c.args.mapper.now)) (commands.Invalidate c.args.extent) (Err c.in-Err.trouble) (machine_of c.save.new.self (g.M.Mapper.held c.save.new.mapper)) (numbered c.args.self.now) (numbered c.save.new.self)
-    × AsksFirst (commands.Invalidate c.args.extent) (Err c.in-Err.trouble) (g.M.Mapper.counts c.args.mapper.now) (g.M.Mapper.counts c.save.new.mapper)
+unsaved : (g : Over) (c : After-from_residual-in_err-save g)
+    → CallIs (g.M.Mapper.counts c.args.mapper.now) (g.M.Mapper.counts c.save.new.mapper) (state_at c.args.self.now (g.M.Mapper.held c.args.mapper.now)) (commands.Invalidate c.args.extent) (done_by c.from_residual-in_err-save.result) (state_at c.save.new.self (g.M.Mapper.held c.save.new.mapper))
+    × RaisesMade (machine_of c.args.self.now (g.M.Mapper.held c.args.mapper.now)) (commands.Invalidate c.args.extent) (done_by c.from_residual-in_err-save.result) (machine_of c.save.new.self (g.M.Mapper.held c.save.new.mapper)) (numbered c.args.self.now) (numbered c.save.new.self)
+    × AsksFirst (commands.Invalidate c.args.extent) (done_by c.from_residual-in_err-save.result) (g.M.Mapper.counts c.args.mapper.now) (g.M.Mapper.counts c.save.new.mapper)
 unsaved g c =
-    let at = goal.at.In-Err g c in
+    let at = goal.at.After-from_residual-in_err-save g c in
     let h = g.M.Mapper.held c.args.mapper.now in
     let z = g.M.Mapper.held c.save.new.mapper in
     let before = g.M.Mapper.counts c.args.mapper.now in
@@ -146,18 +144,19 @@ unsaved g c =
     let q : Manager = seen b i.store i.contexts in
     let x = extent_by i.caches b c.args.extent (ap (λ a. a.caches) c.reserve.ensures.kept) (extent g at.In_default) in
     let e = c.save.ensures in
+    let trouble = c.in_err-save.field-0.0 in
     let free : (f : PageForest) → is_any_locked (machine_by q f) c.args.extent.cache c.args.extent.first.0 c.args.extent.pages ≡ false = λ f. any_same q f r.sound.locked.counted c.args.extent ∙ same_locked p q c.self.invariant.sound.locked.counted r.sound.locked.counted r.by c.args.extent ∙ unlocked g at.In_default in
-    let same : numbered q ≡ numbered c.args.self.now = ap (λ a. a.made + a.copies) c.reserve.ensures.kept ∙ ap numbered c.self.view_is in (
-      subst (λ (p : Manager). CallIs before after (state_at p h) (commands.Invalidate c.args.extent) (Err c.in-Err.trouble) (state_at c.save.new.self z)) c.self.view_is
-          (subst (λ (s : State). CallIs before after s (commands.Invalidate c.args.extent) (Err c.in-Err.trouble) (state_at c.save.new.self z)) (r.state h)
-          (unsaved_is q c.save.new.self h z before after c.args.extent x free r.sound.nodes e.valid e.keeps c.in-Err.trouble c.in-Err.ensures.failed c.in-Err.ensures.cause)),
-      subst (λ (n : ℕ). RaisesMade (machine_of c.args.self.now h) (commands.Invalidate c.args.extent) (Err c.in-Err.trouble) (machine_of c.save.new.self (g.M.Mapper.held c.save.new.mapper)) n (numbered c.save.new.self)) same
-          (unsaved_made q c.save.new.self h z before after c.args.extent x free r.sound.nodes e.valid e.keeps c.in-Err.trouble c.in-Err.ensures.failed (machine_of c.args.self.now h) (machine_of c.save.new.self (g.M.Mapper.held c.save.new.mapper))),
-      unsaved_asks q c.save.new.self h z before after c.args.extent x free r.sound.nodes e.valid e.keeps c.in-Err.trouble c.in-Err.ensures.failed,
+    let same : numbered q ≡ numbered c.args.self.now = ap (λ a. a.made + a.copies) c.reserve.ensures.kept ∙ ap numbered c.self.view_is in
+    rw (err_is c.from_residual-in_err-save.result _ c.from_residual-in_err-save.ensures.1) (
+      call_seen h c.self.view_is (subst (λ (s : State). CallIs before after s (commands.Invalidate c.args.extent) (Err trouble) (state_at c.save.new.self z)) (r.state h)
+          (unsaved_is q c.save.new.self h z before after c.args.extent x free r.sound.nodes e.valid e.keeps trouble c.in_err-save.ensures.failed c.in_err-save.ensures.cause)),
+      subst (λ (n : ℕ). RaisesMade (machine_of c.args.self.now h) (commands.Invalidate c.args.extent) (Err trouble) (machine_of c.save.new.self (g.M.Mapper.held c.save.new.mapper)) n (numbered c.save.new.self)) same
+          (unsaved_made q c.save.new.self h z before after c.args.extent x free r.sound.nodes e.valid e.keeps trouble c.in_err-save.ensures.failed (machine_of c.args.self.now h) (machine_of c.save.new.self (g.M.Mapper.held c.save.new.mapper))),
+      unsaved_asks q c.save.new.self h z before after c.args.extent x free r.sound.nodes e.valid e.keeps trouble c.in_err-save.ensures.failed,
     )
 
-pub returns-in-Err-clause-call : goal.returns-in-Err-clause-call
-returns-in-Err-clause-call g c = record {
+pub returns-in_err-save-clause-call : goal.returns-in_err-save-clause-call
+returns-in_err-save-clause-call g c = record {
   valid = search rules;
   answers = (unsaved g c).0;
   asks_first = (unsaved g c).2;
@@ -181,8 +180,8 @@ ready g c =
     let r = roomy g at.After-reserve in
     let kept = c.reserve.ensures.kept in
     taking (seen i.caches i.store i.contexts) q h z before after j.caches j.store j.contexts c.args.extent (extent g at.In_default) (ap (λ a. a.caches) kept) (ap (λ a. a.made) kept) (ap (λ (s : State). s.machine) (r.state h)) r.by (r.forest h)
-    (subst (λ (m : Manager). IsValid m z) (sym c.self-2.view_is) c.save.ensures.valid) (subst (λ (m : Manager). KeepsMachine q m h z before after) (sym c.self-2.view_is) c.save.ensures.keeps)
-    (ap (λ (m : Manager). m.caches.caches) c.self-2.view_is ∙ c.save.ensures.tables) (ap (λ (m : Manager). forest_of m z) c.self-2.view_is ∙ c.in-Ok.ensures.saved)
+    (valid_seen c.self-2.view_is c.save.ensures.valid) (subst (λ (m : Manager). KeepsMachine q m h z before after) (sym c.self-2.view_is) c.save.ensures.keeps)
+    (ap (λ (m : Manager). m.caches.caches) c.self-2.view_is ∙ c.save.ensures.tables) (ap (λ (m : Manager). forest_of m z) c.self-2.view_is ∙ c.in_ok-save.ensures.saved)
 
 -- so many pages the cache has
 size : (g : Over) (c : After-self-2 g) → size_of c.self-2.inside.caches c.args.extent.cache.0 ≡ Some (length (ready g c).extent.table.pages)
@@ -250,7 +249,7 @@ taken g c =
     let u = c.invalidate_pages.new.store in
     let tied = tied_right z None j.caches j.store r.valid.right in
     let right = e.pages.right (slots_enough j.caches d j.store u j.contexts j.live k e.kept.sizes e.kept.gives_back tied e.pages.whole) in
-    let old : IsValid p h = subst (λ (p : Manager). IsValid p h) (sym c.self.view_is) c.requires.valid in
+    let old : IsValid p h = valid_seen c.self.view_is c.requires.valid in
     let copies = taking_copies p h z j.caches j.store j.contexts c.args.extent before after c.self.invariant.sound.nodes r in
     let made : numbered (seen d u j.contexts) ≤ numbered p + 8 * (c.args.extent.pages + pages_in (cache_of (machine_of p h) c.args.extent.cache.0)) + 8 = omega (arith, copies, e.pages.settles.made, e.pages.settles.copies, r.made) in (
       subst (λ (p : Manager). Ended p d u j.contexts j.live h z before after (commands.Invalidate c.args.extent) (Ok replies.Done)) c.self.view_is (record {
@@ -275,14 +274,7 @@ invariant_of-self-3 g c = record {
 }
 
 pub returns-clause-call : goal.returns-clause-call
-returns-clause-call g c = record {
-  valid = (taken g c).0.valid;
-  answers = (taken g c).0.answers;
-  asks_first = tt;
-  made = (taken g c).0.made;
-  room = refl;
-  page = search rules;
-}
+returns-clause-call g c = ended_call g.M.Mapper c.args.mapper.now c.save.new.mapper (taken g c).0 tt (search rules)
 
 pub returns-clause-taken : goal.returns-clause-taken
 returns-clause-taken g c = (taken g c).1
@@ -301,8 +293,7 @@ returns-in_err-reserve-clause-copies g c =
     let i = c.self.inside in
     let p : Manager = seen i.caches i.store i.contexts in
     let q : Manager = seen c.reserve.new.self i.store i.contexts in
-    let gave = err_from_is_err_and c.from_residual.result c.from_residual.ensures.1 in
-    let is : c.from_residual.result ≡ Err troubles.Memory = gave.1 ∙ ap (λ t. Err t) gave.2 in
+    let is : c.from_residual.result ≡ Err troubles.Memory = err_is c.from_residual.result _ c.from_residual.ensures.1 in
     subst (λ (p : Manager). CopiesSaved c.args.extent p h q c.from_residual.result) c.self.view_is
     (subst (λ (r : Result (Unit {0}) Trouble). CopiesSaved c.args.extent p h q r) (sym is) (ap (λ (k : Arena). k.copies) c.reserve.ensures.kept))
 
@@ -316,20 +307,22 @@ returns-in_err-reserve-clause-memory g c = λ memory. (
 pub returns-in_err-reserve-clause-grants : goal.returns-in_err-reserve-clause-grants
 returns-in_err-reserve-clause-grants g c = subst (λ (p : Manager). SameGrants p.caches c.reserve.new.self) c.self.view_is (tables_grants c.self.inside.caches c.reserve.new.self (ap (λ (k : Arena). k.caches) c.reserve.ensures.kept))
 
-pub returns-in-Err-clause-copies : goal.returns-in-Err-clause-copies
-returns-in-Err-clause-copies g c =
+pub returns-in_err-save-clause-copies : goal.returns-in_err-save-clause-copies
+returns-in_err-save-clause-copies g c =
     let h = g.M.Mapper.held c.args.mapper.now in
     let i = c.self.inside in
     let p : Manager = seen i.caches i.store i.contexts in
     let q = c.save.new.self in
-    let s = failed_save c.args.extent (seen c.reserve.new.self i.store i.contexts) q h (g.M.Mapper.held c.save.new.mapper) c.in-Err.trouble c.in-Err.ensures.failed in
-    subst (λ (p : Manager). CopiesSaved c.args.extent p h q (Err c.in-Err.trouble)) c.self.view_is
-    (subst (λ (t : Trouble). CopiesSaved c.args.extent p h q (Err t)) (sym s.1) (s.2.copies ∙ ap (λ (k : Arena). k.copies + s.0) c.reserve.ensures.kept))
+    let s = failed_save c.args.extent (seen c.reserve.new.self i.store i.contexts) q h (g.M.Mapper.held c.save.new.mapper) c.in_err-save.field-0.0 c.in_err-save.ensures.failed in
+    rw (err_is c.from_residual-in_err-save.result _ c.from_residual-in_err-save.ensures.1)
+    (subst (λ (p : Manager). CopiesSaved c.args.extent p h q (Err c.in_err-save.field-0.0)) c.self.view_is
+    (subst (λ (t : Trouble). CopiesSaved c.args.extent p h q (Err t)) (sym s.1) (s.2.copies ∙ ap (λ (k : Arena). k.copies + s.0) c.reserve.ensures.kept)))
 
-pub returns-in-Err-clause-memory : goal.returns-in-Err-clause-memory
-returns-in-Err-clause-memory g c = λ memory. absurd (
-    let s = failed_save c.args.extent _ _ _ _ c.in-Err.trouble c.in-Err.ensures.failed in
-    let t : c.in-Err.trouble ≡ troubles.Memory = cc memory in
+pub returns-in_err-save-clause-memory : goal.returns-in_err-save-clause-memory
+returns-in_err-save-clause-memory g c = λ memory. absurd (
+    let s = failed_save c.args.extent _ _ _ _ c.in_err-save.field-0.0 c.in_err-save.ensures.failed in
+    let is = sym (err_is c.from_residual-in_err-save.result _ c.from_residual-in_err-save.ensures.1) ∙ memory in
+    let t : c.in_err-save.field-0.0 ≡ troubles.Memory = cc is in
     let k : troubles.Memory ≡ troubles.Mapper (faults.Save s.0) = sym t ∙ s.1 in
     cc k)
 
@@ -337,8 +330,8 @@ returns-in-Err-clause-memory g c = λ memory. absurd (
 saved_grants : (g : Over) (c : After-save g) → SameGrants c.args.self.now.caches c.save.new.self.caches
 saved_grants g c = subst (λ (p : Manager). SameGrants p.caches c.save.new.self.caches) c.self.view_is (tables_grants c.self.inside.caches c.save.new.self.caches (c.save.ensures.tables ∙ ap (λ (k : Arena). k.caches) c.reserve.ensures.kept))
 
-pub returns-in-Err-clause-grants : goal.returns-in-Err-clause-grants
-returns-in-Err-clause-grants g c = saved_grants g (goal.at.returns-in-Err-clause-grants g c).After-save
+pub returns-in_err-save-clause-grants : goal.returns-in_err-save-clause-grants
+returns-in_err-save-clause-grants g c = saved_grants g (goal.at.returns-in_err-save-clause-grants g c).After-save
 
 pub returns-clause-copies : goal.returns-clause-copies
 returns-clause-copies g c =
@@ -350,6 +343,20 @@ returns-clause-copies g c =
     let z : Manager = seen c.invalidate_pages.new.caches c.invalidate_pages.new.store j.contexts in
     subst (λ (p : Manager). CopiesSaved c.args.extent p h z (Ok tt)) c.self.view_is
     (c.invalidate_pages.ensures.pages.settles.copies ∙ taking_copied p h (g.M.Mapper.held c.save.new.mapper) j.caches j.store j.contexts c.args.extent _ _ c.self.invariant.sound.nodes (ready g at) (extent g (goal.at.returns-clause-copies g c).In_default))
+
+pub returns-clause-idle : goal.returns-clause-idle
+returns-clause-idle g c = λ saved.
+    let i = c.self.inside in
+    let j = c.self-2.inside in
+    let q : Manager = seen c.reserve.new.self i.store i.contexts in
+    let e = c.invalidate_pages.ensures in
+    let idle = c.save.ensures.idle (λ x at. ap (λ f. is_unsaved f x) (c.reserve.ensures.forest ∙ ap (λ (p : Manager). arena.forest_of p.caches) c.self.view_is) ∙ saved x at) in
+    let room : CopiesNothing c.args.self.now q = subst (λ (p : Manager). CopiesNothing p q) c.self.view_is (record { copies = ap (λ (k : Arena). k.copies) c.reserve.ensures.kept; held = λ f on. on; bytes = refl }) in (
+      idle.2,
+      idle.3,
+      nothing_given_back c.args.self.now j.caches c.invalidate_pages.new.caches j.store c.invalidate_pages.new.store j.contexts (subst (CopiesNothing c.args.self.now) (sym (c.self-2.view_is ∙ idle.1)) room) e.pages.settles.copies
+          (e.kept.gives_back None None (tied_right (g.M.Mapper.held c.save.new.mapper) None j.caches j.store (ready g (goal.at.returns-clause-idle g c).After-self-2).valid.right)),
+    )
 
 pub returns-clause-grants : goal.returns-clause-grants
 returns-clause-grants g c = λ cache page. c.invalidate_pages.ensures.kept.homes.grants cache page

@@ -1,5 +1,6 @@
 use Rattle.std.proofs.Common.{◌≡◌, true, Ok, Err, sym, ap, subst, ◌∙◌, Result}
 use Rattle.std.specs.Prelude.{IsOk}
+use Rattle.pvm_core.proofs.Answering.Kept.{valid_seen}
 use Rattle.vm_ids.specs.Counting.{RoseBy}
 use Rattle.vm_ids.specs.declared.command.Command.TheVariants as commands
 use Rattle.vm_ids.specs.declared.piece.Piece.{Piece}
@@ -7,14 +8,13 @@ use Rattle.vm_ids.specs.declared.reply.Reply.TheVariants as replies
 use Rattle.vm_ids.specs.declared.reply.Trouble.{Trouble}
 use Rattle.vm_ids.specs.declared.reply.Trouble.TheVariants as troubles
 use Rattle.vm_model.specs.Answering.{answer_by}
-use Rattle.gmi_calls.specs.Calling.{MapperCall}
 use Rattle.gmi_calls.specs.Parking.{AccessCall, NoPull}
 use Rattle.pvm_core.specs.Access.{is_ready}
 use Rattle.pvm_core.specs.Keeping.{SameButSeen}
-use Rattle.pvm_core.specs.Manager.{IsValid, Manager, meaning}
+use Rattle.pvm_core.specs.Manager.{Manager, meaning}
 use Rattle.pvm_core.proofs.Accesses.Found.{no_rise}
 use Rattle.pvm_core.proofs.Accesses.Parked.{IsNoPage, access_call}
-use Rattle.pvm_core.proofs.Accesses.Parts.{mapper_call}
+use Rattle.pvm_core.proofs.Accesses.Parts.{mapper_call, mapper_seen}
 use Rattle.pvm_core.proofs.pvm.Pvm.issue_load.Given.{Over}
 use Rattle.pvm_core.proofs.pvm.Pvm.issue_load.Goals.{After-is_here, After-load_at, In-None}
 use Rattle.pvm_core.proofs.pvm.Pvm.issue_load.Goals as goal
@@ -32,7 +32,7 @@ returns-in-Err-clause-answered g c =
     let at = goal.at.returns-in-Err-clause-answered g c in
     let q = c.load_seen.new.self in
     let m = c.args.mapper.now in
-    let valid = subst (λ (p : Manager). IsValid p (g.M.Mapper.held m)) (sym (unseen g at.In-None)) c.requires.valid in
+    let valid = valid_seen (unseen g at.In-None) c.requires.valid in
     subst (λ (p : Manager). AccessCall g.M.Mapper meaning NoPull m p (commands.Load c.args.actor c.args.address c.args.bytes) (Err (troubles.Refused c.in-Err.refusal)) m q) (unseen g at.In-None) (access_call NoPull 0 (mapper_call c.in-Err.ensures.load valid) tt tt (no_rise _) (λ r e. e))
 
 -- the place of the access
@@ -56,7 +56,7 @@ returns-then-is_here-clause-answered g c =
     let at = goal.at.returns-then-is_here-clause-answered g c in
     let m = c.args.mapper.now in
     let idle = at_hand g at.After-load_at c.if-is_here.true in
-    let call = subst (λ (p : Manager). MapperCall g.M.Mapper meaning m p (commands.Load c.args.actor c.args.address c.args.bytes) (answer_by replies.Bytes c.load_at.result) c.load_at.new.mapper c.load_at.new.self) (unseen g at.In-None) c.load_at.ensures.call in
+    let call = mapper_seen (unseen g at.In-None) c.load_at.ensures.call in
     let none : RoseBy 0 (g.M.Mapper.counts m).pulls (g.M.Mapper.counts c.load_at.new.mapper).pulls = subst (λ k. RoseBy 0 (g.M.Mapper.counts m).pulls (g.M.Mapper.counts k).pulls) (sym idle.2) (no_rise _) in
     access_call NoPull 0 call tt (ok_no_page c.load_at.result idle.0) none (λ r e. e)
 

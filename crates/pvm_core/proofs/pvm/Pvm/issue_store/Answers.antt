@@ -1,4 +1,4 @@
-use Rattle.std.proofs.Common.{◌≡◌, true, Err, length, sym, ap, subst, ◌∙◌, arith}
+use Rattle.std.proofs.Common.{◌≡◌, true, length, sym, ap, ◌∙◌, arith}
 use Rattle.vm_ids.specs.Counting.{RoseBy}
 use Rattle.vm_ids.specs.declared.command.Command.TheVariants as commands
 use Rattle.gmi_calls.specs.Calling.{MapperCall, done_by}
@@ -7,7 +7,7 @@ use Rattle.pvm_core.specs.Access.{is_ready}
 use Rattle.pvm_core.specs.Manager.{Manager, meaning, numbered, state_at}
 use Rattle.pvm_core.proofs.Accesses.Found.{no_rise}
 use Rattle.pvm_core.proofs.Accesses.Parked.{access_call, trouble_no_page, victim_no_page}
-use Rattle.pvm_core.proofs.Accesses.Parts.{mapper_call, quiet_then}
+use Rattle.pvm_core.proofs.Accesses.Parts.{mapper_call, quiet_then, mapper_seen}
 use Rattle.pvm_core.proofs.pvm.Pvm.issue_store.Given.{Over}
 use Rattle.pvm_core.proofs.pvm.Pvm.issue_store.Goals.{After-is_here, Else-store_seen, Then-is_here}
 use Rattle.pvm_core.proofs.pvm.Pvm.issue_store.Goals as goal
@@ -22,7 +22,7 @@ unseen g c = c.store_seen.ensures.unseen c.if-store_seen.false
 pub returns-in-Err-clause-answered : goal.returns-in-Err-clause-answered
 returns-in-Err-clause-answered g c =
     let at = goal.at.returns-in-Err-clause-answered g c in
-    let call = subst (λ (p : Manager). MapperCall g.M.Mapper meaning c.args.mapper.now p (commands.Store c.args.actor c.args.address c.args.piece.now) (Err c.in-Err.trouble) c.place_to_write.new.mapper c.place_to_write.new.self) (unseen g at.Else-store_seen) c.in-Err.ensures.call in
+    let call = mapper_seen (unseen g at.Else-store_seen) c.in-Err.ensures.call in
     access_call NoPull 0 call tt (trouble_no_page c.in-Err.trouble c.in-Err.ensures.no_page) c.place_to_write.ensures.no_pull (λ r e. e)
 
 -- the place of the access

@@ -1,6 +1,7 @@
 use Rattle.std.proofs.Common.{◌≡◌, refl, sym, ap, subst, ◌∙◌}
 use Rattle.std.specs.Prelude.{Result, Ok, Err, IsOk}
-use Rattle.std.proofs.lemmas.Result.{err_from_is_err_and}
+use Rattle.pvm_core.proofs.Answering.Kept.{valid_seen}
+use Rattle.std.proofs.result.Match.{err_is}
 use Rattle.vm_ids.specs.declared.command.Command.TheVariants as commands
 use Rattle.vm_ids.specs.declared.reply.Reply.TheVariants as replies
 use Rattle.vm_ids.specs.declared.reply.Trouble.TheVariants as troubles
@@ -9,12 +10,12 @@ use Rattle.pvm_core.specs.Access.{IsAtHand, IsLoaded}
 use Rattle.pvm_core.specs.Keeping.{SameButSeen}
 use Rattle.vm_model.specs.Answering.{answer_by}
 use Rattle.vm_model.specs.Place.{place}
-use Rattle.pvm_core.specs.Manager.{IsValid, Manager, machine_by, machine_of}
+use Rattle.pvm_core.specs.Manager.{Manager, machine_by, machine_of}
 use Rattle.contexts.proofs.Placing.{refused_at}
 use Rattle.gmi_calls.specs.Calling.{Fits, MapperCall}
 use Rattle.std.specs.Prelude.{IfOk}
 use Rattle.pvm_core.specs.Manager.{meaning}
-use Rattle.pvm_core.proofs.Accesses.Parts.{mapper_call}
+use Rattle.pvm_core.proofs.Accesses.Parts.{mapper_call, mapper_seen}
 use Rattle.pvm_core.proofs.pvm.Pvm.load.Given.{Over}
 use Rattle.pvm_core.proofs.pvm.Pvm.load.Goals.{After-from_residual, In-None}
 use Rattle.pvm_core.proofs.pvm.Pvm.load.Goals as goal
@@ -40,17 +41,15 @@ returns-in-Some-clause-loaded g c = c.in-Some.ensures.loaded (g.M.Mapper.counts 
 
 -- the refusal
 refusal : (g : Over) (c : After-from_residual g) → c.from_residual.result ≡ Err (troubles.Refused c.in_err-place-in-None.field-0.0)
-refusal g c = let gave = err_from_is_err_and c.from_residual.result c.from_residual.ensures.1 in gave.1 ∙ ap (λ t. Err t) gave.2
+refusal g c = err_is c.from_residual.result _ c.from_residual.ensures.1
 
 pub returns-in_err-place-in-None-clause-call : goal.returns-in_err-place-in-None-clause-call
 returns-in_err-place-in-None-clause-call g c =
     let at = goal.at.returns-in_err-place-in-None-clause-call g c in
     let q = c.load_seen.new.self in
-    let command = commands.Load c.args.actor c.args.address c.args.bytes in
     let same = unseen g at.In-None in
-    subst (λ (p : Manager). MapperCall g.M.Mapper meaning c.args.mapper.now p command (answer_by replies.Bytes c.from_residual.result) c.args.mapper.now q) same
-    (subst (λ (r : Result _ _). MapperCall g.M.Mapper meaning c.args.mapper.now q command (answer_by replies.Bytes r) c.args.mapper.now q) (sym (refusal g at.After-from_residual))
-    (mapper_call c.in_err-place-in-None.ensures.load (subst (λ (p : Manager). IsValid p (g.M.Mapper.held c.args.mapper.now)) (sym same) c.requires.valid)))
+    mapper_seen same (subst (λ (r : Result _ _). MapperCall g.M.Mapper meaning c.args.mapper.now q (commands.Load c.args.actor c.args.address c.args.bytes) (answer_by replies.Bytes r) c.args.mapper.now q) (sym (refusal g at.After-from_residual))
+    (mapper_call c.in_err-place-in-None.ensures.load (valid_seen same c.requires.valid)))
 
 pub returns-in_err-place-in-None-clause-idle : goal.returns-in_err-place-in-None-clause-idle
 returns-in_err-place-in-None-clause-idle g c = λ hand.
@@ -66,13 +65,13 @@ pub load_at-requires-clause-place : goal.load_at-requires-clause-place
 load_at-requires-clause-place g c = sym c.in_ok-place-in-None.was ∙ c.locate.ensures.place
 
 pub load_at-requires-clause-valid : goal.load_at-requires-clause-valid
-load_at-requires-clause-valid g c = subst (λ (p : Manager). IsValid p (g.M.Mapper.held c.args.mapper.now)) (sym c.in-None.ensures.unseen) c.requires.valid
+load_at-requires-clause-valid g c = valid_seen c.in-None.ensures.unseen c.requires.valid
 
 pub load_at-requires-clause-fits : goal.load_at-requires-clause-fits
 load_at-requires-clause-fits g c = subst (λ (p : Manager). Fits (g.M.Mapper.page_bytes c.args.mapper.now) (machine_of p (g.M.Mapper.held c.args.mapper.now))) (sym c.in-None.ensures.unseen) c.requires.fits
 
 pub returns-in_ok-place-in-None-clause-call : goal.returns-in_ok-place-in-None-clause-call
-returns-in_ok-place-in-None-clause-call g c = subst (λ (p : Manager). MapperCall g.M.Mapper meaning c.args.mapper.now p (commands.Load c.args.actor c.args.address c.args.bytes) (answer_by replies.Bytes c.load_at.result) c.load_at.new.mapper c.load_at.new.self) c.in-None.ensures.unseen c.load_at.ensures.call
+returns-in_ok-place-in-None-clause-call g c = mapper_seen c.in-None.ensures.unseen c.load_at.ensures.call
 
 pub returns-in_ok-place-in-None-clause-copies : goal.returns-in_ok-place-in-None-clause-copies
 returns-in_ok-place-in-None-clause-copies g c = subst (λ (p : Manager). c.load_at.new.self.caches.copies ≡ p.caches.copies) c.in-None.ensures.unseen c.load_at.ensures.copies

@@ -1,5 +1,8 @@
 use Rattle.std.proofs.Common.{rules, true, false, ◌≡◌, Option, Some, length, refl, sym, ap, subst, ◌∙◌, arith}
 use Rattle.std.specs.Prelude.{◌+◌, ◌-◌, Result, Ok, Err, IfSome, IsOk}
+use Rattle.pvm_core.proofs.Readiness.Steps.{stands_answered}
+use Rattle.residency.specs.Between.{world_at}
+use Rattle.pvm_core.proofs.Accesses.Ready.{seen_no_more, seen_admits, ready_hand}
 use Rattle.vm_ids.specs.declared.command.Command.TheVariants as commands
 use Rattle.vm_ids.specs.declared.numbers.PageNo.{PageNo}
 use Rattle.vm_ids.specs.declared.reply.Reply.TheVariants as replies
@@ -18,7 +21,7 @@ use Rattle.fault_path.specs.Faults.{IsFound, IsOwner, found_page, is_at_hand}
 use Rattle.pvm_core.specs.Access.{AreNodesOf, IsAtHand, IsLoaded}
 use Rattle.pvm_core.specs.Keeping.{SameButSeen}
 use Rattle.pvm_core.specs.Translated.{AreTranslationsRight, OnlySeen}
-use Rattle.pvm_core.proofs.Accesses.Found.{missed_pulls, found_in, given_in, pulled_for, pulled_one}
+use Rattle.pvm_core.proofs.Accesses.Found.{found_in, given_in, pulled_for, pulled_one, missed_at}
 use Rattle.vm_model.specs.PageForest.{PageForest}
 use Rattle.vm_model.specs.Machine.{numbered}
 use Rattle.vm_model.specs.Place.{Place, place, place_of_actor}
@@ -27,10 +30,9 @@ use Rattle.local_cache.specs.Whole.{size_of}
 use Rattle.pvm_core.specs.Manager.{IsValid, Manager, forest_of, machine_by, machine_of, nodes_of, state_at}
 use Rattle.pvm_core.specs.Pieces.{fault_at}
 use Rattle.pvm_core.proofs.Answering.Answered.{call_is, called}
-use Rattle.pvm_core.proofs.Homes.Homed.{reached}
 use Rattle.pvm_core.proofs.Answering.Reaching.{reach_told}
-use Rattle.pvm_core.proofs.Answering.Kept.{seen, sizeless}
-use Rattle.pvm_core.proofs.Answering.Standing.{Stands, stands}
+use Rattle.pvm_core.proofs.Answering.Kept.{seen, sizeless, valid_seen, call_seen}
+use Rattle.pvm_core.proofs.Answering.Standing.{Stands}
 use Rattle.contexts.proofs.Placing.{IsFoundAt, found_at, spot}
 use Rattle.pvm_core.proofs.Accesses.Loading.{found_place, found_within, load_fault, loaded}
 use Rattle.pvm_core.proofs.Accesses.AccessedPages.{ends_within}
@@ -41,11 +43,9 @@ use Rattle.gmi_calls.specs.Calling.{AsksFirst}
 use Rattle.regions.specs.AddressSpace.{place_told}
 use Rattle.pvm_core.proofs.pvm.Pvm.load_at.Given.{Over}
 use Rattle.pvm_core.proofs.pvm.Pvm.load_at.Goals.{After-read_owner, After-remember_found, After-self}
-use Rattle.gmi_calls.specs.Parking.{NoMoreReady, StillAdmits}
-use Rattle.pvm_core.specs.Access.{Admits, is_page_at_hand, is_ready}
+use Rattle.pvm_core.specs.Access.{is_ready}
 use Rattle.fault_path.proofs.OnePage.FoundPage.{owner_same}
-use Rattle.pvm_core.proofs.Accesses.AtHand.{failed_hand, owner_hand, owner_some}
-use Rattle.pvm_core.proofs.Accesses.Ready.{no_more, ready_is, still_admits}
+use Rattle.pvm_core.proofs.Accesses.AtHand.{failed_hand, owner_some}
 use Rattle.pvm_core.proofs.pvm.Pvm.load_at.Goals as goal
 
 -- the access is in a region
@@ -56,7 +56,7 @@ found g c =
     spot (size_of c.self.inside.caches) c.self.inside.contexts c.args.actor.0 c.args.address c.args.bytes c.args.place c.self.invariant.sound.actors told
 
 valid_before : (g : Over) (c : After-self g) → IsValid (seen c.self.inside.caches c.self.inside.store c.self.inside.contexts) (g.M.Mapper.held c.args.mapper.now)
-valid_before g c = subst (λ (p : Manager). IsValid p (g.M.Mapper.held c.args.mapper.now)) (sym c.self.view_is) c.requires.valid
+valid_before g c = valid_seen c.self.view_is c.requires.valid
 
 -- the page is looked for: what the manager stands for stays
 looked : (g : Over) (c : After-read_owner g) → Stands (seen c.self.inside.caches c.self.inside.store c.self.inside.contexts) c.read_owner.new.caches c.read_owner.new.store c.self.inside.contexts c.self.inside.live (g.M.Mapper.held c.args.mapper.now) (g.M.Mapper.held c.read_owner.new.mapper) (g.M.Mapper.counts c.args.mapper.now) (g.M.Mapper.counts c.read_owner.new.mapper)
@@ -64,11 +64,7 @@ looked g c =
     let i = c.self.inside in
     let n = c.read_owner.new in
     let e = c.read_owner.ensures in
-    let size = g.M.Mapper.page_bytes c.args.mapper.now in
-    let now = g.M.Mapper.page_bytes n.mapper in
-    stands i.caches n.caches i.store n.store (g.M.Mapper.held c.args.mapper.now) (g.M.Mapper.held c.read_owner.new.mapper) size now e.answered.kept i.contexts i.live c.self.invariant.sound (g.M.Mapper.counts c.args.mapper.now) (g.M.Mapper.counts c.read_owner.new.mapper) e.forest
-    (reached (seen c.self.inside.caches c.self.inside.store c.self.inside.contexts) (g.M.Mapper.held c.args.mapper.now) c.self.invariant.sound.nodes c.self.invariant.sound.apart size now n.caches n.store (g.M.Mapper.held c.read_owner.new.mapper) (g.M.Mapper.counts c.args.mapper.now) (g.M.Mapper.counts c.read_owner.new.mapper) e.answered.later e.answered.told)
-    (valid_before g (goal.at.After-read_owner g c).After-self)
+    stands_answered i.caches n.caches i.store n.store _ _ _ _ i.contexts i.live c.self.invariant.sound _ _ e.answered e.forest (valid_before g (goal.at.After-read_owner g c).After-self)
 
 -- the nodes of the page
 told_nodes : (g : Over) (c : After-self g) → AreNodesOf c.self.inside.caches c.args.place.cache c.args.place.page c.args.nodes.node c.args.nodes.owner
@@ -155,15 +151,13 @@ returns-in-Ok-clause-call g c = record {
       let pl = c.args.place in
       let r = found g places.After-self in
       let at : Place = found_at r.region pl in
-      let command = commands.Load c.args.actor c.args.address c.args.bytes in
       let is : (f : PageForest) → Ok at ≡ place (machine_by p f) c.args.actor.0 c.args.address c.args.bytes = λ f. r.is in
       let both = reach_told (machine_of p h) h k before after l.reach in
       let piece = c.part_of.result in
       let o = told_nodes g places.After-self in
       let value = (λ j. value_of (sym (e.forest ∙ sizeless h size i.caches i.store) j) (sym o.name j)) ∙ c.in-Ok.ensures.value c.args.nodes.node o.held o.owner
       ∙ ap (λ (w : World). Some (found_page w c.in-Ok.found)) (sym (seen_world n.store u led k then_size n.caches)) in
-      subst (λ (p : Manager). CallIs before after (state_at p h) command (Ok (replies.Bytes piece)) (state_at q k)) c.self.view_is
-      (call_is before after p q h k command (Ok (replies.Bytes piece)) l.reach (seen_valid n.store u led n.caches i.contexts k l.valid) tt tt (seen_forest n.store u led n.caches i.contexts k ∙ l.forest)
+      call_seen h c.self.view_is (call_is before after p q h k (commands.Load c.args.actor c.args.address c.args.bytes) (Ok (replies.Bytes piece)) l.reach (seen_valid n.store u led n.caches i.contexts k l.valid) tt tt (seen_forest n.store u led n.caches i.contexts k ∙ l.forest)
       (loaded p q h k then_size n.caches u c.args.actor c.args.address c.args.bytes at pl.cache pl.page.0 r.count c.in-Ok.found piece _ c.self.invariant.sound.nodes is refl refl r.there r.less r.fits
       c.part_of.ensures.piece c.part_of.ensures.length value both (λ f. seen_by n.store u led n.caches i.contexts k f ∙ l.by f) (seen_machine n.store u led n.caches i.contexts k ∙ l.machine)))
       );
@@ -192,8 +186,7 @@ returns-in-Err-clause-call g c = record {
       let at : Place = found_at r.region c.args.place in
       let command = commands.Load c.args.actor c.args.address c.args.bytes in
       let is : (f : PageForest) → Ok at ≡ place (machine_by p f) c.args.actor.0 c.args.address c.args.bytes = λ f. r.is in
-      subst (λ (p : Manager). CallIs before after (state_at p h) command (Err (troubles.Mapper c.fault_of.result)) (state_at q k)) c.self.view_is
-      (subst (λ (f : FaultAt). CallIs before after (state_at p h) command (Err (troubles.Mapper f)) (state_at q k)) (sym c.fault_of.ensures)
+      call_seen h c.self.view_is (subst (λ (f : FaultAt). CallIs before after (state_at p h) command (Err (troubles.Mapper f)) (state_at q k)) (sym c.fault_of.ensures)
       (called before after p q h k command (Err (troubles.Mapper (fault_at c.in-Err.miss page))) l.reach c.self.invariant.sound.nodes l.sound.nodes l.valid l.forest (λ done m f s none. none) tt tt (λ f. refl) (λ page. refl)
       (λ f s. load_fault (length l.reach.pushes) (machine_by p f) (machine_by q f) (forest_of p h) c.args.actor c.args.address c.args.bytes s before after c.in-Err.miss page at (l.by f) (is f) refl c.in-Err.ensures.cause)))
       );
@@ -277,59 +270,50 @@ returns-in-Ok-clause-loaded g c =
 
 pub returns-in-Err-clause-missed : goal.returns-in-Err-clause-missed
 returns-in-Err-clause-missed g c =
-    let i = c.self.inside in
     let e = c.read_owner.ensures in
-    record {
-      miss = c.in-Err.miss;
-      page = c.args.place.page;
-      is = ap (λ (f : FaultAt). troubles.Mapper f) c.fault_of.ensures;
-      no_pull = λ victim. missed_pulls (own_of i.caches c.args.nodes.owner) c.read_owner.result (g.M.Mapper.counts c.args.mapper.now) (g.M.Mapper.counts c.read_owner.new.mapper) (c.in-Err.is ∙ ap (λ (m : Miss). Err m) victim)
-          (λ zero. (_, e.traffic zero)) (λ hand. (e.idle hand).0);
-    }
+    missed_at (own_of c.self.inside.caches c.args.nodes.owner) c.read_owner.result (g.M.Mapper.counts c.args.mapper.now) (g.M.Mapper.counts c.read_owner.new.mapper) c.in-Err.miss c.args.place.page c.fault_of.result c.fault_of.ensures c.in-Err.is (λ zero. (_, e.traffic zero)) (λ hand. (e.idle hand).0)
 
 pub returns-in-Err-clause-no_more : goal.returns-in-Err-clause-no_more
 returns-in-Err-clause-no_more g c =
     let i = c.self.inside in
     let n = c.read_owner.new in
-    let p : Manager = seen i.caches i.store i.contexts in
-    let q : Manager = seen n.caches n.store i.contexts in
-    let w : World = world (g.M.Mapper.held c.args.mapper.now) (g.M.Mapper.page_bytes c.args.mapper.now) i.caches i.store in
-    let v : World = world (g.M.Mapper.held n.mapper) (g.M.Mapper.page_bytes n.mapper) n.caches n.store in
-    subst (λ (p : Manager). NoMoreReady is_ready p q) c.self.view_is
-    (no_more p q refl refl (failed_hand w v c.read_owner.ensures.still c.self.invariant.sound.nodes.sound c.self.invariant.sound.nodes.consistent.shaped c.in-Err.ensures.failed))
+    let nodes = c.self.invariant.sound.nodes in
+    seen_no_more i.caches n.caches i.store n.store i.contexts c.self.view_is
+    (failed_hand (world_at g.M.Mapper c.args.mapper.now i.caches i.store) (world_at g.M.Mapper n.mapper n.caches n.store) c.read_owner.ensures.still nodes.sound nodes.consistent.shaped c.in-Err.ensures.failed)
 
 pub returns-in-Err-clause-admits : goal.returns-in-Err-clause-admits
 returns-in-Err-clause-admits g c =
     let i = c.self.inside in
     let n = c.read_owner.new in
-    let p : Manager = seen i.caches i.store i.contexts in
-    let q : Manager = seen n.caches n.store i.contexts in
-    subst (λ (p : Manager). StillAdmits Admits p q) c.self.view_is (still_admits p q refl refl (same_grants i.caches n.caches c.read_owner.ensures.answered.kept.nodes.caches))
+    seen_admits i.caches n.caches i.store n.store i.contexts c.self.view_is c.read_owner.ensures.answered.kept.nodes.caches
 
 pub returns-in-Ok-clause-admits : goal.returns-in-Ok-clause-admits
 returns-in-Ok-clause-admits g c =
     let i = c.self.inside in
     let n = c.read_owner.new in
-    let p : Manager = seen i.caches i.store i.contexts in
-    let q : Manager = seen n.caches c.remember_found.new.store i.contexts in
-    subst (λ (p : Manager). StillAdmits Admits p q) c.self.view_is (still_admits p q refl refl (same_grants i.caches n.caches c.read_owner.ensures.answered.kept.nodes.caches))
+    seen_admits i.caches n.caches i.store c.remember_found.new.store i.contexts c.self.view_is c.read_owner.ensures.answered.kept.nodes.caches
 
--- a ready access is at hand
+-- the access is ready where the owner of its page is at hand
+ready_owner : (g : Over) (c : After-self g) → is_ready c.args.self.now c.args.actor.0 c.args.address ≡ is_at_hand (own_of c.self.inside.caches c.args.nodes.owner)
+ready_owner g c =
+    let i = c.self.inside in
+    let o = told_nodes g c in
+    let r = found g c in
+    ready_hand i.caches i.store i.contexts i.live c.self.invariant.sound c.args.self.now c.self.view_is c.args.actor.0 c.args.address c.args.bytes (found_at r.region c.args.place) (sym r.is) c.args.nodes.node c.args.nodes.owner o.held o.owner o.name
+
+-- then it is at hand
 hand_there : (g : Over) (c : After-self g) → is_ready c.args.self.now c.args.actor.0 c.args.address ≡ true → IsAtHand c.args.self.now c.args.actor.0 c.args.address c.args.bytes
 hand_there g c ready =
     let i = c.self.inside in
     let p : Manager = seen i.caches i.store i.contexts in
     let o = told_nodes g c in
     let r = found g c in
-    let at : Place = found_at r.region c.args.place in
-    let before : is_ready p c.args.actor.0 c.args.address ≡ true = subst (λ (p : Manager). is_ready p c.args.actor.0 c.args.address ≡ true) (sym c.self.view_is) ready in
     subst (λ (p : Manager). IsAtHand p c.args.actor.0 c.args.address c.args.bytes) c.self.view_is (record {
-      at = at;
+      at = found_at r.region c.args.place;
       place = sym r.is;
       owner = c.args.nodes.owner;
       has = record { held = o.owner.held; owner = o.owner.name ∙ ap (owner_of (nodes_of p)) o.name };
-      at_hand = sym (owner_hand i.caches c.self.invariant.sound.nodes.sound c.self.invariant.sound.nodes.consistent.shaped c.args.nodes.node c.args.nodes.owner o.held o.owner) ∙ ap (is_page_at_hand i.caches) o.name
-          ∙ sym (ready_is i.caches i.store i.contexts c.self.invariant.sound.actors.some c.args.actor.0 c.args.address c.args.bytes at (sym r.is)) ∙ before;
+      at_hand = sym (ready_owner g c) ∙ ready;
     })
 
 pub returns-in-Ok-clause-at_hand : goal.returns-in-Ok-clause-at_hand
@@ -342,12 +326,7 @@ pub returns-in-Ok-clause-pulled : goal.returns-in-Ok-clause-pulled
 returns-in-Ok-clause-pulled g c = λ away.
     let i = c.self.inside in
     let nodes = c.self.invariant.sound.nodes in
-    let p : Manager = seen i.caches i.store i.contexts in
-    let o = told_nodes g (goal.at.returns-in-Ok-clause-pulled g c).After-self in
-    let r = found g (goal.at.returns-in-Ok-clause-pulled g c).After-self in
-    let at : Place = found_at r.region c.args.place in
-    let before : is_ready p c.args.actor.0 c.args.address ≡ false = subst (λ (p : Manager). is_ready p c.args.actor.0 c.args.address ≡ false) (sym c.self.view_is) away in
-    let out : is_at_hand (own_of i.caches c.args.nodes.owner) ≡ false = sym (owner_hand i.caches nodes.sound nodes.consistent.shaped c.args.nodes.node c.args.nodes.owner o.held o.owner) ∙ ap (is_page_at_hand i.caches) o.name
-    ∙ sym (ready_is i.caches i.store i.contexts c.self.invariant.sound.actors.some c.args.actor.0 c.args.address c.args.bytes at (sym r.is)) ∙ before in
-    pulled_one (own_of i.caches c.args.nodes.owner) c.read_owner.result c.in-Ok.found (g.M.Mapper.counts c.args.mapper.now) (g.M.Mapper.counts c.read_owner.new.mapper) c.in-Ok.is (owner_some i.caches nodes.sound nodes.consistent.shaped c.args.nodes.node c.args.nodes.owner o.held o.owner) out
+    let at = (goal.at.returns-in-Ok-clause-pulled g c).After-self in
+    let o = told_nodes g at in
+    pulled_one (own_of i.caches c.args.nodes.owner) c.read_owner.result c.in-Ok.found (g.M.Mapper.counts c.args.mapper.now) (g.M.Mapper.counts c.read_owner.new.mapper) c.in-Ok.is (owner_some i.caches nodes.sound nodes.consistent.shaped c.args.nodes.node c.args.nodes.owner o.held o.owner) (sym (ready_owner g at) ∙ away)
     (λ zero. (_, c.read_owner.ensures.traffic zero))

@@ -9,9 +9,9 @@ use Rattle.pvm_core.specs.Keeping.{SameButSeen}
 use Rattle.pvm_core.specs.Translated.{found_for}
 use Rattle.vm_model.specs.Answering.{Answer}
 use Rattle.pvm_core.specs.Manager as managers
-use Rattle.pvm_core.specs.Manager.{IsValid, Manager, forest_of, machine_by, machine_of, nodes_of, state_at}
+use Rattle.pvm_core.specs.Manager.{IsValid, Manager, machine_of, state_at}
 use Rattle.pvm_core.proofs.Answering.Answered.{made_stays}
-use Rattle.pvm_core.proofs.Answering.Kept.{seen}
+use Rattle.pvm_core.proofs.Answering.Kept.{seen, valid_seen}
 use Rattle.pvm_core.proofs.Accesses.Seen.{same_seen, marked, seen_right, seen_sound, seen_valid}
 use Rattle.pvm_core.proofs.Accesses.There.{IsThere, load_there, loaded_there, there_is}
 use Rattle.vm_ids.specs.Counting.{no_counts}
@@ -25,7 +25,7 @@ use Rattle.pvm_core.proofs.pvm.Pvm.load_seen.Goals as goal
 
 -- beside some mapper
 valid_before : (c : After-self) → IsValid (seen c.self.inside.caches c.self.inside.store c.self.inside.contexts) c.requires.valid.0
-valid_before c = subst (λ (p : Manager). IsValid p c.requires.valid.0) (sym c.self.view_is) c.requires.valid.1
+valid_before c = valid_seen c.self.view_is c.requires.valid.1
 
 -- the frame that the translation leads to
 there : (c : In-Some) → IsThere c.self.inside.caches c.self.inside.store c.self.inside.contexts c.args.actor.0 c.args.address c.args.bytes c.in-Some.seen

@@ -1,5 +1,7 @@
 use Rattle.std.proofs.Common.{rules, ◌≡◌, ◌+◌, ◌-◌, ◌<◌, ◌≤◌, ◌^◌, true, length, refl, sym, ap, subst, ◌∙◌, arith}
 use Rattle.std.specs.Prelude.{Ok, Err, is_some, nat_lt}
+use Rattle.gmi_calls.specs.Calling.{MapperCall}
+use Rattle.pvm_core.proofs.Answering.Recorded.{refused_seen}
 use Rattle.vm_ids.specs.Counting.{MapperCounts}
 use Rattle.vm_ids.specs.declared.command.Command.TheVariants as commands
 use Rattle.vm_ids.specs.declared.command.Mapping.{Mapping}
@@ -9,23 +11,22 @@ use Rattle.vm_ids.specs.declared.reply.FaultAt.TheVariants as faults
 use Rattle.vm_ids.specs.declared.reply.Reply.TheVariants as replies
 use Rattle.vm_ids.specs.declared.reply.Trouble.TheVariants as troubles
 use Rattle.vm_ids.specs.Forest.Commands.{extent_names}
-use Rattle.vm_model.specs.Answering.{Answer, lock_of, refuse}
+use Rattle.vm_model.specs.Answering.{lock_of, refuse}
 use Rattle.vm_model.specs.PageForest.{PageForest}
-use Rattle.vm_model.specs.Run.{CallIs}
 use Rattle.vm_model.specs.declared.limits.TheConstants.{UNLOCKED_FRAMES}
 use Rattle.local_cache.specs.Arena.{locked_count}
 use Rattle.local_cache.specs.Whole.{size_of}
 use Rattle.local_cache.proofs.Tables.Sizes.{sizes_same}
-use Rattle.residency.specs.World.{world}
+use Rattle.residency.specs.Between.{world_at}
 use Rattle.segment_ops.specs.Ranges.{HasRange}
 use Rattle.segment_ops.proofs.Unsaved.{range_fits}
 use Rattle.contexts.specs.Actors.{Actors}
 use Rattle.contexts.proofs.RegionRows.{IsToldOf, lock_limit, lock_locked, lock_none, told_of, untold_of, with_locked}
 use Rattle.pvm_core.specs.Holding.{AreOwned, FailedToHold, LocksMore, unlocked_in}
-use Rattle.pvm_core.specs.Manager.{IsValid, Manager, caches_shown, machine_by, machine_of, numbered, state_at}
+use Rattle.pvm_core.specs.Manager.{Manager, caches_shown, machine_by, machine_of, numbered, meaning}
 use Rattle.pvm_core.proofs.Answering.Answered.{failed}
-use Rattle.pvm_core.proofs.Answering.Ended.{Ended}
-use Rattle.pvm_core.proofs.Answering.Kept.{seen}
+use Rattle.pvm_core.proofs.Answering.Ended.{Ended, ended_call}
+use Rattle.pvm_core.proofs.Answering.Kept.{seen, valid_seen}
 use Rattle.pvm_core.proofs.Answering.Reaching.{reach_none}
 use Rattle.pvm_core.proofs.Locking.Calls.{fault_ended, few_locks, lock_ended, region_few}
 use Rattle.pvm_core.proofs.Locking.Covered.{placed_with}
@@ -33,7 +34,6 @@ use Rattle.pvm_core.proofs.Locking.Limit.{limit_is, pages_of}
 use Rattle.pvm_core.proofs.Locking.Regions.{placed_range}
 use Rattle.pvm_core.specs.Translated.{AreTranslationsRight}
 use Rattle.pvm_core.proofs.Translating.Relocked.{relocked_right}
-use Rattle.pvm_core.proofs.Answering.Recorded.{refused_mapper_call}
 use Rattle.pvm_core.proofs.pvm.Pvm.lock.Given.{Over}
 use Rattle.pvm_core.proofs.pvm.Pvm.lock.Goals.{After-passes_limit, After-set_locked, After-status, In-Err, In-Some}
 use Rattle.pvm_core.proofs.pvm.Pvm.lock.Goals as goal
@@ -41,21 +41,19 @@ use Rattle.pvm_core.proofs.pvm.Pvm.lock.Goals as goal
 -- a refusal leaves the manager
 refused : (g : Over) (c : After-status g) (r : Refusal)
     → ((f : PageForest) → lock_of (machine_by (seen c.self.inside.caches c.self.inside.store c.self.inside.contexts) f) c.args.region.0 ≡ refuse (machine_by (seen c.self.inside.caches c.self.inside.store c.self.inside.contexts) f) r)
-    → CallIs (g.M.Mapper.counts c.args.mapper.now) (g.M.Mapper.counts c.args.mapper.now) (state_at c.args.self.now (g.M.Mapper.held c.args.mapper.now)) (commands.Lock c.args.region) (Err (troubles.Refused r)) (state_at c.args.self.now (g.M.Mapper.held c.args.mapper.now))
-refused g c r row =
+    → MapperCall g.M.Mapper meaning c.args.mapper.now c.args.self.now (commands.Lock c.args.region) (Err (troubles.Refused r)) c.args.mapper.now c.args.self.now
+refused g c r row = refused_seen c.self.view_is c.requires.valid (λ valid.
     let i = c.self.inside in
     let h = g.M.Mapper.held c.args.mapper.now in
     let counts : MapperCounts = g.M.Mapper.counts c.args.mapper.now in
     let p : Manager = seen i.caches i.store i.contexts in
-    let answer : Answer = Err (troubles.Refused r) in
-    subst (λ (p : Manager). CallIs counts counts (state_at p h) (commands.Lock c.args.region) answer (state_at p h)) c.self.view_is
-    (failed counts counts p p h h (commands.Lock c.args.region) answer (reach_none (machine_of p h) h counts) c.self.invariant.sound.nodes c.self.invariant.sound.nodes (subst (λ (p : Manager). IsValid p h) (sym c.self.view_is) c.requires.valid) refl refl tt tt (λ f s. row f))
+    failed counts counts p p h h (commands.Lock c.args.region) (Err (troubles.Refused r)) (reach_none (machine_of p h) h counts) c.self.invariant.sound.nodes c.self.invariant.sound.nodes valid refl refl tt tt (λ f s. row f))
 
 pub returns-in_default-clause-call : goal.returns-in_default-clause-call
-returns-in_default-clause-call g c = refused_mapper_call c.requires.valid (
+returns-in_default-clause-call g c =
     let i = c.self.inside in
     refused g (goal.at.returns-in_default-clause-call g c).After-status refusals.NoRegion
-    (λ f. lock_none (caches_shown f 1 i.caches.caches) (length i.store.frames.held) i.contexts c.args.region.0 (untold_of c.args.region.0 i.contexts (sym c.status.ensures ∙ c.in_default.is))))
+    (λ f. lock_none (caches_shown f 1 i.caches.caches) (length i.store.frames.held) i.contexts c.args.region.0 (untold_of c.args.region.0 i.contexts (sym c.status.ensures ∙ c.in_default.is)))
 
 -- the region of which the status tells
 told : (g : Over) (c : In-Some g) → IsToldOf c.args.region.0 c.self.inside.contexts c.in-Some.status
@@ -70,12 +68,12 @@ range g c =
     subst (λ (m : Mapping). HasRange i.caches m.extent) (sym r.mapping) (placed_range i.caches i.caches r.region (sizes_same i.caches i.caches refl) placed)
 
 pub returns-then-status-clause-call : goal.returns-then-status-clause-call
-returns-then-status-clause-call g c = refused_mapper_call c.requires.valid (
+returns-then-status-clause-call g c =
     let i = c.self.inside in
     let at = goal.at.returns-then-status-clause-call g c in
     let r = told g at.In-Some in
     refused g at.After-status refusals.Locked
-    (λ f. lock_locked (caches_shown f 1 i.caches.caches) (length i.store.frames.held) i.contexts c.args.region.0 r.region r.found (sym r.locked ∙ c.if-status.true)))
+    (λ f. lock_locked (caches_shown f 1 i.caches.caches) (length i.store.frames.held) i.contexts c.args.region.0 r.region r.found (sym r.locked ∙ c.if-status.true))
 
 pub passes_limit-requires : goal.passes_limit-requires
 passes_limit-requires g c = omega (arith, range_fits c.self.inside.caches c.self.invariant.sound.nodes c.in-Some.status.mapping.extent (range g (goal.at.passes_limit-requires g c).In-Some))
@@ -87,14 +85,14 @@ limit g c =
     ap (λ (m : Mapping). nat_lt (length i.store.frames.held - UNLOCKED_FRAMES) (locked_count i.caches + unlocked_in i.caches m.extent)) (sym (told g (goal.at.After-passes_limit g c).In-Some).mapping) ∙ sym c.passes_limit.ensures
 
 pub returns-then-passes_limit-clause-call : goal.returns-then-passes_limit-clause-call
-returns-then-passes_limit-clause-call g c = refused_mapper_call c.requires.valid (
+returns-then-passes_limit-clause-call g c =
     let i = c.self.inside in
     let at = goal.at.returns-then-passes_limit-clause-call g c in
     let r = told g at.In-Some in
     let free = sym r.locked ∙ c.if-status.false in
     refused g at.After-status refusals.LockLimit
     (λ f. lock_limit (caches_shown f 1 i.caches.caches) (length i.store.frames.held) i.contexts c.args.region.0 r.region r.found free
-    (limit_is i.caches i.contexts c.self.invariant.sound.locked.counted c.self.invariant.sound.actors c.args.region.0 r.region r.found free f (length i.store.frames.held) ∙ limit g at.After-passes_limit ∙ c.if-passes_limit.true)))
+    (limit_is i.caches i.contexts c.self.invariant.sound.locked.counted c.self.invariant.sound.actors c.args.region.0 r.region r.found free f (length i.store.frames.held) ∙ limit g at.After-passes_limit ∙ c.if-passes_limit.true))
 
 pub hold_pages-requires-clause-range : goal.hold_pages-requires-clause-range
 hold_pages-requires-clause-range g c = range g (goal.at.hold_pages-requires-clause-range g c).In-Some
@@ -126,10 +124,10 @@ faulted g c =
     let at = goal.at.In-Err g c in
     let r = told g at.In-Some in
     let e = c.in-Err.ensures in
-    let stopped : FailedToHold (pages_of r.region) c.in-Err.page.0 (world h size i.caches i.store) (world k now n.caches n.store) = subst (λ (m : Mapping). FailedToHold m.extent c.in-Err.page.0 (world h size i.caches i.store) (world k now n.caches n.store)) r.mapping e.failed in
+    let stopped : FailedToHold (pages_of r.region) c.in-Err.page.0 (world_at g.M.Mapper c.args.mapper.now i.caches i.store) (world_at g.M.Mapper n.mapper n.caches n.store) = subst (λ (m : Mapping). FailedToHold m.extent c.in-Err.page.0 (world_at g.M.Mapper c.args.mapper.now i.caches i.store) (world_at g.M.Mapper n.mapper n.caches n.store)) r.mapping e.failed in
     subst (λ (p : Manager). Ended p n.caches n.store i.contexts i.live h k before after (commands.Lock c.args.region) (Err (troubles.Mapper (faults.Page c.in-Err.page)))) c.self.view_is
     (fault_ended i.caches n.caches i.store n.store h k size now before after e.alike i.contexts i.live c.self.invariant.sound c.args.region r.region r.found (sym r.locked ∙ c.if-status.false) (limit g at.After-passes_limit ∙ c.if-passes_limit.false) c.in-Err.page.0 e.held stopped e.cause
-    (subst (λ (p : Manager). IsValid p h) (sym c.self.view_is) c.requires.valid))
+    (valid_seen c.self.view_is c.requires.valid))
 
 pub invariant_of-self : goal.invariant_of-self
 invariant_of-self g c = record {
@@ -138,14 +136,7 @@ invariant_of-self g c = record {
 }
 
 pub returns-in-Err-clause-call : goal.returns-in-Err-clause-call
-returns-in-Err-clause-call g c = record {
-  valid = (faulted g c).valid;
-  answers = (faulted g c).answers;
-  asks_first = tt;
-  made = (faulted g c).made;
-  room = refl;
-  page = search rules;
-}
+returns-in-Err-clause-call g c = ended_call g.M.Mapper c.args.mapper.now c.hold_pages.new.mapper (faulted g c) tt (search rules)
 
 -- the region is locked then
 relocked : (g : Over) (c : After-set_locked g) → c.set_locked.new.self ≡ with_locked c.args.region.0 true c.self.inside.contexts
@@ -165,11 +156,11 @@ locked g c =
     let at = goal.at.After-set_locked g c in
     let r = told g at.In-Some in
     let e = c.in-Ok.ensures in
-    let owned : AreOwned (extent_names (pages_of r.region)) (world h size i.caches i.store) (world k now n.caches n.store) = subst (λ (m : Mapping). AreOwned (extent_names m.extent) (world h size i.caches i.store) (world k now n.caches n.store)) r.mapping e.owned in
+    let owned : AreOwned (extent_names (pages_of r.region)) (world_at g.M.Mapper c.args.mapper.now i.caches i.store) (world_at g.M.Mapper n.mapper n.caches n.store) = subst (λ (m : Mapping). AreOwned (extent_names m.extent) (world_at g.M.Mapper c.args.mapper.now i.caches i.store) (world_at g.M.Mapper n.mapper n.caches n.store)) r.mapping e.owned in
     subst (λ (p : Manager). Ended p n.caches n.store c.set_locked.new.self i.live h k before after (commands.Lock c.args.region) (Ok replies.Done)) c.self.view_is
     (subst (λ (t : Actors). Ended (seen i.caches i.store i.contexts) n.caches n.store t i.live h k before after (commands.Lock c.args.region) (Ok replies.Done)) (sym (relocked g c))
     (lock_ended i.caches n.caches i.store n.store h k size now before after e.alike i.contexts i.live c.self.invariant.sound c.args.region r.region r.found (sym r.locked ∙ c.if-status.false) (limit g at.After-passes_limit ∙ c.if-passes_limit.false) e.held
-    (subst (λ (m : Mapping). LocksMore m.extent i.caches n.caches) r.mapping e.locks) owned (subst (λ (p : Manager). IsValid p h) (sym c.self.view_is) c.requires.valid)))
+    (subst (λ (m : Mapping). LocksMore m.extent i.caches n.caches) r.mapping e.locks) owned (valid_seen c.self.view_is c.requires.valid)))
 
 pub invariant_of-self-2 : goal.invariant_of-self-2
 invariant_of-self-2 g c = record {
@@ -182,11 +173,4 @@ invariant_of-self-2 g c = record {
 }
 
 pub returns-clause-call : goal.returns-clause-call
-returns-clause-call g c = record {
-  valid = (locked g c).valid;
-  answers = (locked g c).answers;
-  asks_first = tt;
-  made = (locked g c).made;
-  room = refl;
-  page = search rules;
-}
+returns-clause-call g c = ended_call g.M.Mapper c.args.mapper.now c.hold_pages.new.mapper (locked g c) tt (search rules)

@@ -1,10 +1,8 @@
-use Rattle.std.proofs.Common.{ap, ◌≡◌, ℕ, [], ◌∷◌, ◌++◌, Some, length, refl, sym, subst}
+use Rattle.std.proofs.Common.{ap, ◌≡◌, ℕ, [], ◌∷◌, ◌++◌, Some, length, refl, subst}
 use Rattle.std.specs.Prelude.{OnErr}
-use Rattle.vm_ids.specs.Counting.{no_counts}
 use Rattle.vm_ids.specs.declared.command.Command.TheVariants as commands
 use Rattle.vm_ids.specs.declared.reply.Reply.TheVariants as replies
 use Rattle.vm_model.specs.Answering.{answer_by}
-use Rattle.vm_model.specs.Run.{AnswerIs}
 use Rattle.local_cache.specs.Whole.{size_of}
 use Rattle.contexts.specs.Actors.{Actors, is_full}
 use Rattle.contexts.specs.Placed.{AreRight}
@@ -12,12 +10,12 @@ use Rattle.contexts.proofs.Placing.{after_either, right_made}
 use Rattle.contexts.proofs.RegionRows.{actor_outcome}
 use Rattle.pvm_core.specs.Locks.{locks_over}
 use Rattle.pvm_core.proofs.Holding.Actors.{over_made}
-use Rattle.pvm_core.specs.Manager.{IsValid, Manager, caches_shown, forest_of, machine_of, numbered, state_at}
+use Rattle.pvm_core.specs.Manager.{Manager, caches_shown, forest_of, machine_of, numbered}
 use Rattle.pvm_core.specs.Translated.{AreTranslationsRight}
 use Rattle.pvm_core.specs.contracts.pvm.Pvm.{the_view}
 use Rattle.pvm_core.proofs.Translating.Commands.{made_right}
 use Rattle.pvm_core.proofs.Answering.Answered.{made_stays, seated}
-use Rattle.pvm_core.proofs.Answering.Kept.{on_err, seated_same, seated_sound, seated_valid}
+use Rattle.pvm_core.proofs.Answering.Kept.{on_err, seated_same, seated_sound, seated_valid, valid_seen, answer_seen}
 use Rattle.pvm_core.proofs.pvm.Pvm.make_actor.Goals as goal
 
 abbrev more : Actors → Actors
@@ -44,7 +42,7 @@ returns-clause-call c = record {
       let e = c.make.ensures in
       let u = c.make.new.self in
       let q : Manager = the_view (record i { contexts = u }) in
-      seated_valid (the_view i) q h refl refl (after_either (λ (t : Actors). t.page_bytes ≡ i.contexts.page_bytes) i.contexts u (more i.contexts) c.make.result e.ok e.err refl refl) (subst (λ (p : Manager). IsValid p h) (sym c.self.view_is) v)
+      seated_valid (the_view i) q h refl refl (after_either (λ (t : Actors). t.page_bytes ≡ i.contexts.page_bytes) i.contexts u (more i.contexts) c.make.result e.ok e.err refl refl) (valid_seen c.self.view_is v)
       );
   answers = (
       λ h v.
@@ -52,10 +50,7 @@ returns-clause-call c = record {
       let e = c.make.ensures in
       let u = c.make.new.self in
       let q : Manager = the_view (record i { contexts = u }) in
-      let command = commands.MakeActor in
-      let answer = answer_by replies.Actor c.make.result in
-      subst (λ (p : Manager). AnswerIs (state_at p h) command answer [] no_counts (state_at q h)) c.self.view_is
-      (seated (the_view i) q h command answer c.self.invariant.sound.nodes c.self.invariant.sound.nodes (seated_valid (the_view i) q h refl refl (after_either (λ (t : Actors). t.page_bytes ≡ i.contexts.page_bytes) i.contexts u (more i.contexts) c.make.result e.ok e.err refl refl) (subst (λ (p : Manager). IsValid p h) (sym c.self.view_is) v)) refl (λ done m f s none. none) refl tt (λ f. refl) (λ page. refl)
+      answer_seen h c.self.view_is (seated (the_view i) q h commands.MakeActor (answer_by replies.Actor c.make.result) c.self.invariant.sound.nodes c.self.invariant.sound.nodes (seated_valid (the_view i) q h refl refl (after_either (λ (t : Actors). t.page_bytes ≡ i.contexts.page_bytes) i.contexts u (more i.contexts) c.make.result e.ok e.err refl refl) (valid_seen c.self.view_is v)) refl (λ done m f s none. none) refl tt (λ f. refl) (λ page. refl)
       (λ f s. actor_outcome (caches_shown f 1 i.caches.caches) (length i.store.frames.held) i.contexts u (Some (forest_of (the_view i) h)) s (is_full i.contexts) c.make.result refl e.refused e.made e.ok e.err))
       );
   made = λ h v. made_stays (machine_of c.args.self.now h) commands.MakeActor (answer_by replies.Actor c.make.result) (machine_of (the_view (record c.self.inside { contexts = c.make.new.self })) h) (numbered c.args.self.now) (numbered (the_view (record c.self.inside { contexts = c.make.new.self }))) (ap numbered c.self.view_is);

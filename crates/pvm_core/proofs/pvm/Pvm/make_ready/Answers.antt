@@ -1,6 +1,7 @@
 use Rattle.std.proofs.Common.{◌≡◌, ◌≤◌, Some, refl, sym, ap, subst, ◌∙◌, inl, inr}
 use Rattle.std.specs.Prelude.{IfErr, OnOk, Ok, Err, Result}
-use Rattle.std.proofs.lemmas.Result.{err_from_is_err_and}
+use Rattle.pvm_core.specs.Translated.{AreTranslationsRight}
+use Rattle.std.proofs.result.Match.{err_is}
 use Rattle.vm_ids.specs.declared.reply.Trouble.{Trouble}
 use Rattle.vm_ids.specs.declared.reply.Trouble.TheVariants as troubles
 use Rattle.vm_ids.specs.Forest.Commands.{extent_names}
@@ -10,13 +11,13 @@ use Rattle.local_cache.specs.Reading as arena
 use Rattle.local_cache.specs.Whole.{size_of}
 use Rattle.local_cache.proofs.Tables.Sizes.{sizes_same}
 use Rattle.pvm_core.specs.Keeping.{CopiesNothing, FillsOnly, HasMoreRoom}
-use Rattle.pvm_core.specs.Manager.{IsValid, Manager, forest_of}
+use Rattle.pvm_core.specs.Manager.{Manager, forest_of}
 use Rattle.pvm_core.specs.Saving.{IsNotReady, IsReady, NeedsNoSave, NeedsNothing, is_named}
 use Rattle.pvm_core.specs.Writes.{GrantsWithin, IsNotGranted, OnlyAsked}
 use Rattle.pvm_core.proofs.Readiness.Granted.{tables_grants, unnamed_of, within_then}
 use Rattle.pvm_core.proofs.Readiness.Filled.{fills_itself, fills_later}
 use Rattle.pvm_core.proofs.Readiness.Steps.{Keeps, keeps_granted, keeps_reserved, keeps_seen}
-use Rattle.pvm_core.proofs.Answering.Kept.{seen}
+use Rattle.pvm_core.proofs.Answering.Kept.{seen, valid_seen}
 use Rattle.pvm_core.proofs.Readiness.Readying.{failed_save, more_room, no_save, roomier_granted, ungranted_ready, if_err_all, if_err_by, keeps_then, named_same, on_ok_by, saved_all, unsaved_ready, writable_same}
 use Rattle.pvm_core.proofs.Meaning.Values.{consistent_of}
 use Rattle.pvm_core.proofs.Translating.Cells.{granted_right, roomier_right}
@@ -30,7 +31,7 @@ granted g c =
     let i = c.self.inside in
     let e = c.grant_range.ensures in
     keeps_granted i.caches c.grant_range.new.caches i.store i.contexts i.live (g.M.Mapper.held c.args.mapper.now) (g.M.Mapper.held c.grant_range.new.mapper) (g.M.Mapper.page_bytes c.args.mapper.now) (g.M.Mapper.page_bytes c.grant_range.new.mapper) _ _ c.self.invariant.sound e.nodes e.held e.forest e.right e.later
-    (subst (λ (p : Manager). IsValid p (g.M.Mapper.held c.args.mapper.now)) (sym c.self.view_is) c.requires.valid)
+    (valid_seen c.self.view_is c.requires.valid)
 
 -- and room was reserved
 reserved : (g : Over) (c : After-reserve g) → Keeps (seen c.self.inside.caches c.self.inside.store c.self.inside.contexts) c.reserve.new.self c.self.inside.store c.self.inside.contexts c.self.inside.live (g.M.Mapper.held c.args.mapper.now) (g.M.Mapper.held c.grant_range.new.mapper) (g.M.Mapper.counts c.args.mapper.now) (g.M.Mapper.counts c.grant_range.new.mapper)
@@ -70,9 +71,8 @@ returns-in_err-grant_range-clause-not_ready g c =
     let i = c.self.inside in
     let p : Manager = seen i.caches i.store i.contexts in
     let p1 : Manager = seen c.grant_range.new.caches i.store i.contexts in
-    let gave = err_from_is_err_and c.from_residual.result c.from_residual.ensures.1 in
     let trouble = c.in_err-grant_range.field-0.0 in
-    let is : c.from_residual.result ≡ Err trouble = gave.1 ∙ ap (λ t. Err t) gave.2 in
+    let is : c.from_residual.result ≡ Err trouble = err_is c.from_residual.result _ c.from_residual.ensures.1 in
     let out : IsNotGranted c.args.range h i.caches c.grant_range.new.caches trouble = subst (λ (x : Result _ Trouble). IfErr x (IsNotGranted c.args.range h i.caches c.grant_range.new.caches)) c.in_err-grant_range.was c.grant_range.ensures.refused in
     subst (λ (p : Manager). IfErr c.from_residual.result (IsNotReady c.args.range p h p1 k)) c.self.view_is
     (subst (λ (x : Result _ Trouble). IfErr x (IsNotReady c.args.range p h p1 k)) (sym is) (ungranted_ready c.args.range p p1 h k (granted g (goal.at.returns-in_err-grant_range-clause-not_ready g c).After-grant_range).forest refl trouble out))
@@ -82,14 +82,15 @@ returns-in_err-grant_range-clause-idle g c = λ nothing. absurd (
     let ok : Err c.in_err-grant_range.field-0.0 ≡ Ok tt = sym c.in_err-grant_range.was ∙ (unasked g (goal.at.returns-in_err-grant_range-clause-idle g c).After-grant_range nothing).0 in
     cc ok)
 
+translated : (g : Over) (c : After-reserve g) → AreTranslationsRight c.reserve.new.self c.self.inside.store c.self.inside.contexts
+translated g c =
+    let i = c.self.inside in
+    roomier_right c.grant_range.new.caches c.reserve.new.self i.store c.reserve.ensures.kept i.contexts (granted_right i.caches c.grant_range.new.caches i.store c.grant_range.ensures.nodes i.contexts c.self.invariant.translated)
+
 pub invariant_of-self-in_err-reserve : goal.invariant_of-self-in_err-reserve
-invariant_of-self-in_err-reserve g c = record {
-  sound = (reserved g (goal.at.invariant_of-self-in_err-reserve g c).After-reserve).sound;
-  translated = (
-      let i = c.self.inside in
-      roomier_right c.grant_range.new.caches c.reserve.new.self i.store c.reserve.ensures.kept i.contexts (granted_right i.caches c.grant_range.new.caches i.store c.grant_range.ensures.nodes i.contexts c.self.invariant.translated)
-      );
-}
+invariant_of-self-in_err-reserve g c =
+    let at = (goal.at.invariant_of-self-in_err-reserve g c).After-reserve in
+    record { sound = (reserved g at).sound; translated = translated g at }
 
 pub returns-in_err-reserve-clause-valid : goal.returns-in_err-reserve-clause-valid
 returns-in_err-reserve-clause-valid g c = (reserved g (goal.at.returns-in_err-reserve-clause-valid g c).After-reserve).valid
@@ -104,8 +105,7 @@ returns-in_err-reserve-clause-not_ready g c =
     let i = c.self.inside in
     let p : Manager = seen i.caches i.store i.contexts in
     let p2 : Manager = seen c.reserve.new.self i.store i.contexts in
-    let gave = err_from_is_err_and c.from_residual-in_err-reserve.result c.from_residual-in_err-reserve.ensures.1 in
-    let is : c.from_residual-in_err-reserve.result ≡ Err troubles.Memory = gave.1 ∙ ap (λ t. Err t) gave.2 in
+    let is : c.from_residual-in_err-reserve.result ≡ Err troubles.Memory = err_is c.from_residual-in_err-reserve.result _ c.from_residual-in_err-reserve.ensures.1 in
     subst (λ (p : Manager). IfErr c.from_residual-in_err-reserve.result (IsNotReady c.args.range p h p2 k)) c.self.view_is
     (subst (λ (x : Result _ Trouble). IfErr x (IsNotReady c.args.range p h p2 k)) (sym is) (
       (reserved g (goal.at.returns-in_err-reserve-clause-not_ready g c).After-reserve).forest,
@@ -122,13 +122,9 @@ returns-in_err-reserve-clause-idle g c = λ nothing.
     )
 
 pub invariant_of-self-2 : goal.invariant_of-self-2
-invariant_of-self-2 g c = record {
-  sound = (reserved g (goal.at.invariant_of-self-2 g c).After-reserve).sound;
-  translated = (
-      let i = c.self.inside in
-      roomier_right c.grant_range.new.caches c.reserve.new.self i.store c.reserve.ensures.kept i.contexts (granted_right i.caches c.grant_range.new.caches i.store c.grant_range.ensures.nodes i.contexts c.self.invariant.translated)
-      );
-}
+invariant_of-self-2 g c =
+    let at = (goal.at.invariant_of-self-2 g c).After-reserve in
+    record { sound = (reserved g at).sound; translated = translated g at }
 
 pub save-requires-clause-valid : goal.save-requires-clause-valid
 save-requires-clause-valid g c = (reserved g (goal.at.save-requires-clause-valid g c).After-reserve).valid

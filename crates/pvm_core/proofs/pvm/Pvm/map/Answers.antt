@@ -6,7 +6,7 @@ use Rattle.vm_ids.specs.declared.numbers.RegionId.{RegionId}
 use Rattle.vm_ids.specs.declared.reply.Reply.TheVariants as replies
 use Rattle.vm_ids.specs.declared.reply.Trouble.{Trouble}
 use Rattle.vm_ids.specs.declared.reply.Trouble.TheVariants as troubles
-use Rattle.vm_model.specs.Answering.{Answer, answer_by, reply}
+use Rattle.vm_model.specs.Answering.{answer_by, reply}
 use Rattle.vm_model.specs.Machine.{numbered}
 use Rattle.vm_model.specs.PageForest.{PageForest}
 use Rattle.vm_model.specs.Run.{AnswerIs}
@@ -17,14 +17,14 @@ use Rattle.contexts.specs.Placed.{AreRight}
 use Rattle.contexts.proofs.Placing.{after_either, next_placed, right_mapped}
 use Rattle.contexts.proofs.RegionRows.{IsMappable, is_mappable, map_refused, map_row, size_in}
 use Rattle.pvm_core.specs.Manager as managers
-use Rattle.pvm_core.specs.Manager.{IsValid, Manager, caches_shown, machine_of, state_at}
+use Rattle.pvm_core.specs.Manager.{Manager, caches_shown, machine_of, state_at}
 use Rattle.pvm_core.specs.Locks.{locks_over}
 use Rattle.pvm_core.proofs.Holding.Actors.{over_mapped}
 use Rattle.pvm_core.specs.Translated.{AreTranslationsRight}
 use Rattle.pvm_core.specs.contracts.pvm.Pvm.{the_view}
 use Rattle.pvm_core.proofs.Translating.Commands.{mapped_right}
 use Rattle.pvm_core.proofs.Answering.Answered.{made_stays, seated}
-use Rattle.pvm_core.proofs.Answering.Kept.{seated_sound, seated_valid}
+use Rattle.pvm_core.proofs.Answering.Kept.{seated_sound, seated_valid, valid_seen, answer_seen, answer_still}
 use Rattle.pvm_core.proofs.Meaning.Shown.{shown_size}
 use Rattle.pvm_core.proofs.Answering.Recorded.{refused_call}
 use Rattle.pvm_core.proofs.pvm.Pvm.map.Goals as goal
@@ -38,9 +38,7 @@ returns-in-Some-clause-call c = refused_call (
     let t : Actors = i.contexts in
     let x = c.args.mapping in
     let actor = c.args.actor.0 in
-    let answer : Answer = Err (troubles.Refused c.in-Some.refusal) in
-    subst (λ (p : Manager). AnswerIs (state_at p h) (commands.Map c.args.actor x) answer [] no_counts (state_at p h)) c.self.view_is
-    (seated p p h (commands.Map c.args.actor x) answer c.self.invariant.sound.nodes c.self.invariant.sound.nodes (subst (λ (p : Manager). IsValid p h) (sym c.self.view_is) v) refl (λ done m f s none. none) refl tt (λ f. refl) (λ page. refl)
+    answer_still h c.self.view_is (seated p p h (commands.Map c.args.actor x) (Err (troubles.Refused c.in-Some.refusal)) c.self.invariant.sound.nodes c.self.invariant.sound.nodes (valid_seen c.self.view_is v) refl (λ done m f s none. none) refl tt (λ f. refl) (λ page. refl)
     (λ f s. let caches = caches_shown f 1 i.caches.caches in
     let size : size_in (numbered caches x.extent.cache.0) ≡ c.pages-count.result = shown_size f i.caches.caches x.extent.cache.0 ∙ sym c.pages-count.ensures in
     map_refused t x caches (length i.store.frames.held) actor c.in-Some.refusal (numbered t.actors actor) (numbered caches x.extent.cache.0) refl refl
@@ -85,7 +83,7 @@ returns-clause-call c = record {
       let u : Actors = c.map.new.self in
       let e = c.map.ensures in
       let page : u.page_bytes ≡ t.page_bytes = after_either (λ (w : Actors). w.page_bytes ≡ t.page_bytes) t u (with_region t c.args.actor.0 c.args.mapping) c.map.result e.ok e.err refl refl in
-      seated_valid (the_view i) (the_view (record i { contexts = u })) h refl refl page (subst (λ (p : Manager). IsValid p h) (sym c.self.view_is) v)
+      seated_valid (the_view i) (the_view (record i { contexts = u })) h refl refl page (valid_seen c.self.view_is v)
       );
   answers = (
       λ h v.
@@ -106,10 +104,9 @@ returns-clause-call c = record {
       (ap (λ (n : Option ℕ). map_refusal t (numbered t.actors actor) n x) (size f) ∙ sym c.map_refusal.ensures ∙ c.in_default.is) in
       let row = λ (f : PageForest). map_row t x (caches_shown f 1 i.caches.caches) frames actor (k f) in
       let page : u.page_bytes ≡ t.page_bytes = after_either (λ (w : Actors). w.page_bytes ≡ t.page_bytes) t u (with_region t actor x) c.map.result e.ok e.err refl refl in
-      let valid = seated_valid p q h refl refl page (subst (λ (p : Manager). IsValid p h) (sym c.self.view_is) v) in
+      let valid = seated_valid p q h refl refl page (valid_seen c.self.view_is v) in
       let at : Result RegionId Trouble → Type 0 = λ r. AnswerIs (state_at p h) command (answer_by replies.Region r) [] no_counts (state_at q h) in
-      subst (λ (p : Manager). AnswerIs (state_at p h) command (answer_by replies.Region c.match-map.result) [] no_counts (state_at q h)) c.self.view_is
-      (elim c.match-map.branch [
+      answer_seen h c.self.view_is (elim c.match-map.branch [
         | in-Ok w ↦ subst at (sym w.result-is)
             (seated p q h command (Ok (replies.Region w.in-Ok.region)) c.self.invariant.sound.nodes c.self.invariant.sound.nodes valid refl (λ done m f s none. none) refl tt (λ f. refl) (λ page. refl)
             (λ f s. row f ∙ (λ j. reply (replies.Region (record { 0 = sym w.in-Ok.ensures.number j })) (machine_with (caches_shown f 1 i.caches.caches) frames (sym w.in-Ok.ensures.ok j)))))

@@ -1,25 +1,23 @@
 use Rattle.std.proofs.Common.{rules, ◌≡◌, ◌*◌, ◌≤◌, ◌^◌, ◌⊎◌, inl, inr, false, List, [], None, Some, refl, sym, ap, subst, ◌∙◌, arith}
-use Rattle.std.specs.Prelude.{◌||◌, IfErr, OnErr, Result, Ok, Err, unwrap_or}
-use Rattle.std.proofs.lemmas.Result.{err_from_is_err_and}
+use Rattle.std.specs.Prelude.{◌||◌, Ok, Err, unwrap_or}
+use Rattle.pvm_core.proofs.Answering.Recorded.{refused_seen}
+use Rattle.std.proofs.result.Match.{err_is}
 use Rattle.vm_ids.specs.declared.command.Command.TheVariants as commands
 use Rattle.vm_ids.specs.declared.command.Extent.{Extent}
 use Rattle.vm_ids.specs.declared.node_name.NodeName.{NodeName}
 use Rattle.vm_ids.specs.declared.reply.Reply.TheVariants as replies
-use Rattle.vm_ids.specs.declared.reply.Trouble.{Trouble}
 use Rattle.vm_ids.specs.declared.reply.Trouble.TheVariants as troubles
 use Rattle.vm_ids.specs.Forest.Commands.{page_name, extent_names, firsts, move_, seconds, span_pairs}
 use Rattle.vm_ids.specs.Forest.NameLists.{◌∈◌}
 use Rattle.local_cache.specs.Arena.{table_of}
 use Rattle.local_cache.specs.Whole.{size_of}
 use Rattle.segment_ops.specs.Ranges.{HasRange}
-use Rattle.vm_model.specs.Answering.{Answer}
 use Rattle.vm_model.specs.Machine.{cache_of}
 use Rattle.vm_model.specs.PageForest.{page_in, told}
-use Rattle.vm_model.specs.Run.{CallIs}
-use Rattle.pvm_core.specs.Keeping.{CopiesNothing, FillsOnly, HasMoreRoom}
-use Rattle.pvm_core.specs.Manager.{IsValid, Manager, forest_of, machine_by, machine_of, numbered, state_at}
-use Rattle.pvm_core.specs.Saving.{CopiesSaved, IsBeforeSaves, NeedsNoSave, NeedsNothing, is_named}
-use Rattle.pvm_core.specs.Writes.{GrantsWithin, OnlyAsked}
+use Rattle.pvm_core.specs.Keeping.{CopiesNothing, FillsOnly}
+use Rattle.pvm_core.specs.Manager.{Manager, forest_of, machine_by, machine_of, numbered}
+use Rattle.pvm_core.specs.Saving.{CopiesSaved, NeedsNoSave, NeedsNothing, is_named}
+use Rattle.pvm_core.specs.Writes.{GrantsWithin}
 use Rattle.vm_ids.proofs.Forest.Laws.Ranges.{pairs_read_sources}
 use Rattle.pvm_core.specs.Locks.{any_locked}
 use Rattle.pvm_core.proofs.Holding.Counted.{any_same, same_locked}
@@ -27,7 +25,7 @@ use Rattle.pvm_core.proofs.Holding.Loose.{unpinned_names}
 use Rattle.pvm_core.specs.Spans.{copy_refusal, move_refusal, read_from, replaced}
 use Rattle.pvm_core.specs.contracts.pvm.Pvm.{the_view}
 use Rattle.pvm_core.proofs.Answering.Answered.{failed}
-use Rattle.pvm_core.proofs.Answering.Ended.{Ended}
+use Rattle.pvm_core.proofs.Answering.Ended.{Ended, ended_call}
 use Rattle.pvm_core.proofs.Answering.Kept.{seen}
 use Rattle.pvm_core.proofs.Accesses.Loading.{sized_table}
 use Rattle.pvm_core.proofs.Answering.Reaching.{reach_none}
@@ -35,7 +33,8 @@ use Rattle.pvm_core.proofs.Readiness.Readying.{named_same}
 use Rattle.pvm_core.proofs.Spanning.Readied.{IsReadied, readied, readied_replace, readied_room, readied_transfer, transferred, transferred_right, undenied_then}
 use Rattle.pvm_core.proofs.Meaning.Shown.{shown_size}
 use Rattle.pvm_core.proofs.Spanning.SpanRows.{IsOpen, is_movable, is_open, move_refused}
-use Rattle.pvm_core.proofs.Spanning.Transferring.{IsTransfer, IsUnready, copies_itself, nothing_given_back, unready}
+use Rattle.pvm_core.proofs.Spanning.Transferring.{IsTransfer, copies_itself, nothing_given_back}
+use Rattle.pvm_core.proofs.Spanning.Unready.{unready}
 use Rattle.pvm_core.proofs.Spanning.Transfers.{move_follows, moved_outcome, moved_transfer, moved_valid, named_machine, named_there}
 use Rattle.page_release.proofs.CommandSteps.Ranges.{destination_names, source_names}
 use Rattle.pvm_core.proofs.Readiness.Filled.{fills_but, fills_itself, fills_then}
@@ -43,24 +42,20 @@ use Rattle.pvm_core.proofs.Readiness.Granted.{asked_itself, within_itself, withi
 use Rattle.pvm_core.proofs.Translating.Left.{left_right}
 use Rattle.pvm_core.proofs.Translating.Unmapped.{seen_sought}
 use Rattle.pvm_core.proofs.Translating.Writable.{homes_writable}
-use Rattle.pvm_core.proofs.Answering.Recorded.{asks_before, quiet_traffic, refused_mapper_call}
-use Rattle.gmi_calls.specs.Calling.{AsksFirst, done_by}
 use Rattle.pvm_core.proofs.pvm.Pvm.move_pages.Given.{Over}
-use Rattle.pvm_core.proofs.pvm.Pvm.move_pages.Goals.{After-move_pages, After-from_residual, After-make_ready, After-self-2, In_default}
+use Rattle.pvm_core.proofs.pvm.Pvm.move_pages.Goals.{After-move_pages, After-make_ready, After-self-2, In_default}
 use Rattle.pvm_core.proofs.pvm.Pvm.move_pages.Goals as goal
 
 pub returns-in-Some-clause-call : goal.returns-in-Some-clause-call
-returns-in-Some-clause-call g c = refused_mapper_call c.requires.valid (
+returns-in-Some-clause-call g c = refused_seen c.self.view_is c.requires.valid (λ valid.
     let h = g.M.Mapper.held c.args.mapper.now in
     let counts = g.M.Mapper.counts c.args.mapper.now in
     let p : Manager = the_view c.self.inside in
     let s = c.args.span in
-    let answer : Answer = Err (troubles.Refused c.in-Some.refusal) in
-    subst (λ (p : Manager). CallIs counts counts (state_at p h) (commands.Move c.args.span) answer (state_at p h)) c.self.view_is
-    (failed counts counts p p h h (commands.Move c.args.span) answer (reach_none (machine_of p h) h counts) c.self.invariant.sound.nodes c.self.invariant.sound.nodes (subst (λ (p : Manager). IsValid p h) (sym c.self.view_is) c.requires.valid) refl refl tt tt
+    failed counts counts p p h h (commands.Move c.args.span) (Err (troubles.Refused c.in-Some.refusal)) (reach_none (machine_of p h) h counts) c.self.invariant.sound.nodes c.self.invariant.sound.nodes valid refl refl tt tt
     (λ f sg. move_refused (machine_by p f) s sg c.in-Some.refusal (cache_of (machine_by p f) s.from.0) (cache_of (machine_by p f) s.to.0) (is_named p.caches s.from.0) (any_locked p.caches (read_from s) || any_locked p.caches (replaced s)) refl (λ x e. named_there p f s.from.0 x e) refl
     (λ j. any_same p f c.self.invariant.sound.locked.counted (read_from s) j || any_same p f c.self.invariant.sound.locked.counted (replaced s) j)
-    ((λ j. move_refusal (shown_size f p.caches.caches s.from.0 j) (is_named p.caches s.from.0) (shown_size f p.caches.caches s.to.0 j) (any_locked p.caches (read_from s) || any_locked p.caches (replaced s)) s) ∙ sym c.move_refusal.ensures.refusal ∙ c.in-Some.is))))
+    ((λ j. move_refusal (shown_size f p.caches.caches s.from.0 j) (is_named p.caches s.from.0) (shown_size f p.caches.caches s.to.0 j) (any_locked p.caches (read_from s) || any_locked p.caches (replaced s)) s) ∙ sym c.move_refusal.ensures.refusal ∙ c.in-Some.is)))
 
 pub returns-in-Some-clause-unready : goal.returns-in-Some-clause-unready
 returns-in-Some-clause-unready g c = λ trouble e only. absurd (c.move_refusal.ensures.unasked (c.in-Some.is ∙ ap (λ r. Some r) (only c.in-Some.refusal (let k : trouble ≡ troubles.Refused c.in-Some.refusal = cc e in k))))
@@ -103,61 +98,32 @@ make_ready-requires-clause-range g c =
     let range : HasRange c.self.inside.caches c.destination.result = subst (HasRange c.self.inside.caches) (sym c.destination.ensures) (record { pages = out.to; size = out.to_is; within = out.to_ends }) in
     subst (λ (p : Manager). HasRange p.caches c.destination.result) c.self.view_is range
 
+-- no page comes to a frame but those of the saves before the pages are replaced
+filled : (g : Over) (c : After-make_ready g) → FillsOnly (replaced c.args.span) (λ x. ⊥) c.args.self.now c.make_ready.new.self
+filled g c = subst (λ (range : Extent). FillsOnly range (λ x. ⊥) c.args.self.now c.make_ready.new.self) c.destination.ensures c.make_ready.ensures.fills
+
 -- the destination isn't ready
-not_ready : (g : Over) (c : After-from_residual g)
-    → IsUnready c.args.self.now c.make_ready.new.self (g.M.Mapper.held c.args.mapper.now) (g.M.Mapper.held c.make_ready.new.mapper) (g.M.Mapper.counts c.args.mapper.now) (g.M.Mapper.counts c.make_ready.new.mapper) c.args.span (commands.Move c.args.span) c.from_residual.result
-not_ready g c =
-    let at = (goal.at.After-from_residual g c).In_default in
+pub returns-in_err-make_ready : goal.returns-in_err-make_ready
+returns-in_err-make_ready g c =
+    let places = goal.at.returns-in_err-make_ready g c in
+    let i = c.self.inside in
+    let out = open_span g places.In_default in
     let e = c.make_ready.ensures in
-    let out = open_span g at in
-    let gave = err_from_is_err_and c.from_residual.result c.from_residual.ensures.1 in
-    unready (seen c.self.inside.caches c.self.inside.store c.self.inside.contexts) c.args.self.now c.make_ready.new.self c.self.view_is _ _ _ _ c.args.span (commands.Move c.args.span) (transfer g at) c.self.invariant.sound.nodes e.whole c.requires.valid e.valid e.keeps out.to out.to_is out.to_ends
-    c.destination.result c.destination.ensures c.make_ready.result c.from_residual.result c.in_err-make_ready.field-0.0 c.in_err-make_ready.was (gave.1 ∙ ap (λ t. Err t) gave.2) e.not_ready e.cause
-
-pub returns-in_err-make_ready-clause-call : goal.returns-in_err-make_ready-clause-call
-returns-in_err-make_ready-clause-call g c = record {
-  valid = search rules;
-  answers = (not_ready g c).answers;
-  asks_first = (
-      let gave = err_from_is_err_and c.from_residual.result c.from_residual.ensures.1 in
-      let is : c.from_residual.result ≡ Err c.in_err-make_ready.field-0.0 = gave.1 ∙ ap (λ t. Err t) gave.2 in
-      let first = subst (λ (r : Result (Unit {0}) Trouble). IfErr r (λ trouble. IsBeforeSaves trouble → OnlyAsked g.M.Mapper c.args.mapper.now c.make_ready.new.mapper × (c.make_ready.new.chooser ≡ c.args.chooser.now))) c.in_err-make_ready.was c.make_ready.ensures.first in
-      subst (λ (r : Result (Unit {0}) Trouble). AsksFirst (commands.Move c.args.span) (done_by r) (g.M.Mapper.counts c.args.mapper.now) (g.M.Mapper.counts c.make_ready.new.mapper)) (sym is)
-      (asks_before (commands.Move c.args.span) c.in_err-make_ready.field-0.0 (g.M.Mapper.counts c.args.mapper.now) (g.M.Mapper.counts c.make_ready.new.mapper) (λ before. quiet_traffic (first before).0.traffic))
-      );
-  made = (not_ready g c).made;
-  room = refl;
-  page = search rules;
-}
-
-pub returns-in_err-make_ready-clause-copies : goal.returns-in_err-make_ready-clause-copies
-returns-in_err-make_ready-clause-copies g c = (not_ready g c).copies
-
-pub returns-in_err-make_ready-clause-refused : goal.returns-in_err-make_ready-clause-refused
-returns-in_err-make_ready-clause-refused g c = λ r e other. absurd ((not_ready g c).refused r e other)
-
-pub returns-in_err-make_ready-clause-unready : goal.returns-in_err-make_ready-clause-unready
-returns-in_err-make_ready-clause-unready g c = (not_ready g c).unready
-
--- the error is that of the call that readied the destination
-same_error : (g : Over) (c : After-from_residual g) → c.make_ready.result ≡ c.from_residual.result
-same_error g c = (let gave = err_from_is_err_and c.from_residual.result c.from_residual.ensures.1 in c.in_err-make_ready.was ∙ sym (gave.1 ∙ ap (λ t. Err t) gave.2))
-
-pub returns-in_err-make_ready-clause-first : goal.returns-in_err-make_ready-clause-first
-returns-in_err-make_ready-clause-first g c = subst (λ (r : Result (Unit {0}) Trouble). IfErr r (λ trouble. IsBeforeSaves trouble → OnlyAsked g.M.Mapper c.args.mapper.now c.make_ready.new.mapper × (c.make_ready.new.chooser ≡ c.args.chooser.now))) (same_error g c) c.make_ready.ensures.first
-
-pub returns-in_err-make_ready-clause-still : goal.returns-in_err-make_ready-clause-still
-returns-in_err-make_ready-clause-still g c = λ none. c.make_ready.ensures.still (subst (NeedsNoSave c.args.self.now.caches) (sym c.destination.ensures) none)
-
-pub returns-in_err-make_ready-clause-idle : goal.returns-in_err-make_ready-clause-idle
-returns-in_err-make_ready-clause-idle g c = λ nothing.
-    let idle = c.make_ready.ensures.idle (subst (NeedsNothing c.args.self.now.caches) (sym c.destination.ensures) nothing) in (
-      idle.0,
-      subst (λ (r : Result (Unit {0}) Trouble). OnErr r (HasMoreRoom c.args.self.now c.make_ready.new.self)) (sym (let gave = err_from_is_err_and c.from_residual.result c.from_residual.ensures.1 in gave.1)) idle.1,
-    )
-
-pub returns-in_err-make_ready-clause-grants : goal.returns-in_err-make_ready-clause-grants
-returns-in_err-make_ready-clause-grants g c = subst (λ (range : Extent). GrantsWithin range c.args.self.now.caches c.make_ready.new.self.caches) c.destination.ensures c.make_ready.ensures.grants
+    let ends = unready g.M.Mapper c.args.mapper.now c.make_ready.new.mapper c.args.chooser.now c.make_ready.new.chooser c.args.self.now c.make_ready.new.self (seen i.caches i.store i.contexts) c.self.view_is c.args.span (commands.Move c.args.span) (transfer g places.In_default) c.self.invariant.sound.nodes out.to out.to_is out.to_ends
+    c.destination.result c.destination.ensures c.make_ready.result c.from_residual.result c.in_err-make_ready.field-0.0 c.in_err-make_ready.was (err_is c.from_residual.result _ c.from_residual.ensures.1) c.requires.valid e.valid e.keeps e.whole e.not_ready e.cause e.page e.grants e.first e.still e.idle in
+    record {
+      call = ends.call;
+      copies = ends.copies;
+      still = ends.still;
+      idle = ends.idle;
+      fills = fills_but (replaced c.args.span) (λ x. (x ∈ extent_names (replaced c.args.span)) ⊎ (x ∈ extent_names (read_from c.args.span))) c.args.self.now c.make_ready.new.self (filled g places.After-make_ready);
+      settled = search rules;
+      refused = ends.refused;
+      unready = ends.unready;
+      first = ends.first;
+      grants = ends.grants;
+      writable = search rules;
+    }
 
 -- the destination is ready
 ready_span : (g : Over) (c : After-self-2 g)
@@ -243,14 +209,7 @@ invariant_of-self g c = record {
 }
 
 pub returns-clause-call : goal.returns-clause-call
-returns-clause-call g c = record {
-  valid = (moved g c).0.valid;
-  answers = (moved g c).0.answers;
-  asks_first = tt;
-  made = (moved g c).0.made;
-  room = refl;
-  page = search rules;
-}
+returns-clause-call g c = ended_call g.M.Mapper c.args.mapper.now c.make_ready.new.mapper (moved g c).0 tt (search rules)
 
 pub returns-clause-copies : goal.returns-clause-copies
 returns-clause-copies g c = (moved g c).1
@@ -259,7 +218,6 @@ pub returns-clause-still : goal.returns-clause-still
 returns-clause-still g c = λ none.
     let j = c.self-2.inside in
     let e = c.move_pages.ensures in
-    let z : Manager = seen c.move_pages.new.caches c.move_pages.new.store j.contexts in
     let still = c.make_ready.ensures.still (subst (NeedsNoSave c.args.self.now.caches) (sym c.destination.ensures) none) in (
       still.0,
       still.1,
@@ -281,15 +239,8 @@ returns-clause-writable g c =
 
 -- Which pages come to frames
 
--- none but those of the saves before the pages are replaced
-filled : (g : Over) (c : After-make_ready g) → FillsOnly (replaced c.args.span) (λ x. ⊥) c.args.self.now c.make_ready.new.self
-filled g c = subst (λ (range : Extent). FillsOnly range (λ x. ⊥) c.args.self.now c.make_ready.new.self) c.destination.ensures c.make_ready.ensures.fills
-
 pub returns-in-Some-clause-fills : goal.returns-in-Some-clause-fills
 returns-in-Some-clause-fills g c = fills_itself (replaced c.args.span) (λ x. (x ∈ extent_names (replaced c.args.span)) ⊎ (x ∈ extent_names (read_from c.args.span))) c.args.self.now
-
-pub returns-in_err-make_ready-clause-fills : goal.returns-in_err-make_ready-clause-fills
-returns-in_err-make_ready-clause-fills g c = fills_but (replaced c.args.span) (λ x. (x ∈ extent_names (replaced c.args.span)) ⊎ (x ∈ extent_names (read_from c.args.span))) c.args.self.now c.make_ready.new.self (filled g (goal.at.returns-in_err-make_ready-clause-fills g c).After-make_ready)
 
 pub returns-clause-fills : goal.returns-clause-fills
 returns-clause-fills g c =

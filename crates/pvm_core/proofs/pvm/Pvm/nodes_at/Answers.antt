@@ -1,5 +1,7 @@
-use Rattle.std.proofs.Common.{◌≡◌, ◌∙◌, ℕ, sym, ap, subst}
+use Rattle.std.proofs.Common.{◌≡◌, ℕ, refl, sym, subst}
 use Rattle.std.specs.Prelude.{Ok}
+use Rattle.pvm_core.proofs.Accesses.Ready.{ready_hand}
+use Rattle.pvm_core.proofs.Answering.Kept.{seen}
 use Rattle.vm_model.specs.Machine.{numbered}
 use Rattle.vm_model.specs.Place.{place_of_actor}
 use Rattle.regions.specs.AddressSpace.{place_told}
@@ -8,10 +10,8 @@ use Rattle.local_cache.specs.Whole.{size_of}
 use Rattle.fault_path.specs.Faults.{IsOwner, is_at_hand}
 use Rattle.fault_path.proofs.OnePage.FoundPage.{owner_page}
 use Rattle.contexts.proofs.Placing.{IsFoundAt, found_at, spot}
-use Rattle.pvm_core.specs.Access.{AreNodesOf, is_page_at_hand, is_ready}
+use Rattle.pvm_core.specs.Access.{AreNodesOf, is_ready}
 use Rattle.pvm_core.specs.Manager.{Manager}
-use Rattle.pvm_core.proofs.Accesses.AtHand.{owner_hand}
-use Rattle.pvm_core.proofs.Accesses.Ready.{ready_is}
 use Rattle.pvm_core.proofs.pvm.Pvm.nodes_at.Goals.{After-owner_of-owner, After-self}
 use Rattle.pvm_core.proofs.pvm.Pvm.nodes_at.Goals as goal
 
@@ -47,8 +47,6 @@ pub returns-clause-ready : goal.returns-clause-ready
 returns-clause-ready c = λ actor address count told.
     let places = goal.at.returns-clause-ready c in
     let i = c.self.inside in
-    let nodes = c.self.invariant.sound.nodes in
     let r = found places.After-self actor address count told in
     subst (λ (p : Manager). is_at_hand (own_of p.caches c.owner_of-owner.result) ≡ is_ready p actor address) c.self.view_is
-    (sym (owner_hand i.caches nodes.sound nodes.consistent.shaped c.node_of-node.result c.owner_of-owner.result c.node_of-node.ensures.held (owner places.After-owner_of-owner)) ∙ ap (is_page_at_hand i.caches) c.node_of-node.ensures.name
-    ∙ sym (ready_is i.caches i.store i.contexts c.self.invariant.sound.actors.some actor address count (found_at r.region c.args.place) (sym r.is)))
+    (sym (ready_hand i.caches i.store i.contexts i.live c.self.invariant.sound (seen i.caches i.store i.contexts) refl actor address count (found_at r.region c.args.place) (sym r.is) c.node_of-node.result c.owner_of-owner.result c.node_of-node.ensures.held (owner places.After-owner_of-owner) c.node_of-node.ensures.name))

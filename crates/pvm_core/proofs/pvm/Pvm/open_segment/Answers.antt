@@ -1,5 +1,7 @@
 use Rattle.std.proofs.Common.{rules, ◌≡◌, ℕ, ◌<◌, ◌≤◌, [], Option, None, Some, length, refl, sym, ap, subst, ◌∙◌, arith}
 use Rattle.std.specs.Prelude.{Err, IfSome, List, option_map}
+use Rattle.pvm_core.proofs.Answering.Kept.{valid_seen, answer_still}
+use Rattle.pvm_core.proofs.Answering.Reaching.{reach_none}
 use Rattle.std.specs.FinMap.{get, get-empty}
 use Rattle.std.specs.Ordering.{nat_cmp}
 use Rattle.vm_ids.specs.Counting.{no_counts}
@@ -17,11 +19,11 @@ use Rattle.vm_model.specs.PageForest.{PageForest}
 use Rattle.pvm_core.specs.Manager.{IsValid, Manager, forest_of, machine_by, machine_of, numbered, state_at}
 use Rattle.pvm_core.proofs.Meaning.Shown.{shown_made}
 use Rattle.pvm_core.specs.contracts.pvm.Pvm.{the_view}
-use Rattle.pvm_core.proofs.Answering.Answered.{made_stays, no_segments}
-use Rattle.pvm_core.proofs.Opening.Refused.{may_open, outcome_over, stayed}
+use Rattle.pvm_core.proofs.Answering.Answered.{failed, made_stays, no_segments, stayed}
+use Rattle.pvm_core.proofs.Opening.Refused.{may_open, outcome_over}
 use Rattle.pvm_core.proofs.Opening.Rows.{in_use, many_made, none_held}
-use Rattle.pvm_core.proofs.Opening.Told.{failed_rise, has_segment, no_segment, one_fault, quiet, still_rise}
-use Rattle.pvm_core.proofs.Answering.Recorded.{asks_quiet, refused_mapper_call}
+use Rattle.pvm_core.proofs.Opening.Told.{failed_rise, has_segment, no_segment, one_fault, quiet}
+use Rattle.pvm_core.proofs.Answering.Recorded.{asks_quiet, refused_seen}
 use Rattle.pvm_core.proofs.pvm.Pvm.open_segment.Goals as goal
 
 -- as many caches were made as the machine has
@@ -34,40 +36,24 @@ counted None seg e size = tt
 counted (Some h) seg e size = sym e ∙ size
 
 pub returns-then-is_opened-clause-call : goal.returns-then-is_opened-clause-call
-returns-then-is_opened-clause-call g c = refused_mapper_call c.requires.valid (
+returns-then-is_opened-clause-call g c = refused_seen c.self.view_is c.requires.valid (λ valid.
     let h : Option Held = g.M.Mapper.held c.args.mapper.now in
+    let counts = g.M.Mapper.counts c.args.mapper.now in
     let p : Manager = the_view c.self.inside in
     let i = c.self.invariant.sound in
-    let answer : Answer = Err (troubles.Refused refusals.SegmentInUse) in
     let opened = c.is_opened.ensures.opened c.if-is_opened.true in
-    record {
-      pushes = [];
-      rises = no_counts;
-      rose = still_rise (g.M.Mapper.counts c.args.mapper.now);
-      is = subst (λ (p : Manager). AnswerIs (state_at p h) (commands.OpenSegment c.args.seg) answer [] no_counts (state_at p h)) c.self.view_is
-          (stayed p p h (commands.OpenSegment c.args.seg) answer no_counts (subst (λ (p : Manager). IsValid p h) (sym c.self.view_is) c.requires.valid) refl refl tt tt
-          (outcome_over p p h no_segments (commands.OpenSegment c.args.seg) answer no_counts i.nodes i.nodes
-          (λ f. in_use p f c.args.seg (get no_segments.pages c.args.seg.0) opened.0 opened.1)
-          (λ k e. in_use p (forest_of p h) c.args.seg (get k.segments c.args.seg.0) opened.0 opened.1)));
-    })
+    failed counts counts p p h h (commands.OpenSegment c.args.seg) (Err (troubles.Refused refusals.SegmentInUse)) (reach_none (machine_of p h) h counts) i.nodes i.nodes valid refl refl tt tt
+    (λ f s. in_use p f c.args.seg (get s.pages c.args.seg.0) opened.0 opened.1))
 
 pub returns-then-caches_made-ge-MOST_MADE-clause-call : goal.returns-then-caches_made-ge-MOST_MADE-clause-call
-returns-then-caches_made-ge-MOST_MADE-clause-call g c = refused_mapper_call c.requires.valid (
+returns-then-caches_made-ge-MOST_MADE-clause-call g c = refused_seen c.self.view_is c.requires.valid (λ valid.
     let h : Option Held = g.M.Mapper.held c.args.mapper.now in
+    let counts = g.M.Mapper.counts c.args.mapper.now in
     let p : Manager = the_view c.self.inside in
     let i = c.self.invariant.sound in
-    let answer : Answer = Err (troubles.Refused refusals.TooMany) in
     let many : MOST_MADE ≤ length p.caches.caches = omega (arith, c.if-caches_made-ge-MOST_MADE.true, c.caches_made.ensures) in
-    record {
-      pushes = [];
-      rises = no_counts;
-      rose = still_rise (g.M.Mapper.counts c.args.mapper.now);
-      is = subst (λ (p : Manager). AnswerIs (state_at p h) (commands.OpenSegment c.args.seg) answer [] no_counts (state_at p h)) c.self.view_is
-          (stayed p p h (commands.OpenSegment c.args.seg) answer no_counts (subst (λ (p : Manager). IsValid p h) (sym c.self.view_is) c.requires.valid) refl refl tt tt
-          (outcome_over p p h no_segments (commands.OpenSegment c.args.seg) answer no_counts i.nodes i.nodes
-          (λ f. many_made p f c.args.seg (λ n e. c.is_opened.ensures.free c.if-is_opened.false (n, e)) (get no_segments.pages c.args.seg.0) many)
-          (λ k e. many_made p (forest_of p h) c.args.seg (λ n e. c.is_opened.ensures.free c.if-is_opened.false (n, e)) (get k.segments c.args.seg.0) many)));
-    })
+    failed counts counts p p h h (commands.OpenSegment c.args.seg) (Err (troubles.Refused refusals.TooMany)) (reach_none (machine_of p h) h counts) i.nodes i.nodes valid refl refl tt tt
+    (λ f s. many_made p f c.args.seg (λ n e. c.is_opened.ensures.free c.if-is_opened.false (n, e)) (get s.pages c.args.seg.0) many))
 
 pub returns-in-Ok-Some-clause-call : goal.returns-in-Ok-Some-clause-call
 returns-in-Ok-Some-clause-call g c = record {
@@ -108,8 +94,7 @@ returns-in-Ok-None-clause-call g c = record {
         rises = no_counts;
         rose = quiet (g.M.Mapper.counts c.args.mapper.now) (g.M.Mapper.counts c.size.new.self) c.size.result c.size.ensures.counts;
         is = subst (λ (k : Option Held). AnswerIs (state_at c.args.self.now h) (commands.OpenSegment c.args.seg) answer [] no_counts (state_at c.args.self.now k)) (sym c.size.ensures.held)
-            (subst (λ (p : Manager). AnswerIs (state_at p h) (commands.OpenSegment c.args.seg) answer [] no_counts (state_at p h)) c.self.view_is
-            (stayed p p h (commands.OpenSegment c.args.seg) answer no_counts (subst (λ (p : Manager). IsValid p h) (sym c.self.view_is) c.requires.valid) refl refl tt tt
+            (answer_still h c.self.view_is (stayed p p h (commands.OpenSegment c.args.seg) answer no_counts (valid_seen c.self.view_is c.requires.valid) refl refl tt tt
             (outcome_over p p h no_segments (commands.OpenSegment c.args.seg) answer no_counts i.nodes i.nodes
             (λ f. ap (Rattle.vm_model.specs.Answering.open_of (machine_by p f) c.args.seg.0) (get-empty nat_cmp c.args.seg.0) ∙ none_held p f c.args.seg (λ n e. c.is_opened.ensures.free c.if-is_opened.false (n, e)) few)
             (λ k e.
@@ -138,8 +123,7 @@ returns-in-Err-clause-call g c = record {
         rises = one_fault;
         rose = failed_rise (g.M.Mapper.counts c.args.mapper.now) (g.M.Mapper.counts c.size.new.self) c.size.result counts c.in-Err.ensures.counts.faults.failed;
         is = subst (λ (k : Option Held). AnswerIs (state_at c.args.self.now h) (commands.OpenSegment c.args.seg) answer [] one_fault (state_at c.args.self.now k)) (sym c.size.ensures.held)
-            (subst (λ (p : Manager). AnswerIs (state_at p h) (commands.OpenSegment c.args.seg) answer [] one_fault (state_at p h)) c.self.view_is
-            (stayed p p h (commands.OpenSegment c.args.seg) answer one_fault (subst (λ (p : Manager). IsValid p h) (sym c.self.view_is) c.requires.valid) refl refl tt tt
+            (answer_still h c.self.view_is (stayed p p h (commands.OpenSegment c.args.seg) answer one_fault (valid_seen c.self.view_is c.requires.valid) refl refl tt tt
             (outcome_over p p h no_segments (commands.OpenSegment c.args.seg) answer one_fault i.nodes i.nodes
             (λ f. (refl, omega arith, shown_few p f few, may_open p f c.args.seg (c.is_opened.ensures.free c.if-is_opened.false) few (get no_segments.pages c.args.seg.0)))
             (λ k e. (refl, omega arith, shown_few p (forest_of p h) few, may_open p (forest_of p h) c.args.seg (c.is_opened.ensures.free c.if-is_opened.false) few (get k.segments c.args.seg.0))))));

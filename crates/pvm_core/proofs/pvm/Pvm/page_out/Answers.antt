@@ -2,8 +2,8 @@ use Rattle.std.proofs.Common.{rules, ◌≡◌, refl, sym, ap, subst, ◌∙◌}
 use Rattle.std.specs.Prelude.{◌+◌, length, min, IfSome, OnOk, Result}
 use Rattle.frame_pool.specs.Pool.{held_count}
 use Rattle.local_cache.specs.Arena.{Arena}
+use Rattle.residency.specs.Between.{world_at}
 use Rattle.residency.specs.Frames.{evictable_count}
-use Rattle.residency.specs.World.{world}
 use Rattle.residency.proofs.Forests.StillForest.{still_forest}
 use Rattle.residency.proofs.Translations.Kept.{still_drops}
 use Rattle.fault_path.proofs.Calls.Kept.{still_kept}
@@ -12,18 +12,18 @@ use Rattle.vm_ids.specs.declared.reply.Reply.TheVariants as replies
 use Rattle.vm_ids.specs.declared.reply.Trouble.{Trouble}
 use Rattle.vm_model.specs.Answering.{answer_by}
 use Rattle.vm_model.specs.Run.{CallIs}
-use Rattle.pvm_core.specs.Manager.{IsValid, Manager, forest_of, machine_by, machine_of, numbered, state_at}
+use Rattle.pvm_core.specs.Manager.{Manager, forest_of, machine_by, machine_of, numbered, state_at}
 use Rattle.pvm_core.proofs.Answering.Answered.{called, made_stays, on_victim, paged_out, victim}
 use Rattle.pvm_core.proofs.Accesses.Seen.{fits_frames, same_grants}
 use Rattle.pvm_core.proofs.Homes.Homed.{reached}
 use Rattle.pvm_core.proofs.Translating.Dropped.{dropped_right}
-use Rattle.pvm_core.proofs.Answering.Kept.{seen, sized_right}
+use Rattle.pvm_core.proofs.Answering.Kept.{seen, sized_right, valid_seen, call_seen}
 use Rattle.pvm_core.proofs.Answering.Standing.{Stands, stands}
 use Rattle.pvm_core.proofs.Answering.Recorded.{asks_victim}
 use Rattle.gmi_calls.specs.Calling.{AsksFirst}
 use Rattle.pvm_core.proofs.pvm.Pvm.page_out.Given.{Over}
 use Rattle.pvm_core.proofs.pvm.Pvm.page_out.Goals as goal
-use Rattle.pvm_core.proofs.pvm.Pvm.page_out.Goals.{After-page_out, in-Ok, in-Err}
+use Rattle.pvm_core.proofs.pvm.Pvm.page_out.Goals.{After-page_out, Joined-page_out, in-Ok, in-Err}
 
 -- what the manager stands for stays
 paged : (g : Over) (c : After-page_out g) → Stands (seen c.self.inside.caches c.self.inside.store c.self.inside.contexts) c.page_out.new.caches c.page_out.new.self c.self.inside.contexts c.self.inside.live (g.M.Mapper.held c.args.mapper.now) (g.M.Mapper.held c.page_out.new.mapper) (g.M.Mapper.counts c.args.mapper.now) (g.M.Mapper.counts c.page_out.new.mapper)
@@ -36,9 +36,9 @@ paged g c =
     let k = g.M.Mapper.held n.mapper in
     let size = g.M.Mapper.page_bytes c.args.mapper.now in
     let now = g.M.Mapper.page_bytes n.mapper in
-    stands i.caches n.caches i.store n.self h k size now (still_kept (world h size i.caches i.store) (world k now n.caches n.self) e.still sound.nodes.sound sound.nodes.consistent.shaped e.pinned) i.contexts i.live sound _ _
-    (still_forest (world h size i.caches i.store) (world k now n.caches n.self) e.still) (reached (seen i.caches i.store i.contexts) h sound.nodes sound.apart size now n.caches n.self k _ _ e.later e.told)
-    (subst (λ (p : Manager). IsValid p h) (sym c.self.view_is) c.requires.valid)
+    stands i.caches n.caches i.store n.self h k size now (still_kept (world_at g.M.Mapper c.args.mapper.now i.caches i.store) (world_at g.M.Mapper n.mapper n.caches n.self) e.still sound.nodes.sound sound.nodes.consistent.shaped e.pinned) i.contexts i.live sound _ _
+    (still_forest (world_at g.M.Mapper c.args.mapper.now i.caches i.store) (world_at g.M.Mapper n.mapper n.caches n.self) e.still) (reached (seen i.caches i.store i.contexts) h sound.nodes sound.apart size now n.caches n.self k _ _ e.later e.told)
+    (valid_seen c.self.view_is c.requires.valid)
 
 pub invariant_of-self : goal.invariant_of-self
 invariant_of-self g c = record {
@@ -51,7 +51,7 @@ invariant_of-self g c = record {
       let k = g.M.Mapper.held n.mapper in
       let size = g.M.Mapper.page_bytes c.args.mapper.now in
       let then_size = g.M.Mapper.page_bytes n.mapper in
-      let valid = subst (λ (p : Manager). IsValid p h) (sym c.self.view_is) c.requires.valid in
+      let valid = valid_seen c.self.view_is c.requires.valid in
       let fits = subst (λ (p : Manager). IfSome size (λ bytes. bytes ≡ p.page_bytes)) (sym c.self.view_is) c.requires.fits in
       let right = sized_right h size i.caches i.store (fits_frames size i.contexts.page_bytes i.store.frames.page c.self.invariant.sound.page fits) valid.right in
       dropped_right (λ m. ⊥) i.caches n.caches i.store n.self i.contexts
@@ -59,6 +59,13 @@ invariant_of-self g c = record {
       (same_grants i.caches n.caches (ap (λ (a : Arena). a.caches) e.still.stays.caches.rest)) c.self.invariant.translated
       );
 }
+
+-- the answer tells of the victim
+turned : (g : Over) (c : Joined-page_out g) → victim c.page_out.result ≡ c.match-page_out.result
+turned g c = elim c.match-page_out.branch [
+  | in-Ok w ↦ ap victim w.in-Ok.is ∙ sym w.result-is
+  | in-Err w ↦ ap victim w.in-Err.is ∙ sym w.result-is
+]
 
 pub returns-clause-call : goal.returns-clause-call
 returns-clause-call g c = record {
@@ -74,22 +81,11 @@ returns-clause-call g c = record {
       let q : Manager = seen n.caches n.self i.contexts in
       let command = commands.PageOut c.args.count in
       let s = paged g (goal.at.returns-clause-call g c).After-page_out in
-      let turned : victim c.page_out.result ≡ c.match-page_out.result = elim c.match-page_out.branch [
-        | in-Ok w ↦ ap victim w.in-Ok.is ∙ sym w.result-is
-        | in-Err w ↦ ap victim w.in-Err.is ∙ sym w.result-is
-      ] in
-      subst (λ (p : Manager). CallIs before after (state_at p h) command (answer_by (λ _. replies.Done) c.match-page_out.result) (state_at q k)) c.self.view_is
-      (subst (λ (r : Result (Unit {0}) Trouble). CallIs before after (state_at p h) command (answer_by (λ _. replies.Done) r) (state_at q k)) turned
+      call_seen h c.self.view_is (subst (λ (r : Result (Unit {0}) Trouble). CallIs before after (state_at p h) command (answer_by (λ _. replies.Done) r) (state_at q k)) (turned g (goal.at.returns-clause-call g c).Joined-page_out)
       (called before after p q h k command (answer_by (λ _. replies.Done) (victim c.page_out.result)) s.reach c.self.invariant.sound.nodes s.sound.nodes s.valid s.forest (λ done m f s none. none) tt tt (λ f. refl) (λ page. refl)
       (λ f g. paged_out (length s.reach.pushes) (machine_by p f) (machine_by q f) (forest_of p h) c.args.count g before after c.page_out.result (s.by f) c.page_out.ensures.cause)))
       );
-  asks_first = (
-      let turned : victim c.page_out.result ≡ c.match-page_out.result = elim c.match-page_out.branch [
-        | in-Ok w ↦ ap victim w.in-Ok.is ∙ sym w.result-is
-        | in-Err w ↦ ap victim w.in-Err.is ∙ sym w.result-is
-      ] in
-      subst (λ (r : Result (Unit {0}) Trouble). AsksFirst (commands.PageOut c.args.count) (answer_by (λ _. replies.Done) r) (g.M.Mapper.counts c.args.mapper.now) (g.M.Mapper.counts c.page_out.new.mapper)) turned (asks_victim (commands.PageOut c.args.count) c.page_out.result (g.M.Mapper.counts c.args.mapper.now) (g.M.Mapper.counts c.page_out.new.mapper))
-      );
+  asks_first = subst (λ (r : Result (Unit {0}) Trouble). AsksFirst (commands.PageOut c.args.count) (answer_by (λ _. replies.Done) r) (g.M.Mapper.counts c.args.mapper.now) (g.M.Mapper.counts c.page_out.new.mapper)) (turned g (goal.at.returns-clause-call g c).Joined-page_out) (asks_victim (commands.PageOut c.args.count) c.page_out.result (g.M.Mapper.counts c.args.mapper.now) (g.M.Mapper.counts c.page_out.new.mapper));
   made = made_stays (machine_of c.args.self.now (g.M.Mapper.held c.args.mapper.now)) (commands.PageOut c.args.count) (answer_by (λ _. replies.Done) c.match-page_out.result) (machine_of (seen c.page_out.new.caches c.page_out.new.self c.self.inside.contexts) (g.M.Mapper.held c.page_out.new.mapper)) (numbered c.args.self.now) (numbered (seen c.page_out.new.caches c.page_out.new.self c.self.inside.contexts)) (ap (λ (a : Arena). a.made + a.copies) c.page_out.ensures.still.stays.caches.rest ∙ ap numbered c.self.view_is);
   room = refl;
   page = search rules;
@@ -110,10 +106,6 @@ returns-clause-fewer g c =
     let i = c.self.inside in
     let n = c.page_out.new in
     let before = held_count i.store.frames in
-    let turned : victim c.page_out.result ≡ c.match-page_out.result = elim c.match-page_out.branch [
-      | in-Ok w ↦ ap victim w.in-Ok.is ∙ sym w.result-is
-      | in-Err w ↦ ap victim w.in-Err.is ∙ sym w.result-is
-    ] in
     subst (λ (p : Manager). OnOk c.match-page_out.result (held_count n.self.frames + min c.args.count (evictable_count p.store.frames) ≡ held_count p.store.frames)) c.self.view_is
-    (subst (λ (r : Result (Unit {0}) Trouble). OnOk r (held_count n.self.frames + min c.args.count (evictable_count i.store.frames) ≡ before)) turned
+    (subst (λ (r : Result (Unit {0}) Trouble). OnOk r (held_count n.self.frames + min c.args.count (evictable_count i.store.frames) ≡ before)) (turned g (goal.at.returns-clause-fewer g c).Joined-page_out)
     (on_victim _ c.page_out.result c.page_out.ensures.fewer))

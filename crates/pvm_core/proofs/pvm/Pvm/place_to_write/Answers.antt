@@ -1,6 +1,6 @@
 use Rattle.std.proofs.Common.{rules, ◌≡◌, ℕ, List, Bool, true, false, length, refl, sym, ap, subst, ◌∙◌, arith, inl, inr}
 use Rattle.std.specs.Prelude.{Result, Ok, Err, IfErr, not}
-use Rattle.std.proofs.lemmas.Result.{err_from_is_err_and}
+use Rattle.std.proofs.result.Match.{err_is}
 use Rattle.gmi_calls.specs.Calling.{RaisesMade}
 use Rattle.vm_ids.specs.Denying.{denies}
 use Rattle.vm_ids.specs.Held.{segments_of}
@@ -24,7 +24,7 @@ use Rattle.pvm_core.specs.Writes.{IsNotGranted}
 use Rattle.pvm_core.proofs.Answering.Answered.{failed, failed_at, made_stays}
 use Rattle.pvm_core.proofs.Readiness.Denied.{denied_cases, denied_there, told_denied, denies_one, one_denied}
 use Rattle.pvm_core.proofs.Readiness.Granted.{granted_forest, granted_sound, granted_state, granted_valid, granted_by}
-use Rattle.pvm_core.proofs.Answering.Kept.{seen}
+use Rattle.pvm_core.proofs.Answering.Kept.{seen, valid_seen, call_seen}
 use Rattle.contexts.proofs.Placing.{IsFoundAt, found_at, spot}
 use Rattle.pvm_core.proofs.Accesses.Asked.{on_no_access}
 use Rattle.pvm_core.proofs.Translating.Cells.{granted_right}
@@ -46,7 +46,7 @@ granted true e = refl
 granted false e = absurd (cc e)
 
 valid_before : (g : Over) (c : After-self g) → IsValid (seen c.self.inside.caches c.self.inside.store c.self.inside.contexts) (g.M.Mapper.held c.args.mapper.now)
-valid_before g c = subst (λ (p : Manager). IsValid p (g.M.Mapper.held c.args.mapper.now)) (sym c.self.view_is) c.requires.valid
+valid_before g c = valid_seen c.self.view_is c.requires.valid
 
 -- the access is in a region
 told : (g : Over) (c : In_ok-place g) → Ok c.in_ok-place.place ≡ place_told (place_of_actor c.self.inside.contexts.page_bytes (has_number c.self.inside.contexts.actors c.args.actor.0) c.args.address (length c.args.piece.now))
@@ -86,7 +86,7 @@ not_granted g c = subst (λ (x : Result _ Trouble). IfErr x (IsNotGranted (recor
 
 -- the trouble is handed on
 handed_on : (g : Over) (c : After-from_residual-in_err-grant_range g) → c.from_residual-in_err-grant_range.result ≡ Err c.in_err-grant_range.field-0.0
-handed_on g c = let gave = err_from_is_err_and c.from_residual-in_err-grant_range.result c.from_residual-in_err-grant_range.ensures.1 in gave.1 ∙ ap (λ t. Err t) gave.2
+handed_on g c = err_is c.from_residual-in_err-grant_range.result _ c.from_residual-in_err-grant_range.ensures.1
 
 pub returns-in_err-grant_range-clause-call : goal.returns-in_err-grant_range-clause-call
 returns-in_err-grant_range-clause-call g c = subst (λ (x : Result _ Trouble). IfErr x (λ trouble. MapperCall g.M.Mapper meaning c.args.mapper.now c.args.self.now (commands.Store c.args.actor c.args.address c.args.piece.now) (Err trouble) c.grant_range.new.mapper (seen c.grant_range.new.caches c.self.inside.store c.self.inside.contexts)))
@@ -115,8 +115,7 @@ returns-in_err-grant_range-clause-call g c = subst (λ (x : Result _ Trouble). I
           let reach = reach_quiet (machine_of p h0) h0 h begun before (ap segments_of e.held) e.later in
           let forest = granted_forest i.caches a i.store i.contexts i.live e.nodes c.self.invariant.sound h0 h (g.M.Mapper.page_bytes c.args.mapper.now) (g.M.Mapper.page_bytes c.grant_range.new.mapper) e.held e.forest in
           let by = granted_by i.caches a i.store i.contexts i.live e.nodes c.self.invariant.sound in
-          subst (λ (p : Manager). CallIs begun before (state_at p h0) (commands.Store c.args.actor c.args.address c.args.piece.now) (Err c.in_err-grant_range.field-0.0) (state_at q h)) c.self.view_is
-          (elim (denied_cases range h0 out.segment i.caches a trouble out.denied) [
+          call_seen h0 c.self.view_is (elim (denied_cases range h0 out.segment i.caches a trouble out.denied) [
             | inl w ↦ (
                 let page : pl.page.0 ≡ w.1.page = omega (arith, w.1.asked.page_of.0, w.1.asked.page_of.1) in
                 subst (λ (t : Trouble). CallIs begun before (state_at p h0) (commands.Store c.args.actor c.args.address c.args.piece.now) (Err t) (state_at q h)) (sym w.0)

@@ -1,20 +1,18 @@
 use Rattle.std.specs.Prelude.{◌||◌, is_some}
 use Rattle.frame_pool.specs.Pool.{is_pinned}
 use Rattle.global_map.specs.Pairs.{node_of}
-use Rattle.std.proofs.Common.{◌≡◌, Bool, true, false, [], refl, sym, ap, subst, ◌∙◌}
+use Rattle.std.proofs.Common.{◌≡◌, Bool, true, false, refl, sym, ap, subst, ◌∙◌}
 use Rattle.std.specs.Prelude.{Ok}
-use Rattle.vm_ids.specs.Counting.{no_counts}
 use Rattle.vm_ids.specs.declared.command.Command.TheVariants as commands
 use Rattle.vm_ids.specs.declared.reply.Counts.{Counts}
 use Rattle.vm_ids.specs.declared.reply.Reply.TheVariants as replies
 use Rattle.vm_model.specs.Answering.{reply}
-use Rattle.vm_model.specs.Run.{AnswerIs}
 use Rattle.pvm_core.specs.Keeping.{HasFewWorking, HoldsEachOnce}
-use Rattle.pvm_core.specs.Manager.{IsValid, Manager, machine_by, state_at}
+use Rattle.pvm_core.specs.Manager.{Manager, machine_by}
 use Rattle.pvm_core.specs.Standing.{StandsRight}
 use Rattle.pvm_core.specs.contracts.pvm.Pvm.{the_view}
 use Rattle.pvm_core.proofs.Answering.Answered.{seated}
-use Rattle.pvm_core.proofs.Answering.Kept.{seen}
+use Rattle.pvm_core.proofs.Answering.Kept.{seen, valid_seen, answer_still}
 use Rattle.pvm_core.proofs.Holding.Kept.{locked_in}
 use Rattle.pvm_core.proofs.Meaning.Kept.{few_kept, numbered_by}
 use Rattle.pvm_core.proofs.Meaning.Values.{followed_of}
@@ -30,9 +28,7 @@ bound_or false false e = refl
 pub returns-clause-answers : goal.returns-clause-answers
 returns-clause-answers c = λ h v.
     let p : Manager = the_view c.self.inside in
-    let answer = Ok (replies.Stat c.counts.result) in
-    subst (λ (p : Manager). AnswerIs (state_at p h) commands.Stat answer [] no_counts (state_at p h)) c.self.view_is
-    (seated p p h commands.Stat answer c.self.invariant.sound.nodes c.self.invariant.sound.nodes (subst (λ (p : Manager). IsValid p h) (sym c.self.view_is) v) refl (λ done m f s none. none) refl tt (λ f. refl) (λ page. refl)
+    answer_still h c.self.view_is (seated p p h commands.Stat (Ok (replies.Stat c.counts.result)) c.self.invariant.sound.nodes c.self.invariant.sound.nodes (valid_seen c.self.view_is v) refl (λ done m f s none. none) refl tt (λ f. refl) (λ page. refl)
     (λ f s. ap (λ (k : Counts). reply (replies.Stat k) (machine_by p f)) (counts_are p h c.self.invariant.sound.nodes ∙ sym c.counts.ensures.counts)))
 
 pub returns-clause-bounded : goal.returns-clause-bounded
@@ -45,7 +41,7 @@ pub returns-clause-stands : goal.returns-clause-stands
 returns-clause-stands c = λ h v.
     let i = c.self.inside in
     let p : Manager = seen i.caches i.store i.contexts in
-    let w = subst (λ (p : Manager). IsValid p h) (sym c.self.view_is) v in
+    let w = valid_seen c.self.view_is v in
     let sound = c.self.invariant.sound in
     let placed = w.right.tied.placed in
     let once : HoldsEachOnce p = record {

@@ -1,6 +1,7 @@
 use Rattle.std.proofs.Common.{◌≡◌, ℕ, Option, length, sym, ap, subst, ◌∙◌, arith}
 use Rattle.std.specs.Prelude.{Result, Err}
-use Rattle.std.proofs.lemmas.Result.{err_from_is_err_and}
+use Rattle.pvm_core.proofs.Answering.Kept.{valid_seen}
+use Rattle.std.proofs.result.Match.{err_is}
 use Rattle.gmi_calls.specs.Calling.{done_by}
 use Rattle.vm_ids.specs.declared.command.Command.TheVariants as commands
 use Rattle.vm_ids.specs.declared.reply.Trouble.{Trouble}
@@ -8,13 +9,13 @@ use Rattle.vm_ids.specs.declared.reply.Trouble.TheVariants as troubles
 use Rattle.vm_model.specs.Machine.{Machine}
 use Rattle.vm_model.specs.Run.{State}
 use Rattle.pvm_core.specs.Access.{AskedInVain}
-use Rattle.pvm_core.specs.Manager.{IsValid, Manager, machine_of, numbered, state_at}
+use Rattle.pvm_core.specs.Manager.{Manager, machine_of, numbered, state_at}
 use Rattle.segment_ops.specs.Access.{GrantsStay}
 use Rattle.gmi_calls.specs.Calling.{Fits, MapperCall}
 use Rattle.pvm_core.specs.Access.{OnNoAccess}
 use Rattle.pvm_core.specs.Manager.{meaning}
 use Rattle.pvm_core.proofs.Accesses.Asked.{none_asked}
-use Rattle.pvm_core.proofs.Accesses.Parts.{mapper_call, quiet_then}
+use Rattle.pvm_core.proofs.Accesses.Parts.{mapper_call, quiet_then, mapper_seen}
 use Rattle.pvm_core.proofs.pvm.Pvm.store.Given.{Over}
 use Rattle.pvm_core.proofs.pvm.Pvm.store.Goals.{After-from_residual, Else-store_seen, In_ok-place}
 use Rattle.pvm_core.proofs.pvm.Pvm.store.Goals as goal
@@ -36,7 +37,7 @@ pub returns-then-store_seen-clause-translated : goal.returns-then-store_seen-cla
 returns-then-store_seen-clause-translated g c = c.store_seen.ensures.translated c.if-store_seen.true
 
 pub place_to_write-requires-clause-valid : goal.place_to_write-requires-clause-valid
-place_to_write-requires-clause-valid g c = subst (λ (p : Manager). IsValid p (g.M.Mapper.held c.args.mapper.now)) (sym (unseen g (goal.at.place_to_write-requires-clause-valid g c).Else-store_seen)) c.requires.valid
+place_to_write-requires-clause-valid g c = valid_seen (unseen g (goal.at.place_to_write-requires-clause-valid g c).Else-store_seen) c.requires.valid
 
 pub place_to_write-requires-clause-fits : goal.place_to_write-requires-clause-fits
 place_to_write-requires-clause-fits g c = subst (λ (p : Manager). Fits (g.M.Mapper.page_bytes c.args.mapper.now) (machine_of p (g.M.Mapper.held c.args.mapper.now))) (sym (unseen g (goal.at.place_to_write-requires-clause-fits g c).Else-store_seen)) c.requires.fits
@@ -45,16 +46,15 @@ place_to_write-requires-clause-fits g c = subst (λ (p : Manager). Fits (g.M.Map
 
 -- the trouble is handed on
 handed_on : (g : Over) (c : After-from_residual g) → c.from_residual.result ≡ Err c.in_err-place.field-0.0
-handed_on g c = let gave = err_from_is_err_and c.from_residual.result c.from_residual.ensures.1 in gave.1 ∙ ap (λ t. Err t) gave.2
+handed_on g c = err_is c.from_residual.result _ c.from_residual.ensures.1
 
 pub returns-in_err-place-clause-call : goal.returns-in_err-place-clause-call
 returns-in_err-place-clause-call g c =
     let at = goal.at.returns-in_err-place-clause-call g c in
     let q = c.place_to_write.new.self in
     let n = c.place_to_write.new.mapper in
-    let command = commands.Store c.args.actor c.args.address c.args.piece.now in
-    subst (λ (x : Result _ Trouble). MapperCall g.M.Mapper meaning c.args.mapper.now c.args.self.now command (done_by x) n q) (sym (handed_on g at.After-from_residual))
-    (subst (λ (p : Manager). MapperCall g.M.Mapper meaning c.args.mapper.now p command (Err c.in_err-place.field-0.0) n q) (unseen g at.Else-store_seen) c.in_err-place.ensures.call)
+    subst (λ (x : Result _ Trouble). MapperCall g.M.Mapper meaning c.args.mapper.now c.args.self.now (commands.Store c.args.actor c.args.address c.args.piece.now) (done_by x) n q) (sym (handed_on g at.After-from_residual))
+    (mapper_seen (unseen g at.Else-store_seen) c.in_err-place.ensures.call)
 
 pub returns-in_err-place-clause-copies : goal.returns-in_err-place-clause-copies
 returns-in_err-place-clause-copies g c = omega (arith, c.place_to_write.ensures.copies, ap (λ (p : Manager). p.caches.copies) (unseen g (goal.at.returns-in_err-place-clause-copies g c).Else-store_seen))

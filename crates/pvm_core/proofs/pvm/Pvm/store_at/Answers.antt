@@ -1,5 +1,7 @@
 use Rattle.vm_ids.specs.declared.numbers.FrameId.{FrameId}
 use Rattle.vm_ids.specs.declared.numbers.NodeId.{NodeId}
+use Rattle.residency.specs.Between.{world_at}
+use Rattle.pvm_core.proofs.Accesses.Ready.{seen_no_more, seen_admits, ready_hand}
 use Rattle.std.proofs.Common.{rules, ◌≡◌, List, Option, ◌+◌, ◌<◌, ◌≤◌, true, None, length, refl, sym, ap, subst, ◌∙◌, arith}
 use Rattle.std.specs.Prelude.{Ok, Err, option_map, IfErr, Result}
 use Rattle.gmi_calls.specs.Calling.{AsksFirst}
@@ -38,7 +40,7 @@ use Rattle.pvm_core.proofs.Readiness.Granted.{writable_node}
 use Rattle.pvm_core.proofs.Homes.Full.{full_after}
 use Rattle.pvm_core.proofs.Homes.Homed.{reached}
 use Rattle.pvm_core.specs.Reaching.{Reach}
-use Rattle.pvm_core.proofs.Answering.Kept.{kept_by, kept_sound, seen, sizeless, unsized_right}
+use Rattle.pvm_core.proofs.Answering.Kept.{kept_by, kept_sound, seen, sizeless, unsized_right, valid_seen, call_seen}
 use Rattle.pvm_core.proofs.Answering.Standing.{Stands, stands}
 use Rattle.contexts.proofs.Placing.{IsFoundAt, found_at, spot}
 use Rattle.pvm_core.proofs.Accesses.Asked.{missed_by, same_tables}
@@ -55,19 +57,16 @@ use Rattle.pvm_core.proofs.Answering.Recorded.{asks_missed}
 use Rattle.page_release.specs.Homes.{IsWritable}
 use Rattle.pvm_core.proofs.pvm.Pvm.store_at.Given.{Over}
 use Rattle.pvm_core.proofs.pvm.Pvm.store_at.Goals.{After-remember, After-self, After-write_fault, In-Err, In-Ok}
-use Rattle.gmi_calls.specs.Parking.{NoMoreReady, StillAdmits}
-use Rattle.pvm_core.specs.Access.{Admits, AreNodesOf, is_page_at_hand, is_ready}
-use Rattle.pvm_core.proofs.Accesses.Ready.{no_more, ready_is, still_admits}
-use Rattle.residency.specs.World.{World}
+use Rattle.pvm_core.specs.Access.{AreNodesOf, is_ready}
 use Rattle.residency.specs.declared.miss.Miss.{Miss}
 use Rattle.residency.specs.declared.miss.Miss.TheVariants.{Victim}
-use Rattle.fault_path.specs.Faults.{IsOwner, is_at_hand}
+use Rattle.fault_path.specs.Faults.{is_at_hand}
 use Rattle.local_cache.specs.Own.{own_of}
-use Rattle.pvm_core.proofs.Accesses.AtHand.{missed_hand, owner_hand, written_hand}
+use Rattle.pvm_core.proofs.Accesses.AtHand.{missed_hand, written_hand}
 use Rattle.pvm_core.proofs.pvm.Pvm.store_at.Goals as goal
 
 valid_before : (g : Over) (c : After-self g) → IsValid (seen c.self.inside.caches c.self.inside.store c.self.inside.contexts) (g.M.Mapper.held c.args.mapper.now)
-valid_before g c = subst (λ (p : Manager). IsValid p (g.M.Mapper.held c.args.mapper.now)) (sym c.self.view_is) c.requires.valid
+valid_before g c = valid_seen c.self.view_is c.requires.valid
 
 -- the access is in a region
 found : (g : Over) (c : After-self g) → IsFoundAt (size_of c.self.inside.caches) c.self.inside.contexts.page_bytes (has_number c.self.inside.contexts.actors c.args.actor.0) c.args.address (length c.args.piece.now) c.args.place
@@ -205,8 +204,8 @@ written_then g c =
     let o = told_nodes g places.After-self in
     let rule : forest_of q k ≡ write (forest_of p h) (page_name pl.cache pl.page.0) (option_map (overwrite pl.at c.args.piece.now))
     = (λ j. store_forest (world k None n.caches (stored_at j))) ∙ sym (sizeless k then_size n.caches (record n.store { frames = with_bytes n.store.frames c.in-Ok.frame.0 new }))
-    ∙ stored_forest (world h size a i.store) (world k then_size n.caches n.store) c.in-Ok.frame.0 c.args.nodes.node (page_name pl.cache pl.page.0) pl.at c.args.piece.now e.answered.kept
-    (ready.forest ∙ ap (readied (store_forest (world h size a i.store))) o.name) (e.answered.kept.nodes.name c.args.nodes.node ∙ o.name) ready.bound.0 ready.bound.1
+    ∙ stored_forest (world_at g.M.Mapper c.args.mapper.now a i.store) (world_at g.M.Mapper n.mapper n.caches n.store) c.in-Ok.frame.0 c.args.nodes.node (page_name pl.cache pl.page.0) pl.at c.args.piece.now e.answered.kept
+    (ready.forest ∙ ap (readied (store_forest (world_at g.M.Mapper c.args.mapper.now a i.store))) o.name) (e.answered.kept.nodes.name c.args.nodes.node ∙ o.name) ready.bound.0 ready.bound.1
     ∙ ap (λ f. write f (page_name pl.cache pl.page.0) (option_map (overwrite pl.at c.args.piece.now))) (sizeless h size a i.store) in
     let followed = followed_of p h sound.nodes sound.actors.some valid.whole in
     let less : pl.page.0 < length t.0.pages = omega (arith, r.less, t.2) in
@@ -221,8 +220,7 @@ written_then g c =
     let answer : Answer = Ok replies.Done in
     let may = writable g places.After-self in (
       seen_valid c.write_frame.new.store c.remember.new.store c.remember.ensures.only n.caches i.contexts k now,
-      subst (λ (p : Manager). CallIs before after (state_at p h) (commands.Store c.args.actor c.args.address c.args.piece.now) answer (state_at (seen n.caches c.remember.new.store i.contexts) k)) c.self.view_is
-          (subst (λ (x : State). CallIs before after (state_at p h) (commands.Store c.args.actor c.args.address c.args.piece.now) answer x) (sym (seen_state c.write_frame.new.store c.remember.new.store c.remember.ensures.only n.caches i.contexts k))
+      call_seen h c.self.view_is (subst (λ (x : State). CallIs before after (state_at p h) (commands.Store c.args.actor c.args.address c.args.piece.now) answer x) (sym (seen_state c.write_frame.new.store c.remember.new.store c.remember.ensures.only n.caches i.contexts k))
           (call_is before after p q h k (commands.Store c.args.actor c.args.address c.args.piece.now) answer reach now tt tt (rule ∙ ap (λ x. written_at (forest_of p h) x c.args.piece.now) (is (forest_of p h)))
           (stored p q h k c.args.actor c.args.address at c.args.piece.now t.0 t.1 less fits sound.actors.some e.answered.kept.nodes.caches (refl, frames, refl, refl) sound.nodes then.nodes valid.whole followed rule both by
           is c.requires.may_write (λ f s told. undenied p h sound.nodes valid.right pl.cache pl.page.0 r.count there r.less may f k s (reach_denied (machine_of p h) h k before after reach) told) _))),
@@ -232,7 +230,7 @@ written_then g c =
 most : (g : Over) (c : In-Ok g) → c.write_fault.new.caches.copies ≤ c.self.inside.caches.copies + 2
 most g c =
     let n = c.write_fault.new in
-    copied_most (world (g.M.Mapper.held c.args.mapper.now) (g.M.Mapper.page_bytes c.args.mapper.now) c.self.inside.caches c.self.inside.store) (world (g.M.Mapper.held c.write_fault.new.mapper) (g.M.Mapper.page_bytes n.mapper) n.caches n.store) _ c.in-Ok.ensures.ready.forest
+    copied_most (world_at g.M.Mapper c.args.mapper.now c.self.inside.caches c.self.inside.store) (world (g.M.Mapper.held c.write_fault.new.mapper) (g.M.Mapper.page_bytes n.mapper) n.caches n.store) _ c.in-Ok.ensures.ready.forest
 
 pub returns-in-Ok-clause-call : goal.returns-in-Ok-clause-call
 returns-in-Ok-clause-call g c = record {
@@ -280,12 +278,10 @@ returns-in-Err-clause-call g c = record {
       let is : (f : PageForest) → Ok at ≡ place (machine_by p f) c.args.actor.0 c.args.address (length c.args.piece.now) = λ f. r.is in
       let page : PageNo = pl.page in
       let there = r.there in
-      let answer : Answer = Err (troubles.Mapper (fault_at c.in-Err.miss page)) in
       let may = c.requires.may_write in
       let written = writable g places.After-self in
-      subst (λ (p : Manager). CallIs before after (state_at p h) (commands.Store c.args.actor c.args.address c.args.piece.now) (Err (troubles.Mapper c.fault_of.result)) (state_at q k)) c.self.view_is
-      (subst (λ (f : FaultAt). CallIs before after (state_at p h) (commands.Store c.args.actor c.args.address c.args.piece.now) (Err (troubles.Mapper f)) (state_at q k)) (sym c.fault_of.ensures)
-      (failed_at before after p q h k (commands.Store c.args.actor c.args.address c.args.piece.now) answer no_segments l.reach c.self.invariant.sound.nodes l.sound.nodes l.valid l.forest (not_saved c.in-Err.miss page (forest_of p h) (machine_of p h) (commands.Store c.args.actor c.args.address c.args.piece.now) (machine_of q k) refl) tt tt
+      call_seen h c.self.view_is (subst (λ (f : FaultAt). CallIs before after (state_at p h) (commands.Store c.args.actor c.args.address c.args.piece.now) (Err (troubles.Mapper f)) (state_at q k)) (sym c.fault_of.ensures)
+      (failed_at before after p q h k (commands.Store c.args.actor c.args.address c.args.piece.now) (Err (troubles.Mapper (fault_at c.in-Err.miss page))) no_segments l.reach c.self.invariant.sound.nodes l.sound.nodes l.valid l.forest (not_saved c.in-Err.miss page (forest_of p h) (machine_of p h) (commands.Store c.args.actor c.args.address c.args.piece.now) (machine_of q k) refl) tt tt
       (λ f. store_fault (length l.reach.pushes) (machine_by p f) (machine_by q f) (forest_of p h) c.args.actor c.args.address c.args.piece.now no_segments before after c.in-Err.miss page at (l.by f) (is f) may (undenied_blank p f pl.cache.0 pl.page.0) refl c.in-Err.ensures.missed.cause)
       (λ f s told. store_fault (length l.reach.pushes) (machine_by p f) (machine_by q f) (forest_of p h) c.args.actor c.args.address c.args.piece.now s before after c.in-Err.miss page at (l.by f) (is f) may
       (undenied p h c.self.invariant.sound.nodes valid.right pl.cache pl.page.0 r.count there r.less written f k s (reach_denied (machine_of p h) h k before after l.reach) told) refl c.in-Err.ensures.missed.cause)))
@@ -324,10 +320,7 @@ hand_there g c ready =
     let i = c.self.inside in
     let o = told_nodes g c in
     let r = found g c in
-    let nodes = c.self.invariant.sound.nodes in
-    let before : is_ready (seen i.caches i.store i.contexts) c.args.actor.0 c.args.address ≡ true = subst (λ (p : Manager). is_ready p c.args.actor.0 c.args.address ≡ true) (sym c.self.view_is) ready in
-    sym (owner_hand i.caches nodes.sound nodes.consistent.shaped c.args.nodes.node c.args.nodes.owner o.held o.owner) ∙ ap (is_page_at_hand i.caches) o.name
-    ∙ sym (ready_is i.caches i.store i.contexts c.self.invariant.sound.actors.some c.args.actor.0 c.args.address (length c.args.piece.now) (found_at r.region c.args.place) (sym r.is)) ∙ before
+    sym (ready_hand i.caches i.store i.contexts i.live c.self.invariant.sound c.args.self.now c.self.view_is c.args.actor.0 c.args.address (length c.args.piece.now) (found_at r.region c.args.place) (sym r.is) c.args.nodes.node c.args.nodes.owner o.held o.owner o.name) ∙ ready
 
 pub returns-in-Ok-clause-no_more : goal.returns-in-Ok-clause-no_more
 returns-in-Ok-clause-no_more g c = λ ready.
@@ -337,12 +330,8 @@ returns-in-Ok-clause-no_more g c = λ ready.
     let e = c.write_fault.ensures in
     let nodes = c.self.invariant.sound.nodes in
     let o = told_nodes g at.After-self in
-    let p : Manager = seen i.caches i.store i.contexts in
-    let q : Manager = seen n.caches c.remember.new.store i.contexts in
-    let w : World = world (g.M.Mapper.held c.args.mapper.now) (g.M.Mapper.page_bytes c.args.mapper.now) i.caches i.store in
-    let v : World = world (g.M.Mapper.held n.mapper) (g.M.Mapper.page_bytes n.mapper) n.caches n.store in
-    subst (λ (p : Manager). NoMoreReady is_ready p q) c.self.view_is (no_more p q refl refl
-    (written_hand w v e.answered.kept nodes.sound nodes.consistent.shaped c.args.nodes.node c.args.nodes.owner o.held o.owner (hand_there g at.After-self ready) (e.frames c.args.nodes.owner o.owner) c.in-Ok.ensures.ready.forest))
+    seen_no_more i.caches n.caches i.store c.remember.new.store i.contexts c.self.view_is
+    (written_hand (world_at g.M.Mapper c.args.mapper.now i.caches i.store) (world_at g.M.Mapper n.mapper n.caches n.store) e.answered.kept nodes.sound nodes.consistent.shaped c.args.nodes.node c.args.nodes.owner o.held o.owner (hand_there g at.After-self ready) (e.frames c.args.nodes.owner o.owner) c.in-Ok.ensures.ready.forest)
 
 pub returns-in-Err-clause-no_more : goal.returns-in-Err-clause-no_more
 returns-in-Err-clause-no_more g c = λ ready.
@@ -352,28 +341,20 @@ returns-in-Err-clause-no_more g c = λ ready.
     let e = c.write_fault.ensures in
     let nodes = c.self.invariant.sound.nodes in
     let o = told_nodes g at.After-self in
-    let p : Manager = seen i.caches i.store i.contexts in
-    let q : Manager = seen n.caches n.store i.contexts in
-    let w : World = world (g.M.Mapper.held c.args.mapper.now) (g.M.Mapper.page_bytes c.args.mapper.now) i.caches i.store in
-    let v : World = world (g.M.Mapper.held n.mapper) (g.M.Mapper.page_bytes n.mapper) n.caches n.store in
-    subst (λ (p : Manager). NoMoreReady is_ready p q) c.self.view_is (no_more p q refl refl
-    (missed_hand w v c.in-Err.ensures.missed.still nodes.sound nodes.consistent.shaped c.args.nodes.node c.args.nodes.owner o.owner (hand_there g at.After-self ready) (e.frames c.args.nodes.owner o.owner)))
+    seen_no_more i.caches n.caches i.store n.store i.contexts c.self.view_is
+    (missed_hand (world_at g.M.Mapper c.args.mapper.now i.caches i.store) (world_at g.M.Mapper n.mapper n.caches n.store) c.in-Err.ensures.missed.still nodes.sound nodes.consistent.shaped c.args.nodes.node c.args.nodes.owner o.owner (hand_there g at.After-self ready) (e.frames c.args.nodes.owner o.owner))
 
 pub returns-in-Ok-clause-admits : goal.returns-in-Ok-clause-admits
 returns-in-Ok-clause-admits g c =
     let i = c.self.inside in
     let n = c.write_fault.new in
-    let p : Manager = seen i.caches i.store i.contexts in
-    let q : Manager = seen n.caches c.remember.new.store i.contexts in
-    subst (λ (p : Manager). StillAdmits Admits p q) c.self.view_is (still_admits p q refl refl (same_grants i.caches n.caches c.write_fault.ensures.answered.kept.nodes.caches))
+    seen_admits i.caches n.caches i.store c.remember.new.store i.contexts c.self.view_is c.write_fault.ensures.answered.kept.nodes.caches
 
 pub returns-in-Err-clause-admits : goal.returns-in-Err-clause-admits
 returns-in-Err-clause-admits g c =
     let i = c.self.inside in
     let n = c.write_fault.new in
-    let p : Manager = seen i.caches i.store i.contexts in
-    let q : Manager = seen n.caches n.store i.contexts in
-    subst (λ (p : Manager). StillAdmits Admits p q) c.self.view_is (still_admits p q refl refl (same_grants i.caches n.caches c.write_fault.ensures.answered.kept.nodes.caches))
+    seen_admits i.caches n.caches i.store n.store i.contexts c.self.view_is c.write_fault.ensures.answered.kept.nodes.caches
 
 pub returns-in-Ok-clause-no_pull : goal.returns-in-Ok-clause-no_pull
 returns-in-Ok-clause-no_pull g c = λ ready.

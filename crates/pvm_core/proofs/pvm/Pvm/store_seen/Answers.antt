@@ -13,7 +13,7 @@ use Rattle.pvm_core.specs.Manager.{IsValid, Manager, state_at}
 use Rattle.pvm_core.specs.Translated.{AreTranslationsRight, found_for, frame_to_write}
 use Rattle.segment_ops.specs.Access.{GrantsStay}
 use Rattle.pvm_core.proofs.Answering.Ended.{Ended}
-use Rattle.pvm_core.proofs.Answering.Kept.{seen}
+use Rattle.pvm_core.proofs.Answering.Kept.{seen, valid_seen}
 use Rattle.pvm_core.proofs.Accesses.Asked.{same_tables}
 use Rattle.pvm_core.proofs.Accesses.There.{IsThere, there_is}
 use Rattle.pvm_core.proofs.Accesses.Written.{IsWritten, is_written, written_answer, written_copies, written_made, written_sound, written_translated, written_valid}
@@ -23,16 +23,14 @@ use Rattle.gmi_calls.specs.Calling.{CallDone}
 use Rattle.pvm_core.specs.Manager.{meaning}
 use Rattle.pvm_core.proofs.Accesses.Parts.{quiet_answer}
 use Rattle.pvm_core.proofs.pvm.Pvm.store_seen.Goals.{After-self, After-write_found, In-Some}
-use Rattle.gmi_calls.specs.Parking.{NoMoreReady, StillAdmits}
-use Rattle.pvm_core.specs.Access.{Admits, is_page_at_hand, is_ready}
-use Rattle.pvm_core.proofs.Accesses.Ready.{no_more, still_admits, there_ready}
-use Rattle.pvm_core.proofs.Accesses.Seen.{same_grants}
+use Rattle.pvm_core.specs.Access.{is_page_at_hand, is_ready}
+use Rattle.pvm_core.proofs.Accesses.Ready.{there_ready, seen_no_more, seen_admits}
 use Rattle.pvm_core.proofs.Accesses.Written.{written_hands, written_tables}
 use Rattle.pvm_core.proofs.pvm.Pvm.store_seen.Goals as goal
 
 -- beside some mapper
 valid_before : (c : After-self) → IsValid (seen c.self.inside.caches c.self.inside.store c.self.inside.contexts) c.requires.valid.0
-valid_before c = subst (λ (p : Manager). IsValid p c.requires.valid.0) (sym c.self.view_is) c.requires.valid.1
+valid_before c = valid_seen c.self.view_is c.requires.valid.1
 
 -- a translation for writing leads to the page
 led : (c : In-Some) → IsWritten (found_for c.self.inside.contexts.page_bytes c.self.inside.store.tables c.args.actor.0 c.args.address (length c.args.piece.now)) c.in-Some.frame
@@ -164,20 +162,16 @@ pub returns-in-Some-clause-no_more : goal.returns-in-Some-clause-no_more
 returns-in-Some-clause-no_more c =
     let at = goal.at.returns-in-Some-clause-no_more c in
     let i = c.self.inside in
-    let p : Manager = seen i.caches i.store i.contexts in
-    let q : Manager = seen c.write_found.new.caches c.write_found.new.store i.contexts in
     let f = led at.In-Some in
-    subst (λ (p : Manager). NoMoreReady is_ready p q) c.self.view_is (no_more p q refl refl (λ x e.
+    seen_no_more i.caches c.write_found.new.caches i.store c.write_found.new.store i.contexts c.self.view_is (λ x e.
     written_hands i.caches i.store i.contexts i.live c.self.invariant.sound c.self.invariant.translated c.requires.valid.0 (valid_before at.After-self) c.args.actor c.args.address c.args.piece.now f.to (there at.In-Some) f.writable x
-    (subst (λ (a : Arena). is_page_at_hand a x ≡ true) (caches_then at.After-write_found) e)))
+    (subst (λ (a : Arena). is_page_at_hand a x ≡ true) (caches_then at.After-write_found) e))
 
 pub returns-in-Some-clause-admits : goal.returns-in-Some-clause-admits
 returns-in-Some-clause-admits c =
     let at = goal.at.returns-in-Some-clause-admits c in
     let i = c.self.inside in
-    let p : Manager = seen i.caches i.store i.contexts in
-    let q : Manager = seen c.write_found.new.caches c.write_found.new.store i.contexts in
     let f = led at.In-Some in
     let tables : c.write_found.new.caches.caches ≡ i.caches.caches = ap (λ (a : Arena). a.caches) (caches_then at.After-write_found)
     ∙ written_tables i.caches i.store i.contexts i.live c.self.invariant.sound c.self.invariant.translated c.requires.valid.0 (valid_before at.After-self) c.args.actor c.args.address c.args.piece.now f.to (there at.In-Some) f.writable in
-    subst (λ (p : Manager). StillAdmits Admits p q) c.self.view_is (still_admits p q refl refl (same_grants i.caches c.write_found.new.caches tables))
+    seen_admits i.caches c.write_found.new.caches i.store c.write_found.new.store i.contexts c.self.view_is tables

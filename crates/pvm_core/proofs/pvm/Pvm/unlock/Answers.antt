@@ -16,9 +16,9 @@ use Rattle.contexts.specs.Actors.{Actors}
 use Rattle.contexts.proofs.Placing.{right_with_locked}
 use Rattle.contexts.proofs.RegionRows.{IsToldOf, told_of, unlock_none, unlock_not, unlock_row, untold_of, with_locked}
 use Rattle.pvm_core.specs.Holding.{LocksMore}
-use Rattle.pvm_core.specs.Manager.{IsManagerSound, IsValid, Manager, caches_shown, numbered, state_at}
+use Rattle.pvm_core.specs.Manager.{IsManagerSound, IsValid, caches_shown, numbered, state_at}
 use Rattle.pvm_core.proofs.Acting.{told}
-use Rattle.pvm_core.proofs.Answering.Kept.{seen}
+use Rattle.pvm_core.proofs.Answering.Kept.{seen, valid_seen, answer_seen}
 use Rattle.pvm_core.proofs.Locking.Covered.{placed_with}
 use Rattle.pvm_core.proofs.Locking.Gone.{IsGone, gone_answer, gone_numbered, gone_sound, gone_valid, region_locks, unlocked_counts, unlocked_is}
 use Rattle.pvm_core.proofs.Locking.Regions.{placed_range}
@@ -87,7 +87,7 @@ pub invariant_of-self : goal.invariant_of-self
 invariant_of-self c = record {
   sound = (
       let n = c.let_go.new in
-      let v = subst (λ (p : Manager). IsValid p c.requires.0) (sym c.self.view_is) c.requires.1 in
+      let v = valid_seen c.self.view_is c.requires.1 in
       subst (λ (x : Actors). IsManagerSound n.caches n.store x c.self.inside.live) (sym (unlocked (goal.at.invariant_of-self c).After-set_locked)) (gone_sound (gone (goal.at.invariant_of-self c).After-let_go) c.requires.0 v)
       );
   translated = (
@@ -101,7 +101,7 @@ pub returns-clause-call : goal.returns-clause-call
 returns-clause-call c = record {
   valid = (
       λ h valid.
-      let v = subst (λ (p : Manager). IsValid p h) (sym c.self.view_is) valid in
+      let v = valid_seen c.self.view_is valid in
       subst (λ (x : Actors). IsValid (seen c.let_go.new.caches c.let_go.new.store x) h) (sym (unlocked (goal.at.returns-clause-call c).After-set_locked)) (gone_valid (gone (goal.at.returns-clause-call c).After-let_go) h v)
       );
   answers = (
@@ -109,15 +109,14 @@ returns-clause-call c = record {
       let i = c.self.inside in
       let n = c.let_go.new in
       let r = region (goal.at.returns-clause-call c).In-Some in
-      let v = subst (λ (p : Manager). IsValid p h) (sym c.self.view_is) valid in
-      subst (λ (p : Manager). AnswerIs (state_at p h) (commands.Unlock c.args.region) (Ok replies.Done) [] no_counts (state_at (seen n.caches n.store c.set_locked.new.self) h)) c.self.view_is
-      (subst (λ (x : Actors). AnswerIs (state_at (seen i.caches i.store i.contexts) h) (commands.Unlock c.args.region) (Ok replies.Done) [] no_counts (state_at (seen n.caches n.store x) h)) (sym (unlocked (goal.at.returns-clause-call c).After-set_locked))
+      let v = valid_seen c.self.view_is valid in
+      answer_seen h c.self.view_is (subst (λ (x : Actors). AnswerIs (state_at (seen i.caches i.store i.contexts) h) (commands.Unlock c.args.region) (Ok replies.Done) [] no_counts (state_at (seen n.caches n.store x) h)) (sym (unlocked (goal.at.returns-clause-call c).After-set_locked))
       (gone_answer (gone (goal.at.returns-clause-call c).After-let_go) h v (commands.Unlock c.args.region) refl (λ m next f. refl) (λ m g. tt)
       (λ f g k. unlock_row (caches_shown f 1 i.caches.caches) (length i.store.frames.held) i.contexts c.args.region.0 r.region r.found (sym r.locked ∙ not-false c.in-Some.status.locked c.if-not-status.false))))
       );
   made = (
       λ h valid.
-      let v = subst (λ (p : Manager). IsValid p h) (sym c.self.view_is) valid in
+      let v = valid_seen c.self.view_is valid in
       let same = gone_numbered (gone (goal.at.returns-clause-call c).After-let_go) h v in
       omega (arith, same, ap numbered c.self.view_is)
       );

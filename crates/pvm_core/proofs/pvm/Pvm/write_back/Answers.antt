@@ -1,22 +1,23 @@
 use Rattle.std.proofs.Common.{◌≡◌, ℕ, ◌+◌, ◌≤◌, true, false, Some, is_some, sym, ap, subst, ◌∙◌, arith}
 use Rattle.std.specs.Prelude.{IfErr, OnOk, not, option_map}
+use Rattle.pvm_core.specs.Translated.{AreTranslationsRight}
+use Rattle.residency.specs.Between.{world_at}
 use Rattle.vm_ids.specs.Forest.Commands.{extent_names}
 use Rattle.vm_ids.specs.Forest.Saving.{saved}
 use Rattle.local_cache.specs.Arena.{Table}
 use Rattle.local_cache.proofs.Tables.Sizes.{sizes_same}
-use Rattle.residency.specs.World.{world}
 use Rattle.segment_ops.specs.Ranges.{HasRange}
 use Rattle.segment_ops.specs.Synced.{AreSynced}
 use Rattle.vm_model.specs.Machine.{Machine}
 use Rattle.vm_model.specs.Pushing.{PushRule}
 use Rattle.vm_model.specs.Synchronised.{ArePushed}
 use Rattle.vm_ids.specs.Held.{segments_of}
-use Rattle.pvm_core.specs.Manager.{IsValid, Manager, forest_of, machine_of}
+use Rattle.pvm_core.specs.Manager.{Manager, forest_of, machine_of}
 use Rattle.pvm_core.specs.Saving.{FailedToPush, IsNotWrittenBack, IsPushed, IsWrittenBack, is_named}
 use Rattle.pvm_core.proofs.Destroying.Written.{extent_named, still_pushed, unnamed_written, unsaved_written}
 use Rattle.pvm_core.proofs.Extents.Rows.{IsExtent}
 use Rattle.pvm_core.proofs.Extents.Synced.{are_pushed, synced_unsized}
-use Rattle.pvm_core.proofs.Answering.Kept.{seen}
+use Rattle.pvm_core.proofs.Answering.Kept.{seen, valid_seen}
 use Rattle.pvm_core.proofs.Readiness.Readying.{if_err_by, keeps_then, named_same, on_ok_by, saved_all}
 use Rattle.pvm_core.proofs.Readiness.Steps.{Keeps, keeps_pushed, keeps_seen}
 use Rattle.pvm_core.proofs.Meaning.Values.{consistent_of}
@@ -47,7 +48,7 @@ pushed g c =
     let i = c.self.inside in
     let n = c.push_range.new in
     let e = c.push_range.ensures in
-    keeps_pushed i.caches n.caches i.store n.store (g.M.Mapper.held c.args.mapper.now) (g.M.Mapper.held n.mapper) (g.M.Mapper.page_bytes c.args.mapper.now) (g.M.Mapper.page_bytes c.push_range.new.mapper) i.contexts i.live c.self.invariant.sound _ _ e.stays e.forest (subst (λ (p : Manager). IsValid p (g.M.Mapper.held c.args.mapper.now)) (sym c.self.view_is) c.requires.valid)
+    keeps_pushed i.caches n.caches i.store n.store (g.M.Mapper.held c.args.mapper.now) (g.M.Mapper.held n.mapper) (g.M.Mapper.page_bytes c.args.mapper.now) (g.M.Mapper.page_bytes c.push_range.new.mapper) i.contexts i.live c.self.invariant.sound _ _ e.stays e.forest (valid_seen c.self.view_is c.requires.valid)
 
 -- a segment names the cache
 named : (g : Over) (c : After-push_range g) → is_named c.self.inside.caches c.args.range.cache.0 ≡ true
@@ -57,7 +58,7 @@ extent : (g : Over) (c : After-push_range g) → IsExtent c.self.inside.caches c
 extent g c = extent_named c.self.inside.caches c.args.range (subst (λ (p : Manager). HasRange p.caches c.args.range) (sym c.self.view_is) c.requires.range) (named g c)
 
 -- it holds the pages before this one
-home : (g : Over) (c : After-push_range g) (past : ℕ) → past ≤ c.args.range.first.0 + c.args.range.pages → AreSynced c.args.range past (world (g.M.Mapper.held c.push_range.new.mapper) (g.M.Mapper.page_bytes c.push_range.new.mapper) c.push_range.new.caches c.push_range.new.store)
+home : (g : Over) (c : After-push_range g) (past : ℕ) → past ≤ c.args.range.first.0 + c.args.range.pages → AreSynced c.args.range past (world_at g.M.Mapper c.push_range.new.mapper c.push_range.new.caches c.push_range.new.store)
     → ArePushed (machine_of (seen c.self.inside.caches c.self.inside.store c.self.inside.contexts) (g.M.Mapper.held c.args.mapper.now)) (segments_of (g.M.Mapper.held c.push_range.new.mapper)) c.args.range.cache.0 c.args.range.first.0 past
 home g c past low synced =
     let n = c.push_range.new in
@@ -66,16 +67,16 @@ home g c past low synced =
     are_pushed (seen c.self.inside.caches c.self.inside.store c.self.inside.contexts) (g.M.Mapper.held c.args.mapper.now) c.self.invariant.sound.apart c.args.range (extent g c) n.caches n.store (g.M.Mapper.held n.mapper) e.stays.whole k.valid.right e.stays.kept.nodes.caches k.forest.forest past low
     (synced_unsized (g.M.Mapper.held n.mapper) (g.M.Mapper.page_bytes n.mapper) n.caches n.store c.args.range past synced)
 
+translated : (g : Over) (c : After-push_range g) → AreTranslationsRight c.push_range.new.caches c.push_range.new.store c.self.inside.contexts
+translated g c =
+    let i = c.self.inside in
+    let e = c.push_range.ensures in
+    dropped_right _ i.caches c.push_range.new.caches i.store c.push_range.new.store i.contexts e.drops (tables_writable i.caches c.push_range.new.caches e.stays.kept.nodes.caches) c.self.invariant.translated
+
 pub invariant_of-self : goal.invariant_of-self
-invariant_of-self g c = record {
-  sound = (pushed g (goal.at.invariant_of-self g c).After-push_range).sound;
-  translated = (
-      let i = c.self.inside in
-      let n = c.push_range.new in
-      let e = c.push_range.ensures in
-      dropped_right _ i.caches n.caches i.store n.store i.contexts e.drops (tables_writable i.caches n.caches e.stays.kept.nodes.caches) c.self.invariant.translated
-      );
-}
+invariant_of-self g c =
+    let at = (goal.at.invariant_of-self g c).After-push_range in
+    record { sound = (pushed g at).sound; translated = translated g at }
 
 pub returns-in-Err-clause-valid : goal.returns-in-Err-clause-valid
 returns-in-Err-clause-valid g c = (pushed g (goal.at.returns-in-Err-clause-valid g c).After-push_range).valid
@@ -93,15 +94,9 @@ returns-in-Err-clause-not_written g c =
     (record { named = named g at; kept = (pushed g at).forest; stop = stop.0; pushed = home g at page (let low = stop.0.1 in omega (arith, low)) stop.1 })
 
 pub invariant_of-self-2 : goal.invariant_of-self-2
-invariant_of-self-2 g c = record {
-  sound = (pushed g (goal.at.invariant_of-self-2 g c).After-push_range).sound;
-  translated = (
-      let i = c.self.inside in
-      let n = c.push_range.new in
-      let e = c.push_range.ensures in
-      dropped_right _ i.caches n.caches i.store n.store i.contexts e.drops (tables_writable i.caches n.caches e.stays.kept.nodes.caches) c.self.invariant.translated
-      );
-}
+invariant_of-self-2 g c =
+    let at = (goal.at.invariant_of-self-2 g c).After-push_range in
+    record { sound = (pushed g at).sound; translated = translated g at }
 
 pub save-requires-clause-valid : goal.save-requires-clause-valid
 save-requires-clause-valid g c = (pushed g (goal.at.save-requires-clause-valid g c).After-push_range).valid
@@ -110,7 +105,7 @@ pub returns-clause-keeps : goal.returns-clause-keeps
 returns-clause-keeps g c = keeps_seen c.self.view_is (keeps_then _ _ _ _ _ _ _ _ _ (pushed g (goal.at.returns-clause-keeps g c).After-push_range).machine c.save.ensures.keeps)
 
 -- and all of them after the saves
-still_home : (g : Over) (c : After-save g) → AreSynced c.args.range (c.args.range.first.0 + c.args.range.pages) (world (g.M.Mapper.held c.push_range.new.mapper) (g.M.Mapper.page_bytes c.push_range.new.mapper) c.push_range.new.caches c.push_range.new.store)
+still_home : (g : Over) (c : After-save g) → AreSynced c.args.range (c.args.range.first.0 + c.args.range.pages) (world_at g.M.Mapper c.push_range.new.mapper c.push_range.new.caches c.push_range.new.store)
     → IsPushed c.args.range (seen c.self.inside.caches c.self.inside.store c.self.inside.contexts) (g.M.Mapper.held c.args.mapper.now) (g.M.Mapper.held c.save.new.mapper)
 still_home g c synced =
     let at = (goal.at.After-save g c).After-push_range in
