@@ -1,4 +1,4 @@
-use Rattle.std.proofs.Common.{◌≡◌, ◌≤◌, Some, refl, sym, ap, subst, ◌∙◌, inl, inr}
+use Rattle.std.proofs.Common.{rules, ◌≡◌, ◌≤◌, Some, refl, sym, ap, subst, ◌∙◌, inl, inr}
 use Rattle.std.specs.Prelude.{IfErr, OnOk, Ok, Err, Result}
 use Rattle.pvm_core.specs.Translated.{AreTranslationsRight}
 use Rattle.std.proofs.result.Match.{err_is}
@@ -129,51 +129,11 @@ invariant_of-self-2 g c =
 pub save-requires-clause-valid : goal.save-requires-clause-valid
 save-requires-clause-valid g c = (reserved g (goal.at.save-requires-clause-valid g c).After-reserve).valid
 
-pub returns-clause-keeps : goal.returns-clause-keeps
-returns-clause-keeps g c = keeps_seen c.self.view_is (keeps_then _ _ _ _ _ _ _ _ _ (reserved g (goal.at.returns-clause-keeps g c).After-reserve).machine c.save.ensures.keeps)
-
-pub returns-clause-ready : goal.returns-clause-ready
-returns-clause-ready g c =
-    let h = g.M.Mapper.held c.args.mapper.now in
-    let k = g.M.Mapper.held c.save.new.mapper in
-    let i = c.self.inside in
-    let b = c.reserve.new.self in
-    let p : Manager = seen i.caches i.store i.contexts in
-    let q = c.save.new.self in
-    let s = c.save.ensures in
-    let before = reserved g (goal.at.returns-clause-ready g c).After-reserve in
-    let named = named_same i.caches b before.machine.same c.args.range.cache.0 in
-    subst (λ (p : Manager). OnOk c.save.result (IsReady c.args.range c.args.nodes p q h k)) c.self.view_is (on_ok_by c.save.result (λ f. (
-    let rule : forest_of q k ≡ saved (is_named i.caches c.args.range.cache.0) (extent_names c.args.range) (forest_of p h) = f ∙ (λ j. saved (named j) (extent_names c.args.range) (before.forest.forest j)) in
-    record {
-      forest = rule;
-      writable = writable_same b q.caches c.args.range s.tables (writable_same c.grant_range.new.caches c.reserve.new.self c.args.range (ap (λ (k : Arena). k.caches) c.reserve.ensures.kept) c.in_ok-grant_range.ensures.granted);
-      saved_now = saved_all q k c.args.range (forest_of p h) s.whole (consistent_of p h c.self.invariant.sound.nodes) (is_named i.caches c.args.range.cache.0) (named_same b q.caches (sizes_same b q.caches s.tables) c.args.range.cache.0 ∙ named) rule;
-      room = subst (λ (x : Room). c.args.nodes ≤ x.nodes) (sym s.room) c.in_ok-reserve.ensures.nodes;
-    })) s.saved)
-
-pub returns-clause-not_ready : goal.returns-clause-not_ready
-returns-clause-not_ready g c =
-    let h = g.M.Mapper.held c.args.mapper.now in
-    let k = g.M.Mapper.held c.save.new.mapper in
-    let i = c.self.inside in
-    let b = c.reserve.new.self in
-    let p : Manager = seen i.caches i.store i.contexts in
-    let q = c.save.new.self in
-    let s = c.save.ensures in
-    let before = reserved g (goal.at.returns-clause-not_ready g c).After-reserve in
-    let writable = writable_same b q.caches c.args.range s.tables (writable_same c.grant_range.new.caches c.reserve.new.self c.args.range (ap (λ (k : Arena). k.caches) c.reserve.ensures.kept) c.in_ok-grant_range.ensures.granted) in
-    subst (λ (p : Manager). IfErr c.save.result (IsNotReady c.args.range p h q k)) c.self.view_is
-    (if_err_by c.save.result (unsaved_ready c.args.range p (seen b i.store i.contexts) q h (g.M.Mapper.held c.grant_range.new.mapper) k (named_same i.caches b before.machine.same c.args.range.cache.0) before.forest writable) s.failed)
-
 pub returns-in_err-grant_range-clause-whole : goal.returns-in_err-grant_range-clause-whole
 returns-in_err-grant_range-clause-whole g c = (granted g (goal.at.returns-in_err-grant_range-clause-whole g c).After-grant_range).sound.nodes
 
 pub returns-in_err-reserve-clause-whole : goal.returns-in_err-reserve-clause-whole
 returns-in_err-reserve-clause-whole g c = (reserved g (goal.at.returns-in_err-reserve-clause-whole g c).After-reserve).sound.nodes
-
-pub returns-clause-whole : goal.returns-clause-whole
-returns-clause-whole g c = c.save.ensures.whole
 
 -- where no page needs a save, nothing is done behind the grants but to take room
 unsaved : (g : Over) (c : After-save g) → NeedsNoSave c.args.self.now.caches c.args.range → (c.save.new.self ≡ seen c.reserve.new.self c.self.inside.store c.self.inside.contexts) × (c.save.new.mapper ≡ c.grant_range.new.mapper) × (c.save.new.chooser ≡ c.args.chooser.now)
@@ -186,18 +146,6 @@ unsaved g c none =
       | inl unnamed ↦ c.save.ensures.temporary (named_same i.caches b before.machine.same c.args.range.cache.0 ∙ unnamed)
       | inr all ↦ (let t = c.save.ensures.idle (λ x i. ap (λ f. is_unsaved f x) same ∙ all x i) in (t.1, t.2, t.3))
     ]
-
-pub returns-clause-idle : goal.returns-clause-idle
-returns-clause-idle g c = λ nothing.
-    let at = goal.at.returns-clause-idle g c in
-    let i = c.self.inside in
-    let b = c.reserve.new.self in
-    let p : Manager = seen i.caches i.store i.contexts in
-    let still = unasked g at.After-grant_range nothing in
-    let idle = unsaved g at.After-save (no_save c.args.self.now.caches c.args.range nothing) in (
-      idle.1 ∙ still.2,
-      subst (λ (p : Manager). HasMoreRoom p c.save.new.self) c.self.view_is (subst (HasMoreRoom p) (sym idle.0) (more_room i.caches c.grant_range.new.caches b i.store i.contexts still.1 c.reserve.ensures.kept)),
-    )
 
 -- Write access is asked first
 
@@ -220,32 +168,17 @@ returns-in_err-grant_range-clause-grants g c = within g (goal.at.returns-in_err-
 pub returns-in_err-reserve-clause-grants : goal.returns-in_err-reserve-clause-grants
 returns-in_err-reserve-clause-grants g c = within_reserved g (goal.at.returns-in_err-reserve-clause-grants g c).After-reserve
 
-pub returns-clause-grants : goal.returns-clause-grants
-returns-clause-grants g c = within_then c.args.range c.args.self.now.caches c.reserve.new.self c.save.new.self.caches (within_reserved g (goal.at.returns-clause-grants g c).After-reserve) (tables_grants c.reserve.new.self c.save.new.self.caches c.save.ensures.tables)
-
 pub returns-in_err-grant_range-clause-first : goal.returns-in_err-grant_range-clause-first
 returns-in_err-grant_range-clause-first g c = if_err_all c.from_residual.result (λ trouble before. (asked g (goal.at.returns-in_err-grant_range-clause-first g c).After-grant_range, refl))
 
 pub returns-in_err-reserve-clause-first : goal.returns-in_err-reserve-clause-first
 returns-in_err-reserve-clause-first g c = if_err_all c.from_residual-in_err-reserve.result (λ trouble before. (asked g (goal.at.returns-in_err-reserve-clause-first g c).After-grant_range, refl))
 
-pub returns-clause-first : goal.returns-clause-first
-returns-clause-first g c = if_err_by c.save.result (λ trouble out before. absurd (let s = failed_save c.args.range _ _ _ _ trouble out in before s.0 s.1)) c.save.ensures.failed
-
 pub returns-in_err-grant_range-clause-still : goal.returns-in_err-grant_range-clause-still
 returns-in_err-grant_range-clause-still g c = λ none. (let at = (goal.at.returns-in_err-grant_range-clause-still g c).After-grant_range in (asked g at, refl, same_store g at c.grant_range.new.caches refl))
 
 pub returns-in_err-reserve-clause-still : goal.returns-in_err-reserve-clause-still
 returns-in_err-reserve-clause-still g c = λ none. (let at = (goal.at.returns-in_err-reserve-clause-still g c).After-grant_range in (asked g at, refl, same_store g at c.reserve.new.self (ap (λ (k : Arena). k.copies) c.reserve.ensures.kept)))
-
-pub returns-clause-still : goal.returns-clause-still
-returns-clause-still g c = λ none.
-    let at = goal.at.returns-clause-still g c in
-    let s = unsaved g at.After-save none in (
-      subst (OnlyAsked g.M.Mapper c.args.mapper.now) (sym s.1) (asked g at.After-grant_range),
-      s.2,
-      subst (CopiesNothing c.args.self.now) (sym s.0) (same_store g at.After-grant_range c.reserve.new.self (ap (λ (k : Arena). k.copies) c.reserve.ensures.kept)),
-    )
 
 -- Which pages come to frames
 
@@ -268,5 +201,54 @@ roomy_unfilled g c q =
 pub returns-in_err-reserve-clause-fills : goal.returns-in_err-reserve-clause-fills
 returns-in_err-reserve-clause-fills g c = roomy_unfilled g (goal.at.returns-in_err-reserve-clause-fills g c).After-reserve (seen c.reserve.new.self c.self.inside.store c.self.inside.contexts) (fills_itself c.args.range (λ x. ⊥) (seen c.reserve.new.self c.self.inside.store c.self.inside.contexts))
 
-pub returns-clause-fills : goal.returns-clause-fills
-returns-clause-fills g c = roomy_unfilled g (goal.at.returns-clause-fills g c).After-reserve c.save.new.self c.save.ensures.fills
+pub returns : goal.returns
+returns g c =
+    let h = g.M.Mapper.held c.args.mapper.now in
+    let k = g.M.Mapper.held c.save.new.mapper in
+    let i = c.self.inside in
+    let b = c.reserve.new.self in
+    let p : Manager = seen i.caches i.store i.contexts in
+    let q = c.save.new.self in
+    let s = c.save.ensures in
+    let before = reserved g (goal.at.returns g c).After-reserve in
+    let named = named_same i.caches b before.machine.same c.args.range.cache.0 in
+    let writable = writable_same b q.caches c.args.range s.tables (writable_same c.grant_range.new.caches c.reserve.new.self c.args.range (ap (λ (k : Arena). k.caches) c.reserve.ensures.kept) c.in_ok-grant_range.ensures.granted) in
+    record {
+      valid = search rules;
+      keeps = keeps_seen c.self.view_is (keeps_then _ _ _ _ _ _ _ _ _ (reserved g (goal.at.returns g c).After-reserve).machine c.save.ensures.keeps);
+      whole = c.save.ensures.whole;
+      ready = (subst (λ (p : Manager). OnOk c.save.result (IsReady c.args.range c.args.nodes p q h k)) c.self.view_is (on_ok_by c.save.result (λ f. (
+          let rule : forest_of q k ≡ saved (is_named i.caches c.args.range.cache.0) (extent_names c.args.range) (forest_of p h) = f ∙ (λ j. saved (named j) (extent_names c.args.range) (before.forest.forest j)) in
+          record {
+            forest = rule;
+            writable = writable_same b q.caches c.args.range s.tables (writable_same c.grant_range.new.caches c.reserve.new.self c.args.range (ap (λ (k : Arena). k.caches) c.reserve.ensures.kept) c.in_ok-grant_range.ensures.granted);
+            saved_now = saved_all q k c.args.range (forest_of p h) s.whole (consistent_of p h c.self.invariant.sound.nodes) (is_named i.caches c.args.range.cache.0) (named_same b q.caches (sizes_same b q.caches s.tables) c.args.range.cache.0 ∙ named) rule;
+            room = subst (λ (x : Room). c.args.nodes ≤ x.nodes) (sym s.room) c.in_ok-reserve.ensures.nodes;
+          })) s.saved));
+      not_ready = (let before = reserved g (goal.at.returns g c).After-reserve in
+          subst (λ (p : Manager). IfErr c.save.result (IsNotReady c.args.range p h q k)) c.self.view_is
+          (if_err_by c.save.result (unsaved_ready c.args.range p (seen b i.store i.contexts) q h (g.M.Mapper.held c.grant_range.new.mapper) k (named_same i.caches b before.machine.same c.args.range.cache.0) before.forest writable) s.failed));
+      cause = search rules;
+      page = search rules;
+      grants = within_then c.args.range c.args.self.now.caches c.reserve.new.self c.save.new.self.caches (within_reserved g (goal.at.returns g c).After-reserve) (tables_grants c.reserve.new.self c.save.new.self.caches c.save.ensures.tables);
+      fills = (roomy_unfilled g (goal.at.returns g c).After-reserve c.save.new.self c.save.ensures.fills
+          );
+      first = if_err_by c.save.result (λ trouble out before. absurd (let s = failed_save c.args.range _ _ _ _ trouble out in before s.0 s.1)) c.save.ensures.failed;
+      still = (λ none.
+          let at = goal.at.returns g c in
+          let s = unsaved g at.After-save none in (
+            subst (OnlyAsked g.M.Mapper c.args.mapper.now) (sym s.1) (asked g at.After-grant_range),
+            s.2,
+            subst (CopiesNothing c.args.self.now) (sym s.0) (same_store g at.After-grant_range c.reserve.new.self (ap (λ (k : Arena). k.copies) c.reserve.ensures.kept)),
+          ));
+      idle = (λ nothing.
+          let at = goal.at.returns g c in
+          let i = c.self.inside in
+          let b = c.reserve.new.self in
+          let p : Manager = seen i.caches i.store i.contexts in
+          let still = unasked g at.After-grant_range nothing in
+          let idle = unsaved g at.After-save (no_save c.args.self.now.caches c.args.range nothing) in (
+            idle.1 ∙ still.2,
+            subst (λ (p : Manager). HasMoreRoom p c.save.new.self) c.self.view_is (subst (HasMoreRoom p) (sym idle.0) (more_room i.caches c.grant_range.new.caches b i.store i.contexts still.1 c.reserve.ensures.kept)),
+          ));
+    }

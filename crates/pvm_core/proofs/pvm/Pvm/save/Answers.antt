@@ -1,4 +1,4 @@
-use Rattle.std.proofs.Common.{◌≡◌, ℕ, true, is_some, sym, ap, subst, ◌∙◌}
+use Rattle.std.proofs.Common.{rules, ◌≡◌, ℕ, true, is_some, sym, ap, subst, ◌∙◌}
 use Rattle.std.specs.Prelude.{IfErr, IsSome, OnOk, Result, not}
 use Rattle.residency.specs.Between.{world_at}
 use Rattle.vm_ids.specs.Forest.Commands.{extent_names}
@@ -58,15 +58,6 @@ invariant_of-self g c =
       translated = dropped_right _ i.caches n.caches i.store n.store i.contexts e.drops (tables_writable i.caches n.caches e.stays.kept.nodes.caches) c.self.invariant.translated;
     }
 
-pub returns-clause-valid : goal.returns-clause-valid
-returns-clause-valid g c = (kept g (goal.at.returns-clause-valid g c).After-save_range).0
-
-pub returns-clause-whole : goal.returns-clause-whole
-returns-clause-whole g c = c.save_range.ensures.stays.whole
-
-pub returns-clause-keeps : goal.returns-clause-keeps
-returns-clause-keeps g c = (kept g (goal.at.returns-clause-keeps g c).After-save_range).1
-
 -- a segment names the cache
 named : (g : Over) (c : After-save_range g) → is_named c.self.inside.caches c.args.range.cache.0 ≡ true
 named g c = ap is_some (sym c.segment.ensures) ∙ c.is_none.ensures ∙ ap not c.if-is_none.false
@@ -79,52 +70,51 @@ before_is g c = sizeless (g.M.Mapper.held c.args.mapper.now) (g.M.Mapper.page_by
 after_is : (g : Over) (c : After-save_range g) → forest_of (seen c.save_range.new.caches c.save_range.new.store c.self.inside.contexts) (g.M.Mapper.held c.save_range.new.mapper) ≡ store_forest (world_at g.M.Mapper c.save_range.new.mapper c.save_range.new.caches c.save_range.new.store)
 after_is g c = sym (sizeless (g.M.Mapper.held c.save_range.new.mapper) (g.M.Mapper.page_bytes c.save_range.new.mapper) c.save_range.new.caches c.save_range.new.store)
 
-pub returns-clause-saved : goal.returns-clause-saved
-returns-clause-saved g c =
+pub returns-then-is_none-clause-fills : goal.returns-then-is_none-clause-fills
+returns-then-is_none-clause-fills g c = fills_itself c.args.range (λ x. ⊥) c.args.self.now
+
+pub returns : goal.returns
+returns g c =
     let i = c.self.inside in
-    let at = (goal.at.returns-clause-saved g c).After-save_range in
+    let at = (goal.at.returns g c).After-save_range in
     let xs = extent_names c.args.range in
     let h = g.M.Mapper.held c.args.mapper.now in
     let p : Manager = seen i.caches i.store i.contexts in
     let now = forest_of (seen c.save_range.new.caches c.save_range.new.store i.contexts) (g.M.Mapper.held c.save_range.new.mapper) in
-    subst (λ (p : Manager). OnOk c.match-save_range.result (now ≡ saved (is_named p.caches c.args.range.cache.0) xs (forest_of p h))) c.self.view_is (elim c.match-save_range.branch [
-      | in-Ok b ↦ subst (λ (r : Result _ Trouble). OnOk r (now ≡ saved (is_named i.caches c.args.range.cache.0) xs (forest_of p h))) (sym b.result-is)
-          (after_is g at ∙ b.in-Ok.ensures.saved ∙ all_saved (is_named i.caches c.args.range.cache.0) xs _ (named g at) ∙ ap (saved (is_named i.caches c.args.range.cache.0) xs) (before_is g at))
-      | in-Err b ↦ subst (λ (r : Result _ Trouble). OnOk r (now ≡ saved (is_named i.caches c.args.range.cache.0) xs (forest_of p h))) (sym b.result-is) tt
-    ])
-
-pub returns-clause-failed : goal.returns-clause-failed
-returns-clause-failed g c =
-    let i = c.self.inside in
-    let at = (goal.at.returns-clause-failed g c).After-save_range in
-    let xs = extent_names c.args.range in
-    let h = g.M.Mapper.held c.args.mapper.now in
     let k = g.M.Mapper.held c.save_range.new.mapper in
-    let p : Manager = seen i.caches i.store i.contexts in
     let q : Manager = seen c.save_range.new.caches c.save_range.new.store i.contexts in
-    subst (λ (p : Manager). IfErr c.match-save_range.result (IsNotSaved c.args.range p h q k)) c.self.view_is (elim c.match-save_range.branch [
-      | in-Ok b ↦ subst (λ (r : Result _ Trouble). IfErr r (IsNotSaved c.args.range p h q k)) (sym b.result-is) tt
-      | in-Err b ↦ subst (λ (r : Result _ Trouble). IfErr r (IsNotSaved c.args.range p h q k)) (sym b.result-is) (record {
-        named = named g at;
-        forest = after_is g at ∙ b.in-Err.ensures.failed.forest ∙ ap (saves b.in-Err.done xs) (before_is g at);
-        left = λ m less. subst (λ f. IsSome (unsaved (saves m xs f) xs)) (before_is g at) (b.in-Err.ensures.failed.left m less);
-        copies = b.in-Err.ensures.copied;
-      })
-    ])
-
-pub returns-then-is_none-clause-fills : goal.returns-then-is_none-clause-fills
-returns-then-is_none-clause-fills g c = fills_itself c.args.range (λ x. ⊥) c.args.self.now
-
-pub returns-clause-fills : goal.returns-clause-fills
-returns-clause-fills g c =
-    let i = c.self.inside in
     let n = c.save_range.new in
     let e = c.save_range.ensures in
-    let xs = extent_names c.args.range in
     let w = world_at g.M.Mapper c.args.mapper.now i.caches i.store in
     let v = world_at g.M.Mapper n.mapper n.caches n.store in
     let valid = valid_seen c.self.view_is c.requires.valid in
-    let done = saves_made g (goal.at.returns-clause-fills g c).After-save_range in
-    subst (λ (p : Manager). FillsOnly c.args.range (λ x. ⊥) p (seen n.caches n.store i.contexts)) c.self.view_is
-    (λ x frame live out apart shown. seen_before w v c.self.invariant.sound.nodes.sound c.self.invariant.sound.nodes.consistent.shaped e.stays.kept.sound e.stays.kept.shaped e.stays.kept.nodes done.0 xs done.1
-    c.save_range.result valid.right.tied.placed e.stays.kept.right.tied.placed e.frames x frame apart shown)
+    let done = saves_made g (goal.at.returns g c).After-save_range in
+    record {
+      valid = (kept g (goal.at.returns g c).After-save_range).0;
+      keeps = (kept g (goal.at.returns g c).After-save_range).1;
+      whole = c.save_range.ensures.stays.whole;
+      tables = search rules;
+      room = search rules;
+      fills = (subst (λ (p : Manager). FillsOnly c.args.range (λ x. ⊥) p (seen n.caches n.store i.contexts)) c.self.view_is
+          (λ x frame live out apart shown. seen_before w v c.self.invariant.sound.nodes.sound c.self.invariant.sound.nodes.consistent.shaped e.stays.kept.sound e.stays.kept.shaped e.stays.kept.nodes done.0 xs done.1
+          c.save_range.result valid.right.tied.placed e.stays.kept.right.tied.placed e.frames x frame apart shown));
+      saved = (subst (λ (p : Manager). OnOk c.match-save_range.result (now ≡ saved (is_named p.caches c.args.range.cache.0) xs (forest_of p h))) c.self.view_is (elim c.match-save_range.branch [
+        | in-Ok b ↦ subst (λ (r : Result _ Trouble). OnOk r (now ≡ saved (is_named i.caches c.args.range.cache.0) xs (forest_of p h))) (sym b.result-is)
+            (after_is g at ∙ b.in-Ok.ensures.saved ∙ all_saved (is_named i.caches c.args.range.cache.0) xs _ (named g at) ∙ ap (saved (is_named i.caches c.args.range.cache.0) xs) (before_is g at))
+        | in-Err b ↦ subst (λ (r : Result _ Trouble). OnOk r (now ≡ saved (is_named i.caches c.args.range.cache.0) xs (forest_of p h))) (sym b.result-is) tt
+      ]));
+      failed = (let at = (goal.at.returns g c).After-save_range in
+          subst (λ (p : Manager). IfErr c.match-save_range.result (IsNotSaved c.args.range p h q k)) c.self.view_is (elim c.match-save_range.branch [
+            | in-Ok b ↦ subst (λ (r : Result _ Trouble). IfErr r (IsNotSaved c.args.range p h q k)) (sym b.result-is) tt
+            | in-Err b ↦ subst (λ (r : Result _ Trouble). IfErr r (IsNotSaved c.args.range p h q k)) (sym b.result-is) (record {
+              named = named g at;
+              forest = after_is g at ∙ b.in-Err.ensures.failed.forest ∙ ap (saves b.in-Err.done xs) (before_is g at);
+              left = λ m less. subst (λ f. IsSome (unsaved (saves m xs f) xs)) (before_is g at) (b.in-Err.ensures.failed.left m less);
+              copies = b.in-Err.ensures.copied;
+            })
+          ]));
+      cause = search rules;
+      page = search rules;
+      temporary = search rules;
+      idle = search rules;
+    }

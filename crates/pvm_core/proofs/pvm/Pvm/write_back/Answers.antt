@@ -1,4 +1,4 @@
-use Rattle.std.proofs.Common.{◌≡◌, ℕ, ◌+◌, ◌≤◌, true, false, Some, is_some, sym, ap, subst, ◌∙◌, arith}
+use Rattle.std.proofs.Common.{rules, ◌≡◌, ℕ, ◌+◌, ◌≤◌, true, false, Some, is_some, sym, ap, subst, ◌∙◌, arith}
 use Rattle.std.specs.Prelude.{IfErr, OnOk, not, option_map}
 use Rattle.pvm_core.specs.Translated.{AreTranslationsRight}
 use Rattle.residency.specs.Between.{world_at}
@@ -101,9 +101,6 @@ invariant_of-self-2 g c =
 pub save-requires-clause-valid : goal.save-requires-clause-valid
 save-requires-clause-valid g c = (pushed g (goal.at.save-requires-clause-valid g c).After-push_range).valid
 
-pub returns-clause-keeps : goal.returns-clause-keeps
-returns-clause-keeps g c = keeps_seen c.self.view_is (keeps_then _ _ _ _ _ _ _ _ _ (pushed g (goal.at.returns-clause-keeps g c).After-push_range).machine c.save.ensures.keeps)
-
 -- and all of them after the saves
 still_home : (g : Over) (c : After-save g) → AreSynced c.args.range (c.args.range.first.0 + c.args.range.pages) (world_at g.M.Mapper c.push_range.new.mapper c.push_range.new.caches c.push_range.new.store)
     → IsPushed c.args.range (seen c.self.inside.caches c.self.inside.store c.self.inside.contexts) (g.M.Mapper.held c.args.mapper.now) (g.M.Mapper.held c.save.new.mapper)
@@ -118,8 +115,8 @@ still_home g c synced =
     let rule : PushRule (machine_of p h) (segments_of k) reach.pushes (segments_of l) = subst (λ (m : Machine). PushRule m (segments_of k) reach.pushes (segments_of l)) (pushed g at).machine.machine reach.rule in
     still_pushed p h s (extent g at) c.self.invariant.sound.apart k l reach.pushes rule (home g at (s.first.0 + s.pages) (omega arith) synced)
 
-pub returns-clause-written : goal.returns-clause-written
-returns-clause-written g c =
+pub returns : goal.returns
+returns g c =
     let h = g.M.Mapper.held c.args.mapper.now in
     let l = g.M.Mapper.held c.save.new.mapper in
     let i = c.self.inside in
@@ -128,25 +125,24 @@ returns-clause-written g c =
     let p : Manager = seen i.caches i.store i.contexts in
     let r = c.save.new.self in
     let t = c.save.ensures in
-    let k = pushed g (goal.at.returns-clause-written g c).After-push_range in
+    let k = pushed g (goal.at.returns g c).After-push_range in
     let named_q = named_same i.caches b k.machine.same s.cache.0 in
-    subst (λ (p : Manager). OnOk c.save.result (IsWrittenBack s p r h l)) c.self.view_is (on_ok_by c.save.result (λ f. (
-    let then : forest_of r l ≡ saved (is_named i.caches s.cache.0) (extent_names s) (forest_of p h) = f ∙ (λ j. saved (named_q j) (extent_names s) (k.forest.forest j)) in
-    record {
-      forest = then;
-      pushed = still_home g (goal.at.returns-clause-written g c).After-save c.in-Ok.ensures.synced;
-      saved_now = saved_all r l s (forest_of p h) t.whole (consistent_of p h c.self.invariant.sound.nodes) (is_named i.caches s.cache.0) (named_same b r.caches (sizes_same b r.caches t.tables) s.cache.0 ∙ named_q) then;
-    })) t.saved)
-
-pub returns-clause-not_written : goal.returns-clause-not_written
-returns-clause-not_written g c =
-    let h = g.M.Mapper.held c.args.mapper.now in
-    let l = g.M.Mapper.held c.save.new.mapper in
-    let i = c.self.inside in
-    let s = c.args.range in
-    let p : Manager = seen i.caches i.store i.contexts in
     let q : Manager = seen c.push_range.new.caches c.push_range.new.store i.contexts in
-    let r = c.save.new.self in
-    let k = pushed g (goal.at.returns-clause-not_written g c).After-push_range in
-    subst (λ (p : Manager). IfErr c.save.result (IsNotWrittenBack s p h r l)) c.self.view_is
-    (if_err_by c.save.result (unsaved_written s p q r h (g.M.Mapper.held c.push_range.new.mapper) l (named_same i.caches c.push_range.new.caches k.machine.same s.cache.0) k.forest (still_home g (goal.at.returns-clause-not_written g c).After-save c.in-Ok.ensures.synced)) c.save.ensures.failed)
+    record {
+      valid = search rules;
+      keeps = keeps_seen c.self.view_is (keeps_then _ _ _ _ _ _ _ _ _ (pushed g (goal.at.returns g c).After-push_range).machine c.save.ensures.keeps);
+      whole = search rules;
+      written = (subst (λ (p : Manager). OnOk c.save.result (IsWrittenBack s p r h l)) c.self.view_is (on_ok_by c.save.result (λ f. (
+          let then : forest_of r l ≡ saved (is_named i.caches s.cache.0) (extent_names s) (forest_of p h) = f ∙ (λ j. saved (named_q j) (extent_names s) (k.forest.forest j)) in
+          record {
+            forest = then;
+            pushed = still_home g (goal.at.returns g c).After-save c.in-Ok.ensures.synced;
+            saved_now = saved_all r l s (forest_of p h) t.whole (consistent_of p h c.self.invariant.sound.nodes) (is_named i.caches s.cache.0) (named_same b r.caches (sizes_same b r.caches t.tables) s.cache.0 ∙ named_q) then;
+          })) t.saved));
+      not_written = (let k = pushed g (goal.at.returns g c).After-push_range in
+          subst (λ (p : Manager). IfErr c.save.result (IsNotWrittenBack s p h r l)) c.self.view_is
+          (if_err_by c.save.result (unsaved_written s p q r h (g.M.Mapper.held c.push_range.new.mapper) l (named_same i.caches c.push_range.new.caches k.machine.same s.cache.0) k.forest (still_home g (goal.at.returns g c).After-save c.in-Ok.ensures.synced)) c.save.ensures.failed));
+      cause = search rules;
+      page = search rules;
+      temporary = search rules;
+    }
