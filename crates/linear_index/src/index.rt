@@ -81,8 +81,8 @@ impl Index {
         Some(place)
     }
 
-    /// The place at which a key is entered, where it is the one that was found last for keys such as
-    /// this one; or else `None`.
+    /// The place at which a key is entered, where it is the one that was found last for keys such
+    /// as this one; or else `None`.
     #[inline(always)]
     pub fn lately(&self, key: u64) -> Option<u32>
         ensures { IfSome result (λ place. map.get self.now.places key ≡ Some place) }

@@ -32,8 +32,8 @@ HaveNodes m (Live cache page) count =
     (k : ℕ) → k < count → IsSome (ids.get m (page_number cache.0 page.0 + k))
 HaveNodes m (Working k) count = Unit {0}
 
--- from the page of a name on a cache has so many; where they are more than one, there is a number of
--- a page behind them
+-- from the page of a name on a cache has so many; where they are more than one, there is a number
+-- of a page behind them
 abbrev pub IsShortFor : NodeName → ℕ → Type 0
 IsShortFor (Live cache page) count =
     (cache.0 < 2 ^ 32) × (page.0 + count ≤ 2 ^ 32) × (1 < count → page.0 + count < 2 ^ 32)

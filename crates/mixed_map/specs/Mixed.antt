@@ -88,8 +88,8 @@ module _ {V S : Type 0} where
   AreAlone m first count = (k : ℕ) → k < count → IsSome (map.get m.slots (first + k))
 
 module _ {V S : Type 0} (G : Ghosts V) where
-  -- no number stands both alone and in a stretch, each that has a slot has an entry there, and there
-  -- are places for as many numbers as there is room for
+  -- no number stands both alone and in a stretch, each that has a slot has an entry there, and
+  -- there are places for as many numbers as there is room for
   pub record IsMixed (lone : Lone S) (stretches : Stretches V) : Type 0 where
     pub apart : (n : ℕ) (v : V) → said G stretches.list n ≡ Some v → map.get lone.entries n ≡ None
     pub placed : (n : ℕ) → map.get lone.entries n ≡ None → map.get lone.slots n ≡ None

@@ -32,9 +32,9 @@ impl Caches {
         }
     }
 
-    /// A node on which nothing hangs, and which hangs by no stub link, leaves the tree children of its
-    /// parent, and gets this own state and no parent. It answers its own state before; or `None`
-    /// exactly where it isn't such a node, and then nothing changes.
+    /// A node on which nothing hangs, and which hangs by no stub link, leaves the tree children of
+    /// its parent, and gets this own state and no parent. It answers its own state before; or
+    /// `None` exactly where it isn't such a node, and then nothing changes.
     pub fn renew_leaf(&mut self, node: NodeId, state: OwnState) -> Option<OwnState>
         requires held { HasNode self.old node }
         requires parent { IfSome (cell self.old node).links.parent (HasNode self.old) }

@@ -1,5 +1,5 @@
--- Working nodes that are alike give way at once: one after the other, each as the thin node with the
--- least number.
+-- Working nodes that are alike give way at once: one after the other, each as the thin node with
+-- the least number.
 use Rattle.std.proofs.Common.{◌≡◌, ◌≢◌, ℕ, zero, suc, ◌+◌, ◌<◌, ◌≤◌, Bool, true, false, cond, List, [], ◌∷◌, length, map, Option, Some, None, is_some, refl, sym, ap, ◌∙◌, subst, arith, inl, ltb}
 use Rattle.std.specs.Prelude.{IfSome, slice_get, ◌==◌}
 use Rattle.std.specs.List.{cons_option}

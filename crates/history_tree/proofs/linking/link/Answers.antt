@@ -21,41 +21,25 @@ first_child a s h sound hs e = let r = rest_of (cell a s).tree h e in sound.kept
 pub put_between-requires-clause-h : goal.put_between-requires-clause-h
 put_between-requires-clause-h c = first_child c.args.caches.now c.args.s c.in-Some.h c.requires.sound c.requires.s c.in-Some.ensures
 
-pub returns-in-None-clause-forest : goal.returns-in-None-clause-forest
-returns-in-None-clause-forest c =
-    let r = c.requires in
-    let can : CanLink c.args.caches.now c.args.d c.args.s = record { sound = r.sound; held_d = r.d; held_s = r.s; bare = r.bare; live = r.live; apart = r.apart } in
-    ap forest_of c.hang_one.ensures.changed ∙ (links-first c.args.caches.now c.args.d c.args.s can (none_there _ c.in-None.ensures)).forest
-
-pub returns-in-None-clause-sound : goal.returns-in-None-clause-sound
-returns-in-None-clause-sound c =
-    let r = c.requires in
-    let can : CanLink c.args.caches.now c.args.d c.args.s = record { sound = r.sound; held_d = r.d; held_s = r.s; bare = r.bare; live = r.live; apart = r.apart } in
-    subst IsSound (sym c.hang_one.ensures.changed) (links-first c.args.caches.now c.args.d c.args.s can (none_there _ c.in-None.ensures)).sound
-
 more : (a b : Arena) (d s h : NodeId) → CanLink a d s → Some h ≡ slice_get (cell a s).tree 0 → 1 ≤ a.room.nodes → IsPutBetween a b d s h → Linked a b d s
 more a b d s h can e roomy put = let r = rest_of (cell a s).tree h e in subst (λ x. Linked a x d s) (sym put.is) (links-more a d s put.working h r.0 can r.1 put.fresh roomy)
 
-pub returns-in-Some-clause-forest : goal.returns-in-Some-clause-forest
-returns-in-Some-clause-forest c =
+pub returns-in-None : goal.returns-in-None
+returns-in-None c =
     let r = c.requires in
     let can : CanLink c.args.caches.now c.args.d c.args.s = record { sound = r.sound; held_d = r.d; held_s = r.s; bare = r.bare; live = r.live; apart = r.apart } in
-    (more c.args.caches.now _ c.args.d c.args.s c.in-Some.h can c.in-Some.ensures r.room c.put_between.ensures).forest
+    record {
+      forest = ap forest_of c.hang_one.ensures.changed ∙ (links-first c.args.caches.now c.args.d c.args.s can (none_there _ c.in-None.ensures)).forest;
+      sound = subst IsSound (sym c.hang_one.ensures.changed) (links-first c.args.caches.now c.args.d c.args.s can (none_there _ c.in-None.ensures)).sound;
+      grown = subst (IsGrown c.args.caches.now) (sym c.hang_one.ensures.changed) (links-first c.args.caches.now c.args.d c.args.s can (none_there _ c.in-None.ensures)).grown;
+    }
 
-pub returns-in-Some-clause-sound : goal.returns-in-Some-clause-sound
-returns-in-Some-clause-sound c =
+pub returns-in-Some : goal.returns-in-Some
+returns-in-Some c =
     let r = c.requires in
     let can : CanLink c.args.caches.now c.args.d c.args.s = record { sound = r.sound; held_d = r.d; held_s = r.s; bare = r.bare; live = r.live; apart = r.apart } in
-    (more c.args.caches.now _ c.args.d c.args.s c.in-Some.h can c.in-Some.ensures r.room c.put_between.ensures).sound
-
-pub returns-in-None-clause-grown : goal.returns-in-None-clause-grown
-returns-in-None-clause-grown c =
-    let r = c.requires in
-    let can : CanLink c.args.caches.now c.args.d c.args.s = record { sound = r.sound; held_d = r.d; held_s = r.s; bare = r.bare; live = r.live; apart = r.apart } in
-    subst (IsGrown c.args.caches.now) (sym c.hang_one.ensures.changed) (links-first c.args.caches.now c.args.d c.args.s can (none_there _ c.in-None.ensures)).grown
-
-pub returns-in-Some-clause-grown : goal.returns-in-Some-clause-grown
-returns-in-Some-clause-grown c =
-    let r = c.requires in
-    let can : CanLink c.args.caches.now c.args.d c.args.s = record { sound = r.sound; held_d = r.d; held_s = r.s; bare = r.bare; live = r.live; apart = r.apart } in
-    (more c.args.caches.now _ c.args.d c.args.s c.in-Some.h can c.in-Some.ensures r.room c.put_between.ensures).grown
+    record {
+      forest = (more c.args.caches.now _ c.args.d c.args.s c.in-Some.h can c.in-Some.ensures r.room c.put_between.ensures).forest;
+      sound = (more c.args.caches.now _ c.args.d c.args.s c.in-Some.h can c.in-Some.ensures r.room c.put_between.ensures).sound;
+      grown = (more c.args.caches.now _ c.args.d c.args.s c.in-Some.h can c.in-Some.ensures r.room c.put_between.ensures).grown;
+    }

@@ -10,18 +10,6 @@ use Rattle.page_stubs.proofs.adding.add_stub.Goals as goal
 pub thread_last-requires-clause-last : goal.thread_last-requires-clause-last
 thread_last-requires-clause-last c = let r = c.requires in last_held c.args.caches.now r.sound c.args.d c.args.s r.d r.s r.bare r.apart
 
-pub returns-clause-forest : goal.returns-clause-forest
-returns-clause-forest c =
-    let r = c.requires in
-    let a = c.args.caches.now in
-    ap forest_of c.thread_last.ensures ∙ forest_is a r.sound c.args.d c.args.s r.d r.s r.bare r.apart _ (adds a r.sound c.args.d c.args.s r.d r.s r.bare r.apart)
-
-pub returns-clause-sound : goal.returns-clause-sound
-returns-clause-sound c =
-    let r = c.requires in
-    let a = c.args.caches.now in
-    subst IsSound (sym c.thread_last.ensures) (sound_after a r.sound c.args.d c.args.s r.d r.s r.bare r.apart _ (adds a r.sound c.args.d c.args.s r.d r.s r.bare r.apart))
-
 pub thread_last-requires-clause-few : goal.thread_last-requires-clause-few
 thread_last-requires-clause-few c =
     let r = c.requires in
@@ -29,11 +17,14 @@ thread_last-requires-clause-few c =
     let fits = one_more_fits (forest_of a) r.sound.linked (name_of a c.args.d) (name_of a c.args.s) (IsNode-forest_of a r.sound.kept.named c.args.d r.d) (ap (λ n. n.hang) r.bare) in
     omega (arith, count_is a r.sound.kept c.args.s r.s, fits, c.counts-all.ensures.few)
 
-pub returns-clause-links : goal.returns-clause-links
-returns-clause-links c =
+pub returns : goal.returns
+returns c =
     let r = c.requires in
     let a = c.args.caches.now in
-    subst (Relinked a) (sym c.thread_last.ensures) (adds a r.sound c.args.d c.args.s r.d r.s r.bare r.apart).relinked
-
-pub returns-clause-room : goal.returns-clause-room
-returns-clause-room c = ap (λ b. b.room) c.thread_last.ensures ∙ room-added c.args.caches.now c.args.d c.args.s _
+    record {
+      forest = ap forest_of c.thread_last.ensures ∙ forest_is a r.sound c.args.d c.args.s r.d r.s r.bare r.apart _ (adds a r.sound c.args.d c.args.s r.d r.s r.bare r.apart);
+      sound = subst IsSound (sym c.thread_last.ensures) (sound_after a r.sound c.args.d c.args.s r.d r.s r.bare r.apart _ (adds a r.sound c.args.d c.args.s r.d r.s r.bare r.apart));
+      links = subst (Relinked a) (sym c.thread_last.ensures) (adds a r.sound c.args.d c.args.s r.d r.s r.bare r.apart).relinked;
+      room = (ap (λ b. b.room) c.thread_last.ensures ∙ room-added c.args.caches.now c.args.d c.args.s _
+          );
+    }

@@ -1,4 +1,4 @@
-use Rattle.std.proofs.Common.{◌≡◌, ◌<◌, true, Bool, Option, Some, None, IsSome, refl, sym, ap, subst, ◌∙◌}
+use Rattle.std.proofs.Common.{rules, ◌≡◌, ◌<◌, true, Bool, Option, Some, None, IsSome, refl, sym, ap, subst, ◌∙◌}
 use Rattle.vm_ids.specs.declared.numbers.NodeId.{NodeId}
 use Rattle.local_cache.specs.declared.links.Neighbours.{Neighbours}
 use Rattle.local_cache.specs.Arena.{Arena, cell, HasNode}
@@ -56,22 +56,13 @@ take_out-requires-clause-some c =
     let r = c.requires in
     (around c.args.caches.now c.args.node c.unwrap-p.result c.parent.result c.neighbours-own.result r.kept r.node r.linked r.stub c.parent.ensures c.unwrap-p.ensures c.neighbours-own.ensures).2
 
-pub returns-clause-forest : goal.returns-clause-forest
-returns-clause-forest c =
+pub returns : goal.returns
+returns c =
     let r = c.requires in
-    (cut c.args.caches.now c.args.node c.unwrap-p.result c.parent.result c.neighbours-own.result r.kept r.node r.linked r.stub c.parent.ensures c.unwrap-p.ensures c.neighbours-own.ensures _ c.take_out.ensures.changed).forest
-
-pub returns-clause-sound : goal.returns-clause-sound
-returns-clause-sound c =
-    let r = c.requires in
-    (cut c.args.caches.now c.args.node c.unwrap-p.result c.parent.result c.neighbours-own.result r.kept r.node r.linked r.stub c.parent.ensures c.unwrap-p.ensures c.neighbours-own.ensures _ c.take_out.ensures.changed).sound
-
-pub returns-clause-links : goal.returns-clause-links
-returns-clause-links c =
-    let r = c.requires in
-    (cut c.args.caches.now c.args.node c.unwrap-p.result c.parent.result c.neighbours-own.result r.kept r.node r.linked r.stub c.parent.ensures c.unwrap-p.ensures c.neighbours-own.ensures _ c.take_out.ensures.changed).links
-
-pub returns-clause-room : goal.returns-clause-room
-returns-clause-room c =
-    let r = c.requires in
-    room c.args.caches.now c.args.node c.unwrap-p.result c.parent.result c.neighbours-own.result r.kept r.node r.linked r.stub c.parent.ensures c.unwrap-p.ensures c.neighbours-own.ensures _ c.take_out.ensures.changed
+    record {
+      forest = (cut c.args.caches.now c.args.node c.unwrap-p.result c.parent.result c.neighbours-own.result r.kept r.node r.linked r.stub c.parent.ensures c.unwrap-p.ensures c.neighbours-own.ensures _ c.take_out.ensures.changed).forest;
+      sound = (cut c.args.caches.now c.args.node c.unwrap-p.result c.parent.result c.neighbours-own.result r.kept r.node r.linked r.stub c.parent.ensures c.unwrap-p.ensures c.neighbours-own.ensures _ c.take_out.ensures.changed).sound;
+      links = (cut c.args.caches.now c.args.node c.unwrap-p.result c.parent.result c.neighbours-own.result r.kept r.node r.linked r.stub c.parent.ensures c.unwrap-p.ensures c.neighbours-own.ensures _ c.take_out.ensures.changed).links;
+      room = room c.args.caches.now c.args.node c.unwrap-p.result c.parent.result c.neighbours-own.result r.kept r.node r.linked r.stub c.parent.ensures c.unwrap-p.ensures c.neighbours-own.ensures _ c.take_out.ensures.changed;
+      stays = search rules;
+    }

@@ -34,29 +34,19 @@ join-requires-clause-few c =
     let fit = both_fit (forest_of a) r.sound.linked (name_of a c.args.from) (name_of a c.args.to) (λ e. r.apart (r.sound.kept.named.apart c.args.to c.args.from r.to r.from e)) in
     omega (arith, own, given, fit, from_list.count, to_list.count, count_is a r.sound.kept c.args.from r.from, count_is a r.sound.kept c.args.to r.to, c.counts-all.ensures.few)
 
-pub returns-clause-forest : goal.returns-clause-forest
-returns-clause-forest c =
+pub returns : goal.returns
+returns c =
     let r = c.requires in
     let a = c.args.caches.now in
-    ap forest_of c.join.ensures ∙ (hands a _ r.sound c.args.from c.args.to r.from r.to r.apart r.clear
-    (joins a _ c.args.from c.args.to r.apart r.from r.to (stubs_of a c.args.from) (stubs_of a c.args.to) (r.sound.kept.threaded c.args.from r.from) (r.sound.kept.threaded c.args.to r.to) c.reparent.ensures)).forest
-
-pub returns-clause-sound : goal.returns-clause-sound
-returns-clause-sound c =
-    let r = c.requires in
-    let a = c.args.caches.now in
-    subst IsSound (sym c.join.ensures) (hands a _ r.sound c.args.from c.args.to r.from r.to r.apart r.clear
-    (joins a _ c.args.from c.args.to r.apart r.from r.to (stubs_of a c.args.from) (stubs_of a c.args.to) (r.sound.kept.threaded c.args.from r.from) (r.sound.kept.threaded c.args.to r.to) c.reparent.ensures)).sound
-
-pub returns-clause-links : goal.returns-clause-links
-returns-clause-links c =
-    let r = c.requires in
-    let a = c.args.caches.now in
-    subst (Relinked a) (sym c.join.ensures)
-    (joins a _ c.args.from c.args.to r.apart r.from r.to (stubs_of a c.args.from) (stubs_of a c.args.to) (r.sound.kept.threaded c.args.from r.from) (r.sound.kept.threaded c.args.to r.to) c.reparent.ensures).links
-
-pub returns-clause-room : goal.returns-clause-room
-returns-clause-room c = ap (λ b. b.room) c.join.ensures ∙ room-joined _ c.args.from c.args.to ∙ c.reparent.ensures.room
+    record {
+      forest = (ap forest_of c.join.ensures ∙ (hands a _ r.sound c.args.from c.args.to r.from r.to r.apart r.clear
+          (joins a _ c.args.from c.args.to r.apart r.from r.to (stubs_of a c.args.from) (stubs_of a c.args.to) (r.sound.kept.threaded c.args.from r.from) (r.sound.kept.threaded c.args.to r.to) c.reparent.ensures)).forest);
+      sound = (subst IsSound (sym c.join.ensures) (hands a _ r.sound c.args.from c.args.to r.from r.to r.apart r.clear
+          (joins a _ c.args.from c.args.to r.apart r.from r.to (stubs_of a c.args.from) (stubs_of a c.args.to) (r.sound.kept.threaded c.args.from r.from) (r.sound.kept.threaded c.args.to r.to) c.reparent.ensures)).sound);
+      links = (subst (Relinked a) (sym c.join.ensures)
+          (joins a _ c.args.from c.args.to r.apart r.from r.to (stubs_of a c.args.from) (stubs_of a c.args.to) (r.sound.kept.threaded c.args.from r.from) (r.sound.kept.threaded c.args.to r.to) c.reparent.ensures).links);
+      room = ap (λ b. b.room) c.join.ensures ∙ room-joined _ c.args.from c.args.to ∙ c.reparent.ensures.room;
+    }
 
 none_of : (o : Option NodeId) → is_some o ≡ false → o ≡ None
 none_of None e = refl

@@ -37,23 +37,14 @@ unwrap-p-requires c =
     let a = c.args.caches.now in
     subst IsSome (sym c.parent.ensures) (has_parent a (cell a c.args.w).links.parent _ (stub_read a r.sound c.args.w r.w r.stub))
 
-pub returns-clause-forest : goal.returns-clause-forest
-returns-clause-forest c =
+pub returns : goal.returns
+returns c =
     let r = c.requires in
     let a = c.args.caches.now in
-    ap forest_of c.replace.ensures ∙ (places a r.sound c.args.w c.args.y c.unwrap-p.result r.w r.y r.root r.bare r.clear (sym c.parent.ensures ∙ c.unwrap-p.ensures) (by_stub a _ _ (stub_read a r.sound c.args.w r.w r.stub))).forest
-
-pub returns-clause-sound : goal.returns-clause-sound
-returns-clause-sound c =
-    let r = c.requires in
-    let a = c.args.caches.now in
-    subst IsSound (sym c.replace.ensures) (places a r.sound c.args.w c.args.y c.unwrap-p.result r.w r.y r.root r.bare r.clear (sym c.parent.ensures ∙ c.unwrap-p.ensures) (by_stub a _ _ (stub_read a r.sound c.args.w r.w r.stub))).sound
-
-pub returns-clause-links : goal.returns-clause-links
-returns-clause-links c =
-    let r = c.requires in
-    let a = c.args.caches.now in
-    subst (Relinked a) (sym c.replace.ensures) (places a r.sound c.args.w c.args.y c.unwrap-p.result r.w r.y r.root r.bare r.clear (sym c.parent.ensures ∙ c.unwrap-p.ensures) (by_stub a _ _ (stub_read a r.sound c.args.w r.w r.stub))).links
-
-pub returns-clause-room : goal.returns-clause-room
-returns-clause-room c = ap (λ b. b.room) c.replace.ensures ∙ room-replaced c.args.caches.now c.args.w c.args.y c.unwrap-p.result
+    record {
+      forest = ap forest_of c.replace.ensures ∙ (places a r.sound c.args.w c.args.y c.unwrap-p.result r.w r.y r.root r.bare r.clear (sym c.parent.ensures ∙ c.unwrap-p.ensures) (by_stub a _ _ (stub_read a r.sound c.args.w r.w r.stub))).forest;
+      sound = subst IsSound (sym c.replace.ensures) (places a r.sound c.args.w c.args.y c.unwrap-p.result r.w r.y r.root r.bare r.clear (sym c.parent.ensures ∙ c.unwrap-p.ensures) (by_stub a _ _ (stub_read a r.sound c.args.w r.w r.stub))).sound;
+      links = subst (Relinked a) (sym c.replace.ensures) (places a r.sound c.args.w c.args.y c.unwrap-p.result r.w r.y r.root r.bare r.clear (sym c.parent.ensures ∙ c.unwrap-p.ensures) (by_stub a _ _ (stub_read a r.sound c.args.w r.w r.stub))).links;
+      room = (ap (λ b. b.room) c.replace.ensures ∙ room-replaced c.args.caches.now c.args.w c.args.y c.unwrap-p.result
+          );
+    }

@@ -1,4 +1,4 @@
-use Rattle.std.proofs.Common.{◌≡◌, sym, ap, ◌∙◌, subst}
+use Rattle.std.proofs.Common.{rules, ◌≡◌, sym, ap, ◌∙◌, subst}
 use Rattle.std.proofs.lemmas.Bool.{false≢true}
 use Rattle.vm_ids.specs.declared.numbers.NodeId.{NodeId}
 use Rattle.local_cache.specs.Arena.{Arena, as_working}
@@ -22,38 +22,25 @@ drop_node-requires-clause-leaf c =
 pub to_working_many-requires-clause-held : goal.to_working_many-requires-clause-held
 to_working_many-requires-clause-held c = one_held c.args.caches.now c.args.node c.requires.held
 
-pub returns-then-is_leaf-clause-forest : goal.returns-then-is_leaf-clause-forest
-returns-then-is_leaf-clause-forest c =
+pub returns-then-is_leaf : goal.returns-then-is_leaf
+returns-then-is_leaf c =
     let r = c.requires in
     let a = c.args.caches.now in
     let leaf = c.is_leaf.ensures.0 c.if-is_leaf.true in
-    c.drop_node.ensures.forest ∙ sym (retire_none (forest_of a) _ (no_children a r.sound c.args.node r.held leaf.0 leaf.1))
-
-pub returns-then-is_leaf-clause-retired : goal.returns-then-is_leaf-clause-retired
-returns-then-is_leaf-clause-retired c =
-    let r = c.requires in
     let e = c.drop_node.ensures in
-    let a = c.args.caches.now in
-    let leaf = c.is_leaf.ensures.0 c.if-is_leaf.true in
-    retired_leaf a _ c.args.node _ (no_children a r.sound c.args.node r.held leaf.0 leaf.1) e.released e.gone e.owns
+    record {
+      forest = c.drop_node.ensures.forest ∙ sym (retire_none (forest_of a) _ (no_children a r.sound c.args.node r.held leaf.0 leaf.1));
+      sound = search rules;
+      retired = retired_leaf a _ c.args.node _ (no_children a r.sound c.args.node r.held leaf.0 leaf.1) e.released e.gone e.owns;
+    }
 
-pub returns-else-is_leaf-clause-forest : goal.returns-else-is_leaf-clause-forest
-returns-else-is_leaf-clause-forest c =
+pub returns-else-is_leaf : goal.returns-else-is_leaf
+returns-else-is_leaf c =
     let r = c.requires in
     let a = c.args.caches.now in
     let children = some_child a r.sound c.args.node r.held (λ tree first. false≢true (sym c.if-is_leaf.false ∙ c.is_leaf.ensures.1 (tree, first))) in
-    ap forest_of (once a c.to_working_many.new.self c.args.node c.to_working_many.ensures.changed) ∙ retired-forest a r.sound c.args.node r.held r.live children
-
-pub returns-else-is_leaf-clause-sound : goal.returns-else-is_leaf-clause-sound
-returns-else-is_leaf-clause-sound c =
-    let r = c.requires in
-    let a = c.args.caches.now in
-    let children = some_child a r.sound c.args.node r.held (λ tree first. false≢true (sym c.if-is_leaf.false ∙ c.is_leaf.ensures.1 (tree, first))) in
-    subst IsSound (sym (once a c.to_working_many.new.self c.args.node c.to_working_many.ensures.changed)) (retired-sound a r.sound c.args.node r.held r.live children)
-
-pub returns-else-is_leaf-clause-retired : goal.returns-else-is_leaf-clause-retired
-returns-else-is_leaf-clause-retired c =
-    let r = c.requires in
-    let a = c.args.caches.now in
-    let children = some_child a r.sound c.args.node r.held (λ tree first. false≢true (sym c.if-is_leaf.false ∙ c.is_leaf.ensures.1 (tree, first))) in
-    retired_parent a c.to_working_many.new.self c.args.node children (once a c.to_working_many.new.self c.args.node c.to_working_many.ensures.changed)
+    record {
+      forest = ap forest_of (once a c.to_working_many.new.self c.args.node c.to_working_many.ensures.changed) ∙ retired-forest a r.sound c.args.node r.held r.live children;
+      sound = subst IsSound (sym (once a c.to_working_many.new.self c.args.node c.to_working_many.ensures.changed)) (retired-sound a r.sound c.args.node r.held r.live children);
+      retired = retired_parent a c.to_working_many.new.self c.args.node children (once a c.to_working_many.new.self c.args.node c.to_working_many.ensures.changed);
+    }

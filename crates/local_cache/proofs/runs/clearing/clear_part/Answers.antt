@@ -1,4 +1,4 @@
-use Rattle.std.proofs.Common.{◌-◌, arith, subst}
+use Rattle.std.proofs.Common.{rules, ◌-◌, arith, subst}
 use Rattle.stretches.specs.Changes.{SayAlso}
 use Rattle.stretches.proofs.Changes.Parts.{fit_front, lasts_fewer}
 use Rattle.stretches.proofs.Reading.Numbers.{high, low}
@@ -18,18 +18,8 @@ after-requires g c =
     lasts_fewer g.V.Says g.met.V.Says.laws stretch.value (c.min-until.result - stretch.first) stretch.count (omega (arith, c.min-until.ensures, low stretch c.args.first is.has)) is.fit.lasts
 
 -- what is left behind the numbers that went
-pub returns-clause-cells : goal.returns-clause-cells
-returns-clause-cells g c =
-    let stretch = c.remove-stretch.result in
-    let is = c.remove-stretch.ensures.with in
-    let until = c.min-until.result in
-    let begun = c.put_back.new.list.list in
-    let rest = subst (λ v. SayAlso g.V.Says begun (record { first = until; count = stretch.count - (until - stretch.first); value = v }) c.put_back-2.new.list.list) c.after.ensures c.put_back-2.ensures.also in
-    part_cleared g.V.Says g.met.V.Says.laws _ _ begun _ stretch c.args.first until is c.remove-stretch.ensures.less c.put_back.ensures.also rest
-    (omega (arith, c.min-until.ensures, c.requires.some, high stretch c.args.first is.has)) (omega (arith, c.min-until.ensures))
-
-pub returns-clause-counted : goal.returns-clause-counted
-returns-clause-counted g c =
+pub returns : goal.returns
+returns g c =
     let stretch = c.remove-stretch.result in
     let is = c.remove-stretch.ensures.with in
     let until = c.min-until.result in
@@ -37,4 +27,11 @@ returns-clause-counted g c =
     let rest = subst (λ v. SayAlso g.V.Says begun (record { first = until; count = stretch.count - (until - stretch.first); value = v }) c.put_back-2.new.list.list) c.after.ensures c.put_back-2.ensures.also in
     let counts = part_len g.V.Says g.met.V.Says.laws _ _ begun _ stretch c.args.first until is c.remove-stretch.ensures.less c.put_back.ensures.also rest
     (omega (arith, c.min-until.ensures, c.requires.some, high stretch c.args.first is.has)) (omega (arith, c.min-until.ensures)) in
-    omega (arith, counts, c.min-until.ensures, c.requires.some, high stretch c.args.first is.has, low stretch c.args.first is.has, c.requires.counted, c.remove-stretch.ensures.count, c.put_back.ensures.count, c.put_back-2.ensures.count)
+    record {
+      more = search rules;
+      within = search rules;
+      cells = (part_cleared g.V.Says g.met.V.Says.laws _ _ begun _ stretch c.args.first until is c.remove-stretch.ensures.less c.put_back.ensures.also rest
+          (omega (arith, c.min-until.ensures, c.requires.some, high stretch c.args.first is.has)) (omega (arith, c.min-until.ensures)));
+      counted = omega (arith, counts, c.min-until.ensures, c.requires.some, high stretch c.args.first is.has, low stretch c.args.first is.has, c.requires.counted, c.remove-stretch.ensures.count, c.put_back.ensures.count, c.put_back-2.ensures.count);
+      places = search rules;
+    }
