@@ -149,17 +149,9 @@ impl Contexts {
         if self.is_full() {
             return Err(Trouble::Refused(Refusal::TooMany));
         }
-        match self.living.reserve(1) {
-            Ok(()) => {}
-            Err(_) => return Err(Trouble::Memory),
-        }
-        match self
-            .actors
-            .push(Some(RegionMap::new(self.alloc, self.page)))
-        {
-            Ok(()) => {}
-            Err(_) => return Err(Trouble::Memory),
-        }
+        self.living.reserve(1)?;
+        self.actors
+            .push(Some(RegionMap::new(self.alloc, self.page)))?;
         let made = ActorId(self.actors.len() as u32);
         self.living.push_reserved(made);
         Ok(made)

@@ -90,10 +90,7 @@ impl FlatMm {
         if self.lacks_room(size) {
             return Err(Trouble::Refused(Refusal::Full));
         }
-        match self.store.take_loose(size) {
-            Ok(()) => {}
-            Err(NoMemory) => return Err(Trouble::Memory),
-        }
+        self.store.take_loose(size)?;
         match pull_loose(&mut self.store, seg, PageNo(0), mapper) {
             Ok(()) => match self.store.adopt(Some(seg)) {
                 Ok(cache) => Ok(cache),

@@ -7,7 +7,7 @@ ghost use Rattle.flat_mm.specs.Manager.{IsValid, flat, machine_in};
 
 use crate::FlatMm;
 use crate::pulling::pull_loose;
-use vm_ids::{Command, Extent, FaultAt, NoMemory, Refusal, RegionId, SegId, Trouble};
+use vm_ids::{Command, Extent, FaultAt, Refusal, RegionId, SegId, Trouble};
 use vm_port::Mapper;
 
 impl FlatMm {
@@ -91,10 +91,7 @@ impl FlatMm {
         if self.lacks_room(extent.pages) {
             return Err(Trouble::Refused(Refusal::Full));
         }
-        match self.store.take_loose(extent.pages) {
-            Ok(()) => {}
-            Err(NoMemory) => return Err(Trouble::Memory),
-        }
+        self.store.take_loose(extent.pages)?;
         match pull_loose(&mut self.store, seg, extent.first, mapper) {
             Ok(()) => {
                 self.store.exchange(extent.cache, extent.first);

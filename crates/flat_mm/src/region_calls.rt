@@ -118,9 +118,6 @@ impl FlatMm {
         ensures { AnswersWithin flat self.now
             (Command.Find actor address) (answer_by Reply.Region result) self.now }
     {
-        match self.contexts.find(actor, address) {
-            Ok(region) => Ok(region),
-            Err(refusal) => Err(Trouble::Refused(refusal)),
-        }
+        Ok(self.contexts.find(actor, address)?)
     }
 }

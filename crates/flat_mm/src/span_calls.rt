@@ -80,9 +80,7 @@ impl FlatMm {
             → copy_of (machine_in self.now) span.now h ≡ refuse (machine_in self.now) refusal) }
         ensures can { OnOk result (CanCopy self.now span.now) }
     {
-        if let Err(refusal) = self.check_span(span) {
-            return Err(refusal);
-        }
+        self.check_span(span)?;
         if overlaps(span) {
             return Err(Refusal::Overlap);
         }
@@ -99,9 +97,7 @@ impl FlatMm {
             → move_of (machine_in self.now) span.now h ≡ refuse (machine_in self.now) refusal) }
         ensures can { OnOk result (CanMove self.now span.now) }
     {
-        if let Err(refusal) = self.check_span(span) {
-            return Err(refusal);
-        }
+        self.check_span(span)?;
         if self.store.segment(span.from).is_some() {
             return Err(Refusal::NotTemp);
         }
@@ -126,9 +122,7 @@ impl FlatMm {
         ensures { MapperCall M.Mapper flat mapper.old self.old
             (Command.Copy span) (done_by result) mapper.new self.new }
     {
-        if let Err(refusal) = self.check_copy(&span) {
-            return Err(Trouble::Refused(refusal));
-        }
+        self.check_copy(&span)?;
         match self.may_change(span.to, span.to_page, span.pages, mapper) {
             Ok(true) => {
                 fill(&mut self.store, &span);
@@ -148,9 +142,7 @@ impl FlatMm {
         ensures { MapperCall M.Mapper flat mapper.old self.old
             (Command.Move span) (done_by result) mapper.new self.new }
     {
-        if let Err(refusal) = self.check_move(&span) {
-            return Err(Trouble::Refused(refusal));
-        }
+        self.check_move(&span)?;
         match self.may_change(span.to, span.to_page, span.pages, mapper) {
             Ok(true) => {
                 fill(&mut self.store, &span);

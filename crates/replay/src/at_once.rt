@@ -90,10 +90,8 @@ impl<A: Answerer<M, C>, M: Mapper, C: Chooser> Service<M, C> for AtOnce<A> {
     }
 
     fn answer(&mut self, line: &[u8], mapper: &mut M, chooser: &mut C) -> Answer {
-        match self.answerer.read_line(line) {
-            Ok(command) => self.answerer.answer_command(&command, mapper, chooser),
-            Err(refusal) => Err(Trouble::Refused(refusal)),
-        }
+        let command = self.answerer.read_line(line)?;
+        self.answerer.answer_command(&command, mapper, chooser)
     }
 
     fn issue(

@@ -11,7 +11,7 @@ ghost use Rattle.replay.specs.Managing.{CanCall};
 use actor_script::{read_access, read_other};
 use gmi_calls::{Delivered, Gmi, answer};
 use line_service::Service;
-use vm_ids::{Access, ActorId, Answer, Trouble};
+use vm_ids::{Access, ActorId, Answer};
 use vm_port::{Chooser, Mapper};
 
 /// A manager that answers the commands of a script. A load or a store may have to wait for its
@@ -49,10 +49,8 @@ impl<G: Gmi<M, C>, M: Mapper, C: Chooser> Service<M, C> for Commands<G> {
     }
 
     fn answer(&mut self, line: &[u8], mapper: &mut M, chooser: &mut C) -> Answer {
-        match read_other(line) {
-            Ok(command) => answer(&mut self.gmi, &command, mapper, chooser),
-            Err(refusal) => Err(Trouble::Refused(refusal)),
-        }
+        let command = read_other(line)?;
+        answer(&mut self.gmi, &command, mapper, chooser)
     }
 
     fn issue(

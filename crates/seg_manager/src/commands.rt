@@ -125,10 +125,7 @@ impl<G> SegManager<G> {
             → Serves M.Mapper G.Gmi mapper self.old (Command.Map actor mapping)
             (answer_by Reply.Region result) mapper self.new }
     {
-        match self.regions.reserve(1) {
-            Ok(()) => {}
-            Err(_) => return Err(Trouble::Memory),
-        }
+        self.regions.reserve(1)?;
         let Mapping {
             extent,
             address,

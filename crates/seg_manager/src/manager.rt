@@ -97,13 +97,9 @@ impl<G> SegManager<G> {
         requires made { G.made self.old.gmi ≤ 2 ^ 61 }
         ensures { Releases M.Mapper G.Gmi mapper.old self.old seg result mapper.new self.new }
     {
-        match self.close(seg) {
-            Ok(cache) => {
-                self.keep_unused(cache);
-                self.trim(mapper, chooser);
-                Ok(())
-            }
-            Err(refusal) => Err(Trouble::Refused(refusal)),
-        }
+        let cache = self.close(seg)?;
+        self.keep_unused(cache);
+        self.trim(mapper, chooser);
+        Ok(())
     }
 }

@@ -26,10 +26,10 @@ impl<G> Ports<G> {
             self.new }
     {
         match command {
-            PortCommand::Port(depth) => match self.make_port(*depth) {
-                Ok(port) => Ok(Reply::Port(port)),
-                Err(trouble) => Err(trouble),
-            },
+            PortCommand::Port(depth) => {
+                let port = self.make_port(*depth)?;
+                Ok(Reply::Port(port))
+            }
             PortCommand::Send(port, extent) => {
                 self.send(*port, *extent, mapper, chooser)?;
                 Ok(Reply::Done)

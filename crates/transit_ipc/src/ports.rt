@@ -157,10 +157,10 @@ impl<G> Ports<G> {
             result mapper.new self.new }
     {
         match command {
-            Command::Map(actor, mapping) => match self.map(*actor, *mapping) {
-                Ok(region) => Ok(Reply::Region(region)),
-                Err(trouble) => Err(trouble),
-            },
+            Command::Map(actor, mapping) => {
+                let region = self.map(*actor, *mapping)?;
+                Ok(Reply::Region(region))
+            }
             command => gmi_calls::answer(&mut self.gmi, command, mapper, chooser),
         }
     }

@@ -111,9 +111,7 @@ pub(crate) fn check_copy(tables: &Tables, span: &Span) -> Result<Option<SegId>, 
     ensures unlocked { OnOk result (is_any_locked (machine_seen tables.now) span.now.to
         span.now.to_page.0 span.now.pages ≡ false) }
 {
-    if let Err(trouble) = check_span(tables, span) {
-        return Err(trouble);
-    }
+    check_span(tables, span)?;
     if overlaps(span) {
         return Err(Trouble::Refused(Refusal::Overlap));
     }
@@ -144,9 +142,7 @@ pub(crate) fn check_move(tables: &Tables, span: &Span) -> Result<Option<SegId>, 
     ensures unlocked { OnOk result (is_any_locked (machine_seen tables.now) span.now.to
         span.now.to_page.0 span.now.pages ≡ false) }
 {
-    if let Err(trouble) = check_span(tables, span) {
-        return Err(trouble);
-    }
+    check_span(tables, span)?;
     if segment_of(tables, span.from).is_some() {
         return Err(Trouble::Refused(Refusal::NotTemp));
     }
@@ -185,12 +181,8 @@ pub(crate) fn copy_pages(tables: &mut Tables, span: &Span) -> Result<(), Trouble
     ensures outcome { AllowedOutcome (machine_seen tables.old) (Command.Copy span.now)
         (answer_by (λ _. Reply.Done) result) (machine_seen tables.new) }
 {
-    if let Err(trouble) = check_copy(tables, span) {
-        return Err(trouble);
-    }
-    let Ok(pages) = source_pages(tables, span) else {
-        return Err(Trouble::Memory);
-    };
+    check_copy(tables, span)?;
+    let pages = source_pages(tables, span)?;
     put_in_cache(tables, span.to.0, span.to_page.0 as usize, pages);
     Ok(())
 }
@@ -201,15 +193,9 @@ pub(crate) fn move_pages(tables: &mut Tables, span: &Span) -> Result<(), Trouble
     ensures outcome { AllowedOutcome (machine_seen tables.old) (Command.Move span.now)
         (answer_by (λ _. Reply.Done) result) (machine_seen tables.new) }
 {
-    if let Err(trouble) = check_move(tables, span) {
-        return Err(trouble);
-    }
-    let Ok(pages) = source_pages(tables, span) else {
-        return Err(Trouble::Memory);
-    };
-    let Ok(zeros) = zero_pages(tables.alloc, span.pages, tables.page_bytes) else {
-        return Err(Trouble::Memory);
-    };
+    check_move(tables, span)?;
+    let pages = source_pages(tables, span)?;
+    let zeros = zero_pages(tables.alloc, span.pages, tables.page_bytes)?;
     put_in_cache(tables, span.to.0, span.to_page.0 as usize, pages);
     put_in_cache(tables, span.from.0, span.from_page.0 as usize, zeros);
     Ok(())

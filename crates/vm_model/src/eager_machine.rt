@@ -1,25 +1,24 @@
 // The eager machine: the plain one, computed.
-ghost use Rattle.std.specs.Prelude.{None, Some, Ok, false, ◌≡◌, ◌+◌, ◌≤◌, ◌<◌, ◌^◌, length, map, replicate, option_map, All, IfErr, IfOk, IsOkAnd, IsSome, OnOk, OnErr};
+ghost use Rattle.std.specs.Prelude.{None, Some, Ok, false, ◌≡◌, ◌+◌, ◌≤◌, ◌<◌, ◌^◌, length, map, replicate, option_map, All, IfErr, IfOk, IsSome, OnOk, OnErr};
 ghost use Rattle.std.specs.FinMap.{get};
 ghost use Rattle.vm_ids.specs.Counting.{no_counts};
 ghost use Rattle.vm_ids.specs.Held.{Segments};
-ghost use Rattle.vm_model.specs.Allowed.{AllowedOutcome, AwaitsAccess, CanOpen, MayFailToOpen, numbers_of, segment_place};
+ghost use Rattle.vm_model.specs.Allowed.{AllowedOutcome, AwaitsAccess, CanOpen, MayFailToOpen};
 ghost use Rattle.vm_model.specs.Answering.{answer_by, held_for, held_part, is_any_locked};
 ghost use Rattle.vm_model.specs.Machine.{Machine, cache_of, live_pages, pages_in, segment_of, start, zero_page};
 ghost use Rattle.vm_model.specs.Outcome.{HasWholePages, Outcome, PlainOutcome};
 ghost use Rattle.vm_model.specs.PageForest.{page_in};
-ghost use Rattle.vm_model.specs.Place.{place};
 ghost use Rattle.vm_model.specs.Seen.{machine_seen, AreTablesSound};
 
+mod regions;
+
 use crate::tables::Tables;
-use crate::{
-    LIVE_PAGES, accesses, actors, caches, copies, extents, located, locks, maps, place, telling,
-};
+use crate::{LIVE_PAGES, accesses, actors, caches, copies, extents, place, telling};
 use std::alloc::Global;
 use std::marker::Model;
 use vm_ids::{
-    ActorId, CacheId, ChainList, Command, Counts, Extent, Mapping, NoMemory, PageNo, Piece, Prot,
-    RegionId, RegionStatus, Reply, SegId, Span, Trouble,
+    ActorId, CacheId, ChainList, Command, Counts, Extent, NoMemory, PageNo, Reply, SegId, Span,
+    Trouble,
 };
 
 /// The machine itself, run plainly: each cache is a vector of pages, and a copy copies at once. It
@@ -207,90 +206,6 @@ impl EagerMachine {
         copies::copy_pages(&mut self.tables, span)
     }
 
-    /// Maps pages of a cache into an actor. Refused as `NoActor`, `NoCache`, `Unaligned`,
-    /// `BadAddress`, `OutOfCache`, `Overlap` or `TooMany`, in this order. `Memory` where there is
-    /// none for the region.
-    #[tactic(auto, using(crate::proofs::Machines::Sound::whole))]
-    pub fn map(&mut self, actor: ActorId, mapping: &Mapping) -> Result<RegionId, Trouble>
-        requires { 1 ≤ mapping.now.extent.pages }
-        ensures outcome { PlainOutcome self.old (Command.Map actor mapping.now)
-            (answer_by Reply.Region result) self.new }
-        ensures whole { HasWholePages self.new }
-    {
-        maps::map(&mut self.tables, actor, mapping)
-    }
-
-    /// Cuts a region in two: it keeps so many pages, at least one, and a new region, which allows
-    /// the same, has the others. Refused as `NoRegion`, as `BadAddress` where the region hasn't
-    /// more pages, or as `TooMany` where 65,535 regions were made, in this order. `Memory` where
-    /// there is none for the new region.
-    #[tactic(auto, using(crate::proofs::Machines::Sound::whole))]
-    pub fn split(&mut self, region: RegionId, pages: u32) -> Result<RegionId, Trouble>
-        requires { 1 ≤ pages }
-        ensures outcome { PlainOutcome self.old (Command.Split region pages)
-            (answer_by Reply.Region result) self.new }
-        ensures whole { HasWholePages self.new }
-    {
-        located::split(&mut self.tables, region, pages)
-    }
-
-    /// Changes what a region allows beside reading. Refused as `NoRegion` exactly where no region
-    /// of a living actor has the number. It takes no memory.
-    #[tactic(auto, using(crate::proofs::Machines::Sound::whole))]
-    pub fn protect(&mut self, region: RegionId, prot: Prot) -> Result<(), Trouble>
-        ensures outcome { PlainOutcome self.old (Command.Protect region prot)
-            (answer_by (λ _. Reply.Done) result) self.new }
-        ensures whole { HasWholePages self.new }
-    {
-        located::protect(&mut self.tables, region, prot)
-    }
-
-    /// Loads so many bytes, 1 to 64, at an address of an actor. Refused as `NoActor`, `Crosses` or
-    /// `BadAddress`, in this order. It takes no memory.
-    pub fn load(&self, actor: ActorId, address: u64, bytes: u8) -> Result<Piece, Trouble>
-        requires some { 1 ≤ bytes }
-        requires few { bytes ≤ 64 }
-        ensures outcome { PlainOutcome self.now (Command.Load actor address bytes)
-            (answer_by Reply.Bytes result) self.now }
-        ensures length { IfOk result (λ piece. length piece ≡ bytes) }
-    {
-        accesses::load(&self.tables, actor, address, bytes)
-    }
-
-    /// The page of a segment that a store would change, or none where the cache is temporary.
-    /// Refused as `NoActor`, `Crosses`, `BadAddress` or `Protection`, in this order.
-    pub fn check_store(
-        &self,
-        actor: ActorId,
-        address: u64,
-        piece: &Piece,
-    ) -> Result<Option<(SegId, PageNo)>, Trouble>
-        ensures refused { OnErr result (PlainOutcome self.now
-            (Command.Store actor address piece.now) (answer_by (λ _. Reply.Done) result)
-            self.now) }
-        ensures awaits { OnOk result
-            (AwaitsAccess self.now (Command.Store actor address piece.now)) }
-        ensures page { IfOk result (λ page.
-            IsOkAnd (place self.now actor.0 address (length piece.now)) (λ at.
-            option_map numbers_of page ≡ segment_place self.now at)) }
-        ensures there { OnOk result
-            (IsOkAnd (place self.now actor.0 address (length piece.now)) (λ at.
-            at.page < pages_in (cache_of self.now at.region.cache))) }
-    {
-        accesses::check_store(&self.tables, actor, address, piece)
-    }
-
-    /// Stores bytes at an address of an actor, where the mapper doesn't deny the page. Refused as
-    /// `NoActor`, `Crosses`, `BadAddress` or `Protection`, in this order. It takes no memory.
-    #[tactic(auto, using(crate::proofs::Machines::Sound::whole))]
-    pub fn store(&mut self, actor: ActorId, address: u64, piece: &Piece) -> Result<(), Trouble>
-        ensures outcome { AllowedOutcome self.old (Command.Store actor address piece.now)
-            (answer_by (λ _. Reply.Done) result) self.new }
-        ensures whole { HasWholePages self.new }
-    {
-        accesses::store(&mut self.tables, actor, address, piece)
-    }
-
     /// Whether a cache may go, as far as the machine alone can tell. Refused as `NoCache` or
     /// `InUse`, in this order.
     pub fn check_destroy(&self, cache: CacheId) -> Result<(), Trouble>
@@ -338,58 +253,6 @@ impl EagerMachine {
         ensures whole { HasWholePages self.new }
     {
         copies::move_pages(&mut self.tables, span)
-    }
-
-    /// Locks a region. Refused as `NoRegion`, as `Locked` where it is locked, or as `LockLimit`
-    /// where fewer than three page frames would be left that no locked page takes, in this order.
-    /// It takes no memory.
-    #[tactic(auto, using(crate::proofs::Machines::Sound::whole))]
-    pub fn lock(&mut self, region: RegionId) -> Result<(), Trouble>
-        ensures outcome { PlainOutcome self.old (Command.Lock region)
-            (answer_by (λ _. Reply.Done) result) self.new }
-        ensures whole { HasWholePages self.new }
-    {
-        locks::lock(&mut self.tables, region)
-    }
-
-    /// Unlocks a region. Refused as `NoRegion`, or as `NotLocked` where it isn't locked, in this
-    /// order. It takes no memory.
-    #[tactic(auto, using(crate::proofs::Machines::Sound::whole))]
-    pub fn unlock(&mut self, region: RegionId) -> Result<(), Trouble>
-        ensures outcome { PlainOutcome self.old (Command.Unlock region)
-            (answer_by (λ _. Reply.Done) result) self.new }
-        ensures whole { HasWholePages self.new }
-    {
-        locks::unlock(&mut self.tables, region)
-    }
-
-    /// Takes a region away. Refused as `NoRegion`, or as `Locked` where it is locked, in this
-    /// order. It takes no memory.
-    #[tactic(auto, using(crate::proofs::Machines::Sound::whole))]
-    pub fn unmap(&mut self, region: RegionId) -> Result<(), Trouble>
-        ensures outcome { PlainOutcome self.old (Command.Unmap region)
-            (answer_by (λ _. Reply.Done) result) self.new }
-        ensures whole { HasWholePages self.new }
-    {
-        maps::unmap(&mut self.tables, region)
-    }
-
-    /// What there is to tell of a region. Refused as `NoRegion` exactly where no region of a living
-    /// actor has the number. It takes no memory.
-    pub fn status(&self, region: RegionId) -> Result<RegionStatus, Trouble>
-        ensures { PlainOutcome self.now (Command.Status region)
-            (answer_by Reply.Status result) self.now }
-    {
-        telling::status(&self.tables, region)
-    }
-
-    /// The region of an actor that holds an address. Refused as `NoActor` or `BadAddress`, in this
-    /// order. It takes no memory.
-    pub fn find(&self, actor: ActorId, address: u64) -> Result<RegionId, Trouble>
-        ensures { PlainOutcome self.now (Command.Find actor address)
-            (answer_by Reply.Region result) self.now }
-    {
-        telling::find(&self.tables, actor, address)
     }
 
     /// The segment that names the cache of these pages. Refused as `NoCache`, `NotNamed` or

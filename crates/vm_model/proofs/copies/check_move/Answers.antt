@@ -13,7 +13,7 @@ pub returns-then-is_some-clause-refused : goal.returns-then-is_some-clause-refus
 returns-then-is_some-clause-refused c = λ h.
     let t = c.args.tables.now in
     let s = c.args.span.now in
-    let S = c.in_default.ensures.spanned in
+    let S = c.in_ok-check_span.ensures.spanned in
     let named : is_some (cache_seen S.source).segment ≡ true =
     ap is_some (sym (segment_there t s.from.0 S.source S.from) ∙ sym c.segment_of.ensures) ∙ is_some-numbers c.segment_of.result ∙ sym c.if-is_some.ensures in
     move_named (machine_seen t) s h (cache_seen S.source) (cache_seen S.destination) (seen_there t s.from.0 S.source S.from) (seen_there t s.to.0 S.destination S.to) S.inside S.within named
@@ -22,7 +22,7 @@ pub returns-then-overlaps-clause-refused : goal.returns-then-overlaps-clause-ref
 returns-then-overlaps-clause-refused c = λ h.
     let t = c.args.tables.now in
     let s = c.args.span.now in
-    let S = c.in_default.ensures.spanned in
+    let S = c.in_ok-check_span.ensures.spanned in
     let temporary : (cache_seen S.source).segment ≡ None = none_named t s.from.0 S.source c.segment_of.result S.from c.segment_of.ensures (sym c.if-is_some.ensures) in
     move_overlaps (machine_seen t) s h (cache_seen S.source) (cache_seen S.destination) (seen_there t s.from.0 S.source S.from) (seen_there t s.to.0 S.destination S.to) S.inside S.within temporary (sym c.if-overlaps.ensures)
 
@@ -30,7 +30,7 @@ pub returns-then-is_any_locked-clause-refused : goal.returns-then-is_any_locked-
 returns-then-is_any_locked-clause-refused c = λ h.
     let t = c.args.tables.now in
     let s = c.args.span.now in
-    let S = c.in_default.ensures.spanned in
+    let S = c.in_ok-check_span.ensures.spanned in
     let temporary : (cache_seen S.source).segment ≡ None = none_named t s.from.0 S.source c.segment_of.result S.from c.segment_of.ensures (sym c.if-is_some.ensures) in
     let onto = is_any_locked (machine_seen t) s.to s.to_page.0 s.pages in
     let locked : (is_any_locked (machine_seen t) s.from s.from_page.0 s.pages || onto) ≡ true = elim c.then-is_any_locked.branch [
@@ -43,14 +43,14 @@ pub returns-clause-within : goal.returns-clause-within
 returns-clause-within c =
     let t = c.args.tables.now in
     let s = c.args.span.now in
-    let S = c.in_default.ensures.spanned in
+    let S = c.in_ok-check_span.ensures.spanned in
     omega (arith, within s.to_page.0 s.pages S.destination S.within, counted t s.to.0 S.destination S.to)
 
 pub returns-clause-awaits : goal.returns-clause-awaits
 returns-clause-awaits c =
     let t = c.args.tables.now in
     let s = c.args.span.now in
-    let S = c.in_default.ensures.spanned in
+    let S = c.in_ok-check_span.ensures.spanned in
     let m = machine_seen t in
     let temporary : (cache_seen S.source).segment ≡ None = none_named t s.from.0 S.source c.segment_of.result S.from c.segment_of.ensures (sym c.if-is_some.ensures) in
     awaits m (commands.Move s) (reply Done (zero_source (put_span m s (cache_seen S.source) (cache_seen S.destination)) s)) (λ h.

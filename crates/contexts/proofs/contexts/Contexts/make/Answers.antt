@@ -14,10 +14,10 @@ use Rattle.contexts.proofs.Listing.{listed_more, listed_same}
 use Rattle.contexts.proofs.contexts.Contexts.make.Goals as goal
 
 pub invariant_of-self : goal.invariant_of-self
-invariant_of-self c = sound_still c.self.inside _ c.self.invariant refl c.in-Err.ensures.items refl refl
+invariant_of-self c = sound_still c.self.inside _ c.self.invariant refl c.in_err-reserve.ensures.items refl refl
 
-pub invariant_of-self-in-Err-push : goal.invariant_of-self-in-Err-push
-invariant_of-self-in-Err-push c = sound_still c.self.inside _ c.self.invariant refl c.in-Ok.ensures.items c.in-Err-push.ensures.items refl
+pub invariant_of-self-in_err-push : goal.invariant_of-self-in_err-push
+invariant_of-self-in_err-push c = sound_still c.self.inside _ c.self.invariant refl c.in_ok-reserve.ensures.items c.in_err-push.ensures.items refl
 
 pub invariant_of-self-2 : goal.invariant_of-self-2
 invariant_of-self-2 c =
@@ -26,10 +26,10 @@ invariant_of-self-2 c =
     let s : AddressSpace = c.new.result in
     let n = length i.actors.items + 1 in
     let owners = i.owners.items in
-    let items = c.in-Ok-push.ensures.items in
+    let items = c.in_ok-push.ensures.items in
     let made : ActorId = record { 0 = c.len.result } in
     let after : c.push_reserved.new.self.items ≡ i.living.items ++ made ∷ [] =
-    c.push_reserved.ensures.items ∙ ap (λ (l : List ActorId). l ++ made ∷ []) c.in-Ok.ensures.items in
+    c.push_reserved.ensures.items ∙ ap (λ (l : List ActorId). l ++ made ∷ []) c.in_ok-reserve.ensures.items in
     let number : made.0 ≡ n = omega (arith, c.len.ensures, ap length items, length-append i.actors.items (Some s ∷ [])) in
     let counted = k.living in
     let new : IsKept i.page owners n s = record {

@@ -1,3 +1,4 @@
+use Rattle.std.proofs.result.Match.{err_is}
 use Rattle.std.proofs.Common.{◌≡◌, Ok, arith, not, refl, subst, sym}
 use Rattle.std.specs.Prelude.{IfSome}
 use Rattle.std.specs.List.{list_any, range_with_len}
@@ -12,33 +13,34 @@ use Rattle.flat_mm.proofs.Copying.{sound_copied}
 use Rattle.flat_mm.proofs.Transferring.{copy_done, copy_fills, denied_fill, failed_fill, pages_there, refused_call}
 use Rattle.flat_mm.proofs.manager.FlatMm.copy_pages.Goals as goal
 
-pub returns-in-Err : goal.returns-in-Err
-returns-in-Err g c =
-    refused_call g.M.Mapper c.args.mapper.now c.args.self.now (commands.Copy c.args.span) (λ old next. refl) tt (λ h a. tt) c.in-Err.refusal c.requires.valid c.in-Err.ensures.refused
+pub returns-in_err-check_copy : goal.returns-in_err-check_copy
+returns-in_err-check_copy g c =
+    rw (err_is c.from_residual.result _ c.from_residual.ensures.1)
+    (refused_call g.M.Mapper c.args.mapper.now c.args.self.now (commands.Copy c.args.span) (λ old next. refl) tt (λ h a. tt) c.in_err-check_copy.field-0.0 c.requires.valid c.in_err-check_copy.ensures.refused)
 
 pub may_change-requires-clause-within : goal.may_change-requires-clause-within
-may_change-requires-clause-within g c = pages_there c.args.self.now c.args.span c.in_default.ensures.can.spanned
+may_change-requires-clause-within g c = pages_there c.args.self.now c.args.span c.in_ok-check_copy.ensures.can.spanned
 
 pub may_change-requires-clause-few : goal.may_change-requires-clause-few
-may_change-requires-clause-few g c = omega (arith, c.in_default.ensures.can.spanned.within, c.in_default.ensures.can.spanned.few)
+may_change-requires-clause-few g c = omega (arith, c.in_ok-check_copy.ensures.can.spanned.within, c.in_ok-check_copy.ensures.can.spanned.few)
 
 pub returns-in-Ok-false : goal.returns-in-Ok-false
 returns-in-Ok-false g c =
     let E = c.in-Ok-false.ensures in
-    denied_fill g.M.Mapper c.args.mapper.now c.args.self.now (commands.Copy c.args.span) _ _ c.args.span _ (copy_fills c.args.self.now c.args.span c.in_default.ensures.can) E.asked c.requires.valid c.requires.some c.in-Ok-false.field-0 c.in-Ok-false.field-0-test E.named E.answer
+    denied_fill g.M.Mapper c.args.mapper.now c.args.self.now (commands.Copy c.args.span) _ _ c.args.span _ (copy_fills c.args.self.now c.args.span c.in_ok-check_copy.ensures.can) E.asked c.requires.valid c.requires.some c.in-Ok-false.field-0 c.in-Ok-false.field-0-test E.named E.answer
 
-pub returns-in-Err-may_change : goal.returns-in-Err-may_change
-returns-in-Err-may_change g c =
-    let E = c.in-Err-may_change.ensures in
-    failed_fill g.M.Mapper c.args.mapper.now c.args.self.now (commands.Copy c.args.span) _ _ c.args.span _ (copy_fills c.args.self.now c.args.span c.in_default.ensures.can) E.asked c.requires.valid c.requires.some c.in-Err-may_change.page E.asked.reached.failed E.fault.0 E.fault.1 E.fault.2 E.before
+pub returns-in-Err : goal.returns-in-Err
+returns-in-Err g c =
+    let E = c.in-Err.ensures in
+    failed_fill g.M.Mapper c.args.mapper.now c.args.self.now (commands.Copy c.args.span) _ _ c.args.span _ (copy_fills c.args.self.now c.args.span c.in_ok-check_copy.ensures.can) E.asked c.requires.valid c.requires.some c.in-Err.page E.asked.reached.failed E.fault.0 E.fault.1 E.fault.2 E.before
 
 pub fill-requires-clause-spanned : goal.fill-requires-clause-spanned
-fill-requires-clause-spanned g c = subst (λ (p : Manager). IsSpanned p.store c.args.span) (sym c.self.view_is) c.in_default.ensures.can.spanned
+fill-requires-clause-spanned g c = subst (λ (p : Manager). IsSpanned p.store c.args.span) (sym c.self.view_is) c.in_ok-check_copy.ensures.can.spanned
 
 pub invariant_of-self : goal.invariant_of-self
 invariant_of-self g c =
     let i = c.self.inside in
-    let S = subst (λ (p : Manager). IsSpanned p.store c.args.span) (sym c.self.view_is) c.in_default.ensures.can.spanned in
+    let S = subst (λ (p : Manager). IsSpanned p.store c.args.span) (sym c.self.view_is) c.in_ok-check_copy.ensures.can.spanned in
     sound_copied i.store c.args.span S i.contexts i.actors c.fill.new.store c.self.invariant (c.fill.ensures.whole c.self.invariant.whole) c.fill.ensures.copied
 
 pub returns-in-Ok-true : goal.returns-in-Ok-true
@@ -48,7 +50,7 @@ returns-in-Ok-true g c =
     let E = c.in-Ok-true.ensures in
     let old : Manager = record { store = i.store; actors = i.contexts } in
     let held = g.M.Mapper.held c.args.mapper.now in
-    let can = subst (λ (p : Manager). CanCopy p s) (sym c.self.view_is) c.in_default.ensures.can in
+    let can = subst (λ (p : Manager). CanCopy p s) (sym c.self.view_is) c.in_ok-check_copy.ensures.can in
     let valid = subst (λ (p : Manager). IsValid p held) (sym c.self.view_is) c.requires.valid in
     let answer = subst (λ (p : Manager). IfSome held (λ h. c.in-Ok-true.field-0 ≡ not (list_any (is_denied_page (machine_in p) (segments_in h) s.to.0) (range_with_len s.to_page.0 s.pages)))) (sym c.self.view_is) E.answer in
     subst (λ (p : Manager). MapperCall g.M.Mapper flat c.args.mapper.now p (commands.Copy s) (Ok replies.Done) c.may_change.new.mapper (record { store = c.fill.new.store; actors = i.contexts })) c.self.view_is

@@ -1,3 +1,4 @@
+use Rattle.std.proofs.result.Match.{err_is}
 use Rattle.std.proofs.Common.{◌≡◌, ◌+◌, ◌-◌, ◌++◌, ◌∷◌, ◌∙◌, ◌<◌, ◌≤◌, [], Bool, Err, Ok, Option, Some, ap, arith, false, length, subst, sym, true}
 use Rattle.std.specs.FinMap.{get}
 use Rattle.std.specs.List.{list_any}
@@ -28,7 +29,7 @@ use Rattle.flat_mm.proofs.Extents.{refused_call}
 use Rattle.flat_mm.proofs.Filling.{IsReloosed, filled, given_up}
 use Rattle.flat_mm.proofs.Opening.{adopt_call, adopt_lacks, adopt_sound, has_named, open_absent, open_failed, open_full, open_lacks, open_many, open_passes, open_used}
 use Rattle.flat_mm.proofs.manager.FlatMm.open_segment.Given.{Over}
-use Rattle.flat_mm.proofs.manager.FlatMm.open_segment.Goals.{Else-has, In-Err-pull_loose, In-Ok, In-Ok-pull_loose, In-Ok-take_loose, in-Err-adopt, in-Ok-adopt}
+use Rattle.flat_mm.proofs.manager.FlatMm.open_segment.Goals.{Else-has, In-Err, In-Ok, In-Ok-pull_loose, In_ok-take_loose, in-Err-adopt, in-Ok-adopt}
 use Rattle.flat_mm.proofs.manager.FlatMm.open_segment.Goals as goal
 
 named_is : (p q : Manager) → p ≡ q → (seg : SegId) (b : Bool) → b ≡ list_any (is_of seg) p.store.caches → is_some (cache_named (machine_in q).caches seg.0) ≡ b
@@ -80,25 +81,26 @@ returns-then-lacks_room g c =
     open_full g.M.Mapper c.args.mapper.now c.size.new.self p c.args.seg c.requires.valid (named_is _ p c.self.view_is c.args.seg false c.if-has.ensures) (sym c.if-has_made_all.ensures)
     c.in-Ok.size c.in-Ok.ensures.pages c.size.result (asked g (goal.at.returns-then-lacks_room g c).In-Ok) c.in-Some.size c.in-Some.is (sym c.if-passes_live_pages.ensures) less
 
-pub returns-in-Err : goal.returns-in-Err
-returns-in-Err g c =
+pub returns-in_err-take_loose : goal.returns-in_err-take_loose
+returns-in_err-take_loose g c =
     let i = c.self.inside in
     let p = c.args.self.now in
-    let same : (let q : Manager = record { store = c.take_loose.new.self; actors = i.contexts } in q) ≡ p = ap (λ (s : Store). let q : Manager = record { store = s; actors = i.contexts } in q) c.in-Err.ensures.err ∙ c.self.view_is in
-    subst (λ (q : Manager). MapperCall g.M.Mapper flat c.args.mapper.now p (commands.OpenSegment c.args.seg) (Err troubles.Memory) c.size.new.self q) (sym same)
+    let same : (let q : Manager = record { store = c.take_loose.new.self; actors = i.contexts } in q) ≡ p = ap (λ (s : Store). let q : Manager = record { store = s; actors = i.contexts } in q) c.in_err-take_loose.ensures.err ∙ c.self.view_is in
+    rw (err_is c.from_residual.result _ c.from_residual.ensures.1)
+    (subst (λ (q : Manager). MapperCall g.M.Mapper flat c.args.mapper.now p (commands.OpenSegment c.args.seg) (Err troubles.Memory) c.size.new.self q) (sym same)
     (open_lacks g.M.Mapper c.args.mapper.now c.size.new.self p c.args.seg c.requires.valid (named_is _ p c.self.view_is c.args.seg false c.if-has.ensures) (sym c.if-has_made_all.ensures)
-    c.in-Ok.size c.in-Ok.ensures.pages c.size.result (asked g (goal.at.returns-in-Err g c).In-Ok) c.in-Some.size c.in-Some.is (sym c.if-passes_live_pages.ensures))
+    c.in-Ok.size c.in-Ok.ensures.pages c.size.result (asked g (goal.at.returns-in_err-take_loose g c).In-Ok) c.in-Some.size c.in-Some.is (sym c.if-passes_live_pages.ensures)))
 
 -- as many frames were taken as the segment has pages
-taken_many : (g : Over) (c : In-Ok-take_loose g) → length c.take_loose.new.self.loose ≡ c.in-Some.size
-taken_many g c = ap (λ (s : Store). length s.loose) c.in-Ok-take_loose.ensures.ok ∙ length-replicate c.in-Some.size (zeros c.self.inside.store.page_bytes)
+taken_many : (g : Over) (c : In_ok-take_loose g) → length c.take_loose.new.self.loose ≡ c.in-Some.size
+taken_many g c = ap (λ (s : Store). length s.loose) c.in_ok-take_loose.ensures.ok ∙ length-replicate c.in-Some.size (zeros c.self.inside.store.page_bytes)
 
-room : (g : Over) (c : In-Ok-take_loose g) → c.in-Some.size ≤ c.self.inside.store.free
+room : (g : Over) (c : In_ok-take_loose g) → c.in-Some.size ≤ c.self.inside.store.free
 room g c =
     let less : c.in-Some.size ≤ c.args.self.now.store.free = (let e = c.if-lacks_room.ensures.free in grind (arith, nat_tests)) in
     omega (arith, less, ap (λ (p : Manager). p.store.free) c.self.view_is)
 
-enough : (g : Over) (c : In-Ok-take_loose g) → c.in-Some.size ≤ room_of (record { store = c.self.inside.store; actors = c.self.inside.contexts })
+enough : (g : Over) (c : In_ok-take_loose g) → c.in-Some.size ≤ room_of (record { store = c.self.inside.store; actors = c.self.inside.contexts })
 enough g c =
     let less : c.in-Some.size ≤ room_of c.args.self.now = (let e = c.if-lacks_room.ensures.room in grind (arith, nat_tests)) in
     omega (arith, less, ap room_of c.self.view_is)
@@ -106,7 +108,7 @@ enough g c =
 pub pull_loose-requires-clause-there : goal.pull_loose-requires-clause-there
 pull_loose-requires-clause-there g c =
     sized_pages (g.M.Mapper.held c.args.mapper.now) (g.M.Mapper.held c.size.new.self) c.args.seg.0 (length c.take_loose.new.self.loose) c.in-Ok.size c.size.ensures.held
-    (ap (λ n. Some n) (taken_many g (goal.at.pull_loose-requires-clause-there g c).In-Ok-take_loose) ∙ sym c.in-Some.is) c.in-Ok.ensures.pages
+    (ap (λ n. Some n) (taken_many g (goal.at.pull_loose-requires-clause-there g c).In_ok-take_loose) ∙ sym c.in-Some.is) c.in-Ok.ensures.pages
 
 -- What is known of the manager as it was, when all pages were pulled
 record IsFilled (g : Over) (c : In-Ok-pull_loose g) : Type 0 where
@@ -126,7 +128,7 @@ all_filled : (g : Over) (c : In-Ok-pull_loose g) → IsFilled g c
 all_filled g c =
     let i = c.self.inside in
     let E = c.in-Ok-pull_loose.ensures in
-    let taken = (goal.at.In-Ok-pull_loose g c).In-Ok-take_loose in
+    let taken = (goal.at.In-Ok-pull_loose g c).In_ok-take_loose in
     let r : Result (Unit {0}) Failed = Ok tt in
     record {
       free = has_named c.args.seg i.store.caches ∙ sym c.if-has.ensures;
@@ -136,14 +138,14 @@ all_filled g c =
       reached = reached_then _ _ _ c.size.result r (reached_one 0 0 _ _ c.size.result c.size.ensures.counts) E.reached.rises E.reached.rose tt;
       pulled = subst (λ (o : Option Held). ArePulled o c.args.seg.0 0 c.pull_loose.new.store.loose) c.size.ensures.held E.pulled;
       many = E.many ∙ taken_many g taken;
-      store = filled i.store c.take_loose.new.self c.pull_loose.new.store c.in-Some.size (room g taken) c.self.invariant.settled c.in-Ok-take_loose.ensures.ok (reloosed g c);
+      store = filled i.store c.take_loose.new.self c.pull_loose.new.store c.in-Some.size (room g taken) c.self.invariant.settled c.in_ok-take_loose.ensures.ok (reloosed g c);
     }
 
 -- no memory was found for the cache, and all is as before
 adopted_back : (g : Over) (c : In-Ok-pull_loose g) (u : Store) → u ≡ record c.pull_loose.new.store { free = c.pull_loose.new.store.free + length c.pull_loose.new.store.loose; loose = [] } → u ≡ c.self.inside.store
 adopted_back g c u is =
-    let taken = (goal.at.In-Ok-pull_loose g c).In-Ok-take_loose in
-    given_up c.self.inside.store c.take_loose.new.self c.pull_loose.new.store c.in-Some.size (room g taken) c.self.invariant.settled c.in-Ok-take_loose.ensures.ok (reloosed g c) u is
+    let taken = (goal.at.In-Ok-pull_loose g c).In_ok-take_loose in
+    given_up c.self.inside.store c.take_loose.new.self c.pull_loose.new.store c.in-Some.size (room g taken) c.self.invariant.settled c.in_ok-take_loose.ensures.ok (reloosed g c) u is
 
 abbrev made : (g : Over) (c : In-Ok-pull_loose g) → Cache
 made g c = record { segment = Some c.args.seg; pages = c.pull_loose.new.store.loose }
@@ -156,7 +158,7 @@ pub invariant_of-self-in-Ok-pull_loose : goal.invariant_of-self-in-Ok-pull_loose
 invariant_of-self-in-Ok-pull_loose g c =
     let i = c.self.inside in
     let x = (goal.at.invariant_of-self-in-Ok-pull_loose g c).In-Ok-pull_loose in
-    let taken = (goal.at.invariant_of-self-in-Ok-pull_loose g c).In-Ok-take_loose in
+    let taken = (goal.at.invariant_of-self-in-Ok-pull_loose g c).In_ok-take_loose in
     let F = all_filled g x in
     let E = c.in-Ok-pull_loose.ensures in
     let r : Result (Unit {0}) Failed = Ok tt in
@@ -174,7 +176,7 @@ returns-after-adopt g c =
     let i = c.self.inside in
     let p = c.args.self.now in
     let x = (goal.at.returns-after-adopt g c).In-Ok-pull_loose in
-    let taken = (goal.at.returns-after-adopt g c).In-Ok-take_loose in
+    let taken = (goal.at.returns-after-adopt g c).In_ok-take_loose in
     let F = all_filled g x in
     let E = c.in-Ok-pull_loose.ensures in
     let r : Result (Unit {0}) Failed = Ok tt in
@@ -201,27 +203,27 @@ returns-after-adopt g c =
     ]
 
 -- where the mapper failed all is as before
-failed_back : (g : Over) (c : In-Err-pull_loose g) (u : Store) → u ≡ record c.pull_loose.new.store { free = c.pull_loose.new.store.free + length c.pull_loose.new.store.loose; loose = [] } → u ≡ c.self.inside.store
+failed_back : (g : Over) (c : In-Err g) (u : Store) → u ≡ record c.pull_loose.new.store { free = c.pull_loose.new.store.free + length c.pull_loose.new.store.loose; loose = [] } → u ≡ c.self.inside.store
 failed_back g c u is =
-    let taken = (goal.at.In-Err-pull_loose g c).In-Ok-take_loose in
-    let E = c.in-Err-pull_loose.ensures in
+    let taken = (goal.at.In-Err g c).In_ok-take_loose in
+    let E = c.in-Err.ensures in
     let R : IsReloosed c.take_loose.new.self c.pull_loose.new.store = record { many = E.many; loose = E.loose; whole = E.whole } in
-    given_up c.self.inside.store c.take_loose.new.self c.pull_loose.new.store c.in-Some.size (room g taken) c.self.invariant.settled c.in-Ok-take_loose.ensures.ok R u is
+    given_up c.self.inside.store c.take_loose.new.self c.pull_loose.new.store c.in-Some.size (room g taken) c.self.invariant.settled c.in_ok-take_loose.ensures.ok R u is
 
-pub invariant_of-self-in-Err-pull_loose : goal.invariant_of-self-in-Err-pull_loose
-invariant_of-self-in-Err-pull_loose g c =
+pub invariant_of-self-in-Err : goal.invariant_of-self-in-Err
+invariant_of-self-in-Err g c =
     let i = c.self.inside in
-    let x = (goal.at.invariant_of-self-in-Err-pull_loose g c).In-Err-pull_loose in
+    let x = (goal.at.invariant_of-self-in-Err g c).In-Err in
     subst (λ (s : Store). IsManagerSound s i.contexts i.actors) (sym (failed_back g x c.drop_loose.new.self c.drop_loose.ensures)) c.self.invariant
 
-pub returns-in-Err-pull_loose : goal.returns-in-Err-pull_loose
-returns-in-Err-pull_loose g c =
+pub returns-in-Err : goal.returns-in-Err
+returns-in-Err g c =
     let i = c.self.inside in
     let p = c.args.self.now in
-    let E = c.in-Err-pull_loose.ensures in
-    let back = failed_back g (goal.at.returns-in-Err-pull_loose g c).In-Err-pull_loose c.drop_loose.new.self c.drop_loose.ensures in
+    let E = c.in-Err.ensures in
+    let back = failed_back g (goal.at.returns-in-Err g c).In-Err c.drop_loose.new.self c.drop_loose.ensures in
     let same : (let q : Manager = record { store = c.drop_loose.new.self; actors = i.contexts } in q) ≡ p = ap (λ (s : Store). let q : Manager = record { store = s; actors = i.contexts } in q) back ∙ c.self.view_is in
-    let r : Result (Unit {0}) Failed = Err c.in-Err-pull_loose.field-0 in
+    let r : Result (Unit {0}) Failed = Err c.in-Err.field-0 in
     let R = reached_then _ _ _ c.size.result r (reached_one 0 0 _ _ c.size.result c.size.ensures.counts) E.reached.rises E.reached.rose E.reached.failed in
     subst (λ (q : Manager). MapperCall g.M.Mapper flat c.args.mapper.now p (commands.OpenSegment c.args.seg) (Err (troubles.Mapper faults.Opening)) c.pull_loose.new.mapper q) (sym same)
     (open_failed g.M.Mapper c.args.mapper.now c.pull_loose.new.mapper p c.args.seg c.requires.valid (named_is _ p c.self.view_is c.args.seg false c.if-has.ensures) (sym c.if-has_made_all.ensures)

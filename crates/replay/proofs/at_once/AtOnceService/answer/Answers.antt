@@ -1,12 +1,14 @@
+use Rattle.std.proofs.result.Match.{err_is}
 use Rattle.replay.proofs.Answered.{of_line, refused}
 use Rattle.replay.proofs.at_once.AtOnceService.answer.Goals as goal
 
-pub returns-in-Ok-clause-answered : goal.returns-in-Ok-clause-answered
-returns-in-Ok-clause-answered g c =
+pub returns-clause-answered : goal.returns-clause-answered
+returns-clause-answered g c =
     let A = g.A.Answerer in
-    of_line A.meaning (A.read c.args.line.now) c.in-Ok.command _ _ _ _ _ c.in-Ok.ensures.command c.answer_command.ensures.answered
+    of_line A.meaning (A.read c.args.line.now) c.in_ok-command.command _ _ _ _ _ c.in_ok-command.ensures.command c.answer_command.ensures.answered
 
-pub returns-in-Err-clause-answered : goal.returns-in-Err-clause-answered
-returns-in-Err-clause-answered g c =
+pub returns-in_err-command-clause-answered : goal.returns-in_err-command-clause-answered
+returns-in_err-command-clause-answered g c =
     let A = g.A.Answerer in
-    refused A.meaning (A.read c.args.line.now) c.in-Err.refusal _ _ c.in-Err.ensures.command
+    rw (err_is c.from_residual.result _ c.from_residual.ensures.1)
+    (refused A.meaning (A.read c.args.line.now) c.in_err-command.field-0.0 _ _ c.in_err-command.ensures.command)

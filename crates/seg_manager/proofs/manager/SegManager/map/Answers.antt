@@ -5,9 +5,10 @@ use Rattle.seg_manager.specs.Inner.{place_from}
 use Rattle.seg_manager.proofs.Adding.{lacks_map, map_done, map_refused}
 use Rattle.seg_manager.proofs.manager.SegManager.map.Goals as goal
 
-pub returns-in-Err : goal.returns-in-Err
-returns-in-Err g c = λ mapper can.
-    lacks_map g.M.Mapper g.G.Gmi c.args.self.now mapper can c.args.actor c.args.mapping (record c.args.self.now { regions = c.reserve.new.self }) refl c.reserve.ensures.items
+pub returns-in_err-reserve : goal.returns-in_err-reserve
+returns-in_err-reserve g c = λ mapper can.
+    rw (err_is c.from_residual.result _ c.from_residual.ensures.1)
+    (lacks_map g.M.Mapper g.G.Gmi c.args.self.now mapper can c.args.actor c.args.mapping (record c.args.self.now { regions = c.reserve.new.self }) refl c.reserve.ensures.items)
 
 pub returns : goal.returns
 returns g c = λ mapper can.
@@ -20,7 +21,7 @@ returns g c = λ mapper can.
 
 pub returns-in_err-region : goal.returns-in_err-region
 returns-in_err-region g c = λ mapper can.
-    rw (err_is c.from_residual.result _ c.from_residual.ensures.1)
+    rw (err_is c.from_residual-in_err-region.result _ c.from_residual-in_err-region.ensures.1)
     (map_refused g.M.Mapper g.G.Gmi c.args.self.now mapper can c.args.actor c.args.mapping
     (record c.args.mapping { extent = record c.args.mapping.extent { cache = c.shown-cache.result } }) (λ i. record c.args.mapping { extent = record c.args.mapping.extent { cache = c.shown-cache.ensures i } })
     c.map.new.self (record c.args.self.now { gmi = c.map.new.self; regions = c.reserve.new.self }) refl c.in_err-region.field-0.0 c.in_err-region.ensures c.reserve.ensures.items)

@@ -1,8 +1,10 @@
+use Rattle.std.proofs.result.Match.{err_is}
 use Rattle.transit_ipc.proofs.Answered.{made_call}
 use Rattle.transit_ipc.proofs.ports.Ports.call.Goals as goal
 
-pub returns-in-Ok : goal.returns-in-Ok
-returns-in-Ok g c = rw c.in-Port.is (made_call g.M.Mapper g.G.Gmi c.args.mapper.now c.args.self.now _ _ _ c.requires.can c.in-Ok.ensures)
+pub returns-in_ok-port-in-Port : goal.returns-in_ok-port-in-Port
+returns-in_ok-port-in-Port g c = rw c.in-Port.is (made_call g.M.Mapper g.G.Gmi c.args.mapper.now c.args.self.now _ _ _ c.requires.can c.in_ok-port-in-Port.ensures)
 
-pub returns-in-Err : goal.returns-in-Err
-returns-in-Err g c = rw c.in-Port.is (made_call g.M.Mapper g.G.Gmi c.args.mapper.now c.args.self.now _ _ _ c.requires.can c.in-Err.ensures)
+pub returns-in_err-port-in-Port : goal.returns-in_err-port-in-Port
+returns-in_err-port-in-Port g c =
+    rw c.in-Port.is (rw (err_is c.from_residual.result _ c.from_residual.ensures.1) (made_call g.M.Mapper g.G.Gmi c.args.mapper.now c.args.self.now _ _ _ c.requires.can c.in_err-port-in-Port.ensures))
