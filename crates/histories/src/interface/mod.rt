@@ -8,7 +8,7 @@ ghost use Rattle.vm_model.specs.Machine.{live_pages};
 ghost use Rattle.gmi_calls.specs.Calling.{Fits};
 
 mod accesses;
-mod regions;
+mod mapped;
 mod segments;
 
 use gmi_calls::{Gmi, answer};
