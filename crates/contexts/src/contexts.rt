@@ -210,10 +210,7 @@ impl Contexts {
         if self.regions_made() >= MOST_MADE {
             return Err(Trouble::Refused(Refusal::TooMany));
         }
-        match self.cut(region, status, pages) {
-            Ok(fresh) => Ok(fresh),
-            Err(NoMemory) => Err(Trouble::Memory),
-        }
+        Ok(self.cut(region, status, pages)?)
     }
 
     // The same, where nothing refuses it and this is told of the region.

@@ -8,7 +8,7 @@ ghost use Rattle.flat_mm.specs.Manager.{IsValid, flat, machine_in, room_of};
 use crate::FlatMm;
 use crate::pulling::pull_loose;
 use vm_ids::{
-    CacheId, ChainList, Command, Counts, FaultAt, NoMemory, PageNo, Refusal, Reply, SegId, Trouble,
+    CacheId, ChainList, Command, Counts, FaultAt, PageNo, Refusal, Reply, SegId, Trouble,
 };
 use vm_model::{LIVE_PAGES, MOST_MADE};
 use vm_port::Mapper;
@@ -53,10 +53,7 @@ impl FlatMm {
         if self.lacks_room(pages) {
             return Err(Trouble::Refused(Refusal::Full));
         }
-        match self.store.make(pages) {
-            Ok(cache) => Ok(cache),
-            Err(NoMemory) => Err(Trouble::Memory),
-        }
+        Ok(self.store.make(pages)?)
     }
 
     /// Makes a cache that a segment names, with the segment's pages. Refused as `SegmentInUse`,
@@ -92,10 +89,7 @@ impl FlatMm {
         }
         self.store.take_loose(size)?;
         match pull_loose(&mut self.store, seg, PageNo(0), mapper) {
-            Ok(()) => match self.store.adopt(Some(seg)) {
-                Ok(cache) => Ok(cache),
-                Err(NoMemory) => Err(Trouble::Memory),
-            },
+            Ok(()) => Ok(self.store.adopt(Some(seg))?),
             Err(_) => {
                 self.store.drop_loose();
                 Err(Trouble::Mapper(FaultAt::Opening))
@@ -139,10 +133,7 @@ impl FlatMm {
         if is_past {
             return Err(Trouble::Refused(Refusal::OutOfCache));
         }
-        match self.store.own_chain(cache, page) {
-            Ok(chain) => Ok(chain),
-            Err(NoMemory) => Err(Trouble::Memory),
-        }
+        Ok(self.store.own_chain(cache, page)?)
     }
 
     /// The live pages; no working node, and no page copied by a forest.

@@ -5,9 +5,7 @@ ghost use Rattle.gmi_calls.specs.Calling.{AnswersWithin, CallDone, done_by};
 ghost use Rattle.flat_mm.specs.Manager.{flat};
 
 use crate::FlatMm;
-use vm_ids::{
-    ActorId, Command, Mapping, NoMemory, Prot, Refusal, RegionId, RegionStatus, Reply, Trouble,
-};
+use vm_ids::{ActorId, Command, Mapping, Prot, Refusal, RegionId, RegionStatus, Reply, Trouble};
 
 impl FlatMm {
     /// Makes an actor without regions. Refused as `TooMany` exactly where 256 actors are alive or
@@ -43,10 +41,7 @@ impl FlatMm {
         if let Some(refusal) = self.contexts.map_refusal(actor, &mapping, size) {
             return Err(Trouble::Refused(refusal));
         }
-        match self.contexts.map(actor, mapping) {
-            Ok(region) => Ok(region),
-            Err(NoMemory) => Err(Trouble::Memory),
-        }
+        Ok(self.contexts.map(actor, mapping)?)
     }
 
     /// Cuts a region in two: it keeps so many of its pages, the first, and the others become a new

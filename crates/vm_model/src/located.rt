@@ -138,13 +138,9 @@ pub(crate) fn split(tables: &mut Tables, region: RegionId, pages: u32) -> Result
     }
     let number = tables.regions_made + 1;
     let (front, back) = parts_of(tables, located.region, pages, RegionId(number));
-    match divide(&mut tables.actors, &located, front, back) {
-        Ok(()) => {
-            tables.regions_made = number;
-            Ok(RegionId(number))
-        }
-        Err(NoMemory) => Err(Trouble::Memory),
-    }
+    divide(&mut tables.actors, &located, front, back)?;
+    tables.regions_made = number;
+    Ok(RegionId(number))
 }
 
 #[tactic(auto, unfolding(crate::specs::Answering::protect_of, crate::specs::Answering::with_some))]

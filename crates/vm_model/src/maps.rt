@@ -153,10 +153,8 @@ pub(crate) fn map(
         return Err(Trouble::Refused(Refusal::TooMany));
     }
     let number = tables.regions_made + 1;
-    match put_region(tables, actor.0, region_for(number, mapping)) {
-        Ok(()) => Ok(RegionId(number)),
-        Err(NoMemory) => Err(Trouble::Memory),
-    }
+    put_region(tables, actor.0, region_for(number, mapping))?;
+    Ok(RegionId(number))
 }
 
 // The regions but for the one with the number.

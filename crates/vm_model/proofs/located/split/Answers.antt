@@ -1,3 +1,4 @@
+use Rattle.std.proofs.result.Match.{err_is}
 use Rattle.std.proofs.Common.{◌≡◌, ◌∷◌, [], ℕ, ◌+◌, ◌<◌, ◌≤◌, true, false, refl, ap, sym, arith}
 use Rattle.std.specs.Prelude.{nat_le}
 use Rattle.std.proofs.lemmas.Bool.Decides.{nat_tests}
@@ -38,31 +39,31 @@ returns-then-tables-ge-MOST_MADE-clause-outcome c = λ h.
 pub parts_of-requires-clause-placed : goal.parts_of-requires-clause-placed
 parts_of-requires-clause-placed c = located_placed c.args.region.0 c.args.tables.now c.in-Some.located c.in-Some.ensures c.requires
 
-pub returns-in-Err-clause-outcome : goal.returns-in-Err-clause-outcome
+pub returns-in_err-divide-clause-outcome : goal.returns-in_err-divide-clause-outcome
 unfolding split_of with_some unless
-returns-in-Err-clause-outcome c = λ h.
+returns-in_err-divide-clause-outcome c = λ h.
     let t = c.args.tables.now in
     let l = c.in-Some.located in
     let there = with_is c.args.region.0 t.actors.items l c.in-Some.ensures in
     let inside = fewer l.region.pages c.args.pages c.if-located-pages.false in
     let few = fewer MOST_MADE t.regions_made c.if-tables-ge-MOST_MADE.false in
-    (ap (λ xs. record (machine_seen t) { actors = xs }) c.in-Err.ensures.err, tt, rw (there, inside, few) tt)
+    rw (err_is c.from_residual.result _ c.from_residual.ensures.1) (ap (λ xs. record (machine_seen t) { actors = xs }) c.in_err-divide.ensures.err, tt, rw (there, inside, few) tt)
 
-pub returns-in-Err-clause-sound : goal.returns-in-Err-clause-sound
-returns-in-Err-clause-sound c = sound_kept c.args.tables.now c.divide.new.actors c.in-Err.ensures.err (c.in-Err.ensures.placed _ _ c.requires.placed) c.requires
+pub returns-in_err-divide-clause-sound : goal.returns-in_err-divide-clause-sound
+returns-in_err-divide-clause-sound c = sound_kept c.args.tables.now c.divide.new.actors c.in_err-divide.ensures.err (c.in_err-divide.ensures.placed _ _ c.requires.placed) c.requires
 
-pub returns-in-Ok-clause-sound : goal.returns-in-Ok-clause-sound
-returns-in-Ok-clause-sound c =
+pub returns-clause-sound : goal.returns-clause-sound
+returns-clause-sound c =
     let t = c.args.tables.now in
     let front = c.parts_of.result.0 in
     let back = c.parts_of.result.1 in
     let P = IsPlaced t.page_bytes t.caches.items in
-    sound_replaced c.args.region.0 t c.in-Some.located c.in-Some.ensures c.requires (front ∷ back ∷ []) c.divide.new.actors (t.regions_made + 1) c.in-Ok.ensures.ok
+    sound_replaced c.args.region.0 t c.in-Some.located c.in-Some.ensures c.requires (front ∷ back ∷ []) c.divide.new.actors (t.regions_made + 1) c.in_ok-divide.ensures.ok
     (All-cons P front (back ∷ []) c.parts_of.ensures.front (All-cons P back [] c.parts_of.ensures.back (All-nil P)))
 
-pub returns-in-Ok-clause-outcome : goal.returns-in-Ok-clause-outcome
+pub returns-clause-outcome : goal.returns-clause-outcome
 unfolding split_of with_some unless
-returns-in-Ok-clause-outcome c = λ h.
+returns-clause-outcome c = λ h.
     let t = c.args.tables.now in
     let n = c.args.region.0 in
     let l = c.in-Some.located in
@@ -73,5 +74,5 @@ returns-in-Ok-clause-outcome c = λ h.
     let inside = fewer l.region.pages c.args.pages c.if-located-pages.false in
     let few = fewer MOST_MADE t.regions_made c.if-tables-ge-MOST_MADE.false in
     let fresh = t.regions_made + 1 in
-    let next = seen_replaced n t l here c.requires (front ∷ back ∷ []) c.divide.new.actors fresh c.in-Ok.ensures.ok (split_at t.page_bytes c.args.pages fresh) (sym c.parts_of.ensures.parts) in
+    let next = seen_replaced n t l here c.requires (front ∷ back ∷ []) c.divide.new.actors fresh c.in_ok-divide.ensures.ok (split_at t.page_bytes c.args.pages fresh) (sym c.parts_of.ensures.parts) in
     rw (there, inside, few) (ap (reply (replies.Region (record { 0 = fresh }))) (sym next))

@@ -1,3 +1,4 @@
+use Rattle.std.proofs.result.Match.{err_is}
 use Rattle.std.proofs.Common.{◌≡◌, ◌==◌, ℕ, ◌+◌, ◌*◌, ◌%◌, ◌^◌, ◌<◌, ◌≤◌, true, false, List, Option, Some, map, ap, sym, ◌∙◌, arith}
 use Rattle.std.specs.Prelude.{nat_lt, nat_le}
 use Rattle.std.specs.List.{list_any}
@@ -42,8 +43,8 @@ put_region-requires-clause-placed c =
       within = omega (arith, not_past _ _ inside, parts.1, parts.3, length-map k.pages.items (λ v. v.items));
     }
 
-pub returns-in-Ok-clause-outcome : goal.returns-in-Ok-clause-outcome
-returns-in-Ok-clause-outcome c =
+pub returns-clause-outcome : goal.returns-clause-outcome
+returns-clause-outcome c =
     let t = c.args.tables.now in
     let p = c.args.mapping.now in
     let a : Actor = c.in-Some.found.now in
@@ -56,10 +57,10 @@ returns-in-Ok-clause-outcome c =
     let apart : list_any (overlaps t.page_bytes p.address p.extent.pages) (actor_seen a) ≡ false = sym (c.if-overlaps_any.ensures ∙ ap (λ (rs : List Region). list_any (overlaps t.page_bytes p.address p.extent.pages) (map region_seen rs)) c.deref-3.ensures.value) in
     let fewer : nat_le MOST_MADE t.regions_made ≡ false = not_yet MOST_MADE t.regions_made c.if-tables-ge-MOST_MADE.false in
     let row = map_row t c.args.actor.0 p a k here there aligned below inside apart fewer in
-    λ h. row ∙ ap (reply (replies.Region (record { 0 = t.regions_made + 1 }))) (sym (c.in-Ok.ensures.ok ∙ seen_added t c.args.actor.0 p a c.region_for.result here c.region_for.ensures.region))
+    λ h. row ∙ ap (reply (replies.Region (record { 0 = t.regions_made + 1 }))) (sym (c.in_ok-put_region.ensures.ok ∙ seen_added t c.args.actor.0 p a c.region_for.result here c.region_for.ensures.region))
 
-pub returns-in-Err-clause-outcome : goal.returns-in-Err-clause-outcome
-returns-in-Err-clause-outcome c =
+pub returns-in_err-put_region-clause-outcome : goal.returns-in_err-put_region-clause-outcome
+returns-in_err-put_region-clause-outcome c =
     let t = c.args.tables.now in
     let p = c.args.mapping.now in
     let a : Actor = c.in-Some.found.now in
@@ -72,4 +73,4 @@ returns-in-Err-clause-outcome c =
     let apart : list_any (overlaps t.page_bytes p.address p.extent.pages) (actor_seen a) ≡ false = sym (c.if-overlaps_any.ensures ∙ ap (λ (rs : List Region). list_any (overlaps t.page_bytes p.address p.extent.pages) (map region_seen rs)) c.deref-3.ensures.value) in
     let fewer : nat_le MOST_MADE t.regions_made ≡ false = not_yet MOST_MADE t.regions_made c.if-tables-ge-MOST_MADE.false in
     let row = map_row t c.args.actor.0 p a k here there aligned below inside apart fewer in
-    λ h. (c.in-Err.ensures.err, tt, rw row tt)
+    λ h. rw (err_is c.from_residual.result _ c.from_residual.ensures.1) (c.in_err-put_region.ensures.err, tt, rw row tt)

@@ -43,12 +43,12 @@ returns-then-regions_made-ge-MOST_MADE-clause-made c = λ none.
     let e = sym (too_many c.args.self.now c.args.region.0 c.args.pages c.in-Some.status (sym c.status.ensures ∙ c.in-Some.is) c.if-status-pages.false many) ∙ none in
     absurd (cc e)
 
-pub returns-in-Ok-clause-refused : goal.returns-in-Ok-clause-refused
-returns-in-Ok-clause-refused c =
+pub returns-clause-refused : goal.returns-clause-refused
+returns-clause-refused c =
     let few : c.args.self.now.regions_made < MOST_MADE = omega (arith, c.if-regions_made-ge-MOST_MADE.false, c.regions_made.ensures.made) in
     not_refused _ _ (no_refusal c.args.self.now c.args.region.0 c.args.pages c.in-Some.status (sym c.status.ensures ∙ c.in-Some.is) c.if-status-pages.false few)
 
-pub returns-in-Err-clause-refused : goal.returns-in-Err-clause-refused
-returns-in-Err-clause-refused c =
+pub returns-in_err-cut-clause-refused : goal.returns-in_err-cut-clause-refused
+returns-in_err-cut-clause-refused c =
     let few : c.args.self.now.regions_made < MOST_MADE = omega (arith, c.if-regions_made-ge-MOST_MADE.false, c.regions_made.ensures.made) in
     not_refused _ _ (no_refusal c.args.self.now c.args.region.0 c.args.pages c.in-Some.status (sym c.status.ensures ∙ c.in-Some.is) c.if-status-pages.false few)

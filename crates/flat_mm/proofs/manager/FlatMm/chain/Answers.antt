@@ -1,3 +1,4 @@
+use Rattle.std.proofs.result.Match.{err_is}
 use Rattle.std.proofs.Common.{◌≡◌, Ok, Err, Some, ap, List, arith, length, refl, subst, sym, ◌∙◌}
 use Rattle.vm_ids.specs.declared.chain.ChainItem.{ChainItem}
 use Rattle.vm_ids.specs.declared.command.Command.TheVariants as commands
@@ -33,19 +34,20 @@ returns-then-is_past c =
     told i.store i.contexts i.actors c.self.invariant c.args.self.now c.self.view_is (commands.Chain c.args.cache c.args.page) (record { reaches = refl; needs = λ m next. refl; said = λ m h a. tt }) (Err (troubles.Refused refusals.OutOfCache))
     (λ h. chain_past (machine_in old) c.args.cache c.args.page.0 at.0 at.1 (omega (arith, at.2, c.if-is_past.true)))
 
-pub returns-in-Ok : goal.returns-in-Ok
-returns-in-Ok c =
+pub returns : goal.returns
+returns c =
     let i = c.self.inside in
     let old : Manager = record { store = i.store; actors = i.contexts } in
-    let at = there (goal.at.returns-in-Ok c).In-Some in
-    told i.store i.contexts i.actors c.self.invariant c.args.self.now c.self.view_is (commands.Chain c.args.cache c.args.page) (record { reaches = refl; needs = λ m next. refl; said = λ m h a. tt }) (Ok (replies.Chain c.in-Ok.chain))
-    (λ h. chain_row (machine_in old) c.args.cache c.args.page.0 at.0 at.1 (omega (arith, at.2, c.if-is_past.false)) ∙ ap (λ (k : List ChainItem). reply (replies.Chain k) (machine_in old)) (sym c.in-Ok.ensures))
+    let at = there (goal.at.returns c).In-Some in
+    told i.store i.contexts i.actors c.self.invariant c.args.self.now c.self.view_is (commands.Chain c.args.cache c.args.page) (record { reaches = refl; needs = λ m next. refl; said = λ m h a. tt }) (Ok (replies.Chain c.in_ok-own_chain.field-0))
+    (λ h. chain_row (machine_in old) c.args.cache c.args.page.0 at.0 at.1 (omega (arith, at.2, c.if-is_past.false)) ∙ ap (λ (k : List ChainItem). reply (replies.Chain k) (machine_in old)) (sym c.in_ok-own_chain.ensures))
 
-pub returns-in-Err : goal.returns-in-Err
-returns-in-Err c =
+pub returns-in_err-own_chain : goal.returns-in_err-own_chain
+returns-in_err-own_chain c =
     let i = c.self.inside in
     let old : Manager = record { store = i.store; actors = i.contexts } in
-    let at = there (goal.at.returns-in-Err c).In-Some in
+    let at = there (goal.at.returns-in_err-own_chain c).In-Some in
     let row = chain_row (machine_in old) c.args.cache c.args.page.0 at.0 at.1 (omega (arith, at.2, c.if-is_past.false)) in
-    told i.store i.contexts i.actors c.self.invariant c.args.self.now c.self.view_is (commands.Chain c.args.cache c.args.page) (record { reaches = refl; needs = λ m next. refl; said = λ m h a. tt }) (Err troubles.Memory)
-    (λ h. (refl, tt, subst (λ (a : Answered). IsNotRefused a.answer) (sym row) tt))
+    rw (err_is c.from_residual.result _ c.from_residual.ensures.1)
+    (told i.store i.contexts i.actors c.self.invariant c.args.self.now c.self.view_is (commands.Chain c.args.cache c.args.page) (record { reaches = refl; needs = λ m next. refl; said = λ m h a. tt }) (Err troubles.Memory)
+    (λ h. (refl, tt, subst (λ (a : Answered). IsNotRefused a.answer) (sym row) tt)))

@@ -1,3 +1,4 @@
+use Rattle.std.proofs.result.Match.{err_is}
 use Rattle.std.proofs.Common.{◌≡◌, ◌+◌, ◌<◌, ◌≤◌, Err, ap, arith, length, refl, subst, sym, ◌∙◌, false}
 use Rattle.std.specs.Prelude.{nat_le, nat_lt, Result}
 use Rattle.std.proofs.lemmas.Bool.Decides.{nat_tests}
@@ -14,7 +15,7 @@ use Rattle.gmi_calls.specs.Calling.{CallDone}
 use Rattle.flat_mm.specs.Manager.{Manager, flat, machine_in, room_of}
 use Rattle.flat_mm.proofs.Acting.{stayed}
 use Rattle.flat_mm.proofs.Making.{few_made, made_call, made_sound, temp_full, temp_large, temp_lacks, temp_many}
-use Rattle.flat_mm.proofs.manager.FlatMm.make_temp.Goals.{Else-has_made_all, Else-lacks_room, Else-passes_live_pages, Joined-make, in-Ok, in-Err}
+use Rattle.flat_mm.proofs.manager.FlatMm.make_temp.Goals.{Else-has_made_all, Else-lacks_room, Else-passes_live_pages}
 use Rattle.flat_mm.proofs.manager.FlatMm.make_temp.Goals as goal
 
 pub returns-then-has_made_all : goal.returns-then-has_made_all
@@ -74,15 +75,24 @@ invariant_of-self c =
     made_sound i.store c.make.new.self i.contexts i.actors c.self.invariant c.args.pages c.make.result e.ok e.err e.whole
     (few_made i.store (ap (λ (p : Manager). nat_le MOST_MADE (length (machine_in p).caches)) c.self.view_is ∙ few (goal.at.invariant_of-self c).Else-has_made_all))
 
+pub invariant_of-self-2 : goal.invariant_of-self-2
+invariant_of-self-2 c =
+    let i = c.self.inside in
+    let e = c.make.ensures in
+    made_sound i.store c.make.new.self i.contexts i.actors c.self.invariant c.args.pages c.make.result e.ok e.err e.whole
+    (few_made i.store (ap (λ (p : Manager). nat_le MOST_MADE (length (machine_in p).caches)) c.self.view_is ∙ few (goal.at.invariant_of-self-2 c).Else-has_made_all))
+
 pub returns : goal.returns
 returns c =
     let i = c.self.inside in
-    let at : Result CacheId Trouble → Type 0 = λ r. CallDone flat c.args.self.now (commands.MakeTemp c.args.pages) (answer_by replies.Cache r) (record { store = c.make.new.self; actors = i.contexts }) in
     let many = few (goal.at.returns c).Else-has_made_all in
     let large = small (goal.at.returns c).Else-passes_live_pages in
-    elim c.match-make.branch [
-      | in-Ok w ↦ subst at (sym w.result-is)
-          (made_call i.store c.make.new.self i.contexts i.actors c.self.invariant c.args.self.now c.self.view_is c.args.pages w.in-Ok.cache w.in-Ok.ensures.number w.in-Ok.ensures.ok w.in-Ok.ensures.whole many large (enough (goal.at.returns c).Else-lacks_room))
-      | in-Err w ↦ subst at (sym w.result-is)
-          (temp_lacks i.store c.make.new.self i.contexts i.actors c.self.invariant c.args.self.now c.self.view_is c.args.pages w.in-Err.ensures.err many large)
-    ]
+    made_call i.store c.make.new.self i.contexts i.actors c.self.invariant c.args.self.now c.self.view_is c.args.pages c.in_ok-make.field-0 c.in_ok-make.ensures.number c.in_ok-make.ensures.ok c.in_ok-make.ensures.whole many large (enough (goal.at.returns c).Else-lacks_room)
+
+pub returns-in_err-make : goal.returns-in_err-make
+returns-in_err-make c =
+    let i = c.self.inside in
+    let many = few (goal.at.returns-in_err-make c).Else-has_made_all in
+    let large = small (goal.at.returns-in_err-make c).Else-passes_live_pages in
+    rw (err_is c.from_residual.result _ c.from_residual.ensures.1)
+    (temp_lacks i.store c.make.new.self i.contexts i.actors c.self.invariant c.args.self.now c.self.view_is c.args.pages c.in_err-make.ensures.err many large)

@@ -7,15 +7,12 @@ use Rattle.std.proofs.lemmas.Bool.Decides.{nat_tests}
 use Rattle.std.proofs.lemmas.List.{length-replicate}
 use Rattle.vm_ids.specs.Held.{Held}
 use Rattle.vm_ids.specs.declared.command.Command.TheVariants as commands
-use Rattle.vm_ids.specs.declared.numbers.CacheId.{CacheId}
 use Rattle.vm_ids.specs.declared.numbers.SegId.{SegId}
 use Rattle.vm_ids.specs.declared.refusal.Refusal.TheVariants as refusals
 use Rattle.vm_ids.specs.declared.reply.FaultAt.TheVariants as faults
 use Rattle.vm_ids.specs.declared.reply.Reply.TheVariants as replies
-use Rattle.vm_ids.specs.declared.reply.Trouble.{Trouble}
 use Rattle.vm_ids.specs.declared.reply.Trouble.TheVariants as troubles
 use Rattle.vm_model.specs.declared.limits.TheConstants.{LIVE_PAGES, MOST_MADE}
-use Rattle.vm_model.specs.Answering.{answer_by}
 use Rattle.vm_model.specs.Machine.{cache_named, live_pages}
 use Rattle.vm_port.specs.declared.traits.failed.Failed.{Failed}
 use Rattle.gmi_calls.specs.Calling.{MapperCall}
@@ -29,7 +26,7 @@ use Rattle.flat_mm.proofs.Extents.{refused_call}
 use Rattle.flat_mm.proofs.Filling.{IsReloosed, filled, given_up}
 use Rattle.flat_mm.proofs.Opening.{adopt_call, adopt_lacks, adopt_sound, has_named, open_absent, open_failed, open_full, open_lacks, open_many, open_passes, open_used}
 use Rattle.flat_mm.proofs.manager.FlatMm.open_segment.Given.{Over}
-use Rattle.flat_mm.proofs.manager.FlatMm.open_segment.Goals.{Else-has, In-Err, In-Ok, In-Ok-pull_loose, In_ok-take_loose, in-Err-adopt, in-Ok-adopt}
+use Rattle.flat_mm.proofs.manager.FlatMm.open_segment.Goals.{Else-has, In-Err, In-Ok, In-Ok-pull_loose, In_ok-take_loose}
 use Rattle.flat_mm.proofs.manager.FlatMm.open_segment.Goals as goal
 
 named_is : (p q : Manager) → p ≡ q → (seg : SegId) (b : Bool) → b ≡ list_any (is_of seg) p.store.caches → is_some (cache_named (machine_in q).caches seg.0) ≡ b
@@ -162,45 +159,51 @@ invariant_of-self-in-Ok-pull_loose g c =
     let F = all_filled g x in
     let E = c.in-Ok-pull_loose.ensures in
     let r : Result (Unit {0}) Failed = Ok tt in
-    elim c.match-adopt.branch [
-      | in-Ok-adopt w ↦ (
-          let is = w.in-Ok-adopt.ensures.ok in
-          adopt_sound g.M.Mapper c.args.mapper.now c.pull_loose.new.mapper (record { store = i.store; actors = i.contexts }) c.args.seg F.valid F.free F.few i.actors c.self.invariant
-          c.in-Ok.size c.in-Ok.ensures.pages c.in-Some.size c.in-Some.is F.small (enough g taken) r (E.held ∙ c.size.ensures.held) F.reached (E.page ∙ c.size.ensures.page) c.pull_loose.new.store.loose F.many F.pulled
-          c.adopt.new.self (adopted_caches g x c.adopt.new.self is) (ap (λ (s : Store). s.frames) is ∙ ap (λ (s : Store). s.frames) F.store) (ap (λ (s : Store). s.page_bytes) is ∙ ap (λ (s : Store). s.page_bytes) F.store) (ap (λ (s : Store). s.loose) is) w.in-Ok-adopt.ensures.whole)
-      | in-Err-adopt w ↦ subst (λ (s : Store). IsManagerSound s i.contexts i.actors) (sym (adopted_back g x c.adopt.new.self w.in-Err-adopt.ensures.err)) c.self.invariant
-    ]
+    let is = c.in_ok-adopt-in-Ok-pull_loose.ensures.ok in
+    adopt_sound g.M.Mapper c.args.mapper.now c.pull_loose.new.mapper (record { store = i.store; actors = i.contexts }) c.args.seg F.valid F.free F.few i.actors c.self.invariant
+    c.in-Ok.size c.in-Ok.ensures.pages c.in-Some.size c.in-Some.is F.small (enough g taken) r (E.held ∙ c.size.ensures.held) F.reached (E.page ∙ c.size.ensures.page) c.pull_loose.new.store.loose F.many F.pulled
+    c.adopt.new.self (adopted_caches g x c.adopt.new.self is) (ap (λ (s : Store). s.frames) is ∙ ap (λ (s : Store). s.frames) F.store) (ap (λ (s : Store). s.page_bytes) is ∙ ap (λ (s : Store). s.page_bytes) F.store) (ap (λ (s : Store). s.loose) is) c.in_ok-adopt-in-Ok-pull_loose.ensures.whole
 
-pub returns-after-adopt : goal.returns-after-adopt
-returns-after-adopt g c =
+pub invariant_of-self-in_err-adopt-in-Ok-pull_loose : goal.invariant_of-self-in_err-adopt-in-Ok-pull_loose
+invariant_of-self-in_err-adopt-in-Ok-pull_loose g c =
     let i = c.self.inside in
-    let p = c.args.self.now in
-    let x = (goal.at.returns-after-adopt g c).In-Ok-pull_loose in
-    let taken = (goal.at.returns-after-adopt g c).In_ok-take_loose in
+    let x = (goal.at.invariant_of-self-in_err-adopt-in-Ok-pull_loose g c).In-Ok-pull_loose in
+    subst (λ (s : Store). IsManagerSound s i.contexts i.actors) (sym (adopted_back g x c.adopt.new.self c.in_err-adopt-in-Ok-pull_loose.ensures.err)) c.self.invariant
+
+pub returns-in_ok-adopt-in-Ok-pull_loose : goal.returns-in_ok-adopt-in-Ok-pull_loose
+returns-in_ok-adopt-in-Ok-pull_loose g c =
+    let i = c.self.inside in
+    let x = (goal.at.returns-in_ok-adopt-in-Ok-pull_loose g c).In-Ok-pull_loose in
+    let taken = (goal.at.returns-in_ok-adopt-in-Ok-pull_loose g c).In_ok-take_loose in
     let F = all_filled g x in
     let E = c.in-Ok-pull_loose.ensures in
     let r : Result (Unit {0}) Failed = Ok tt in
     let old : Manager = record { store = i.store; actors = i.contexts } in
     let new : Manager = record { store = c.adopt.new.self; actors = i.contexts } in
-    let at : Result CacheId Trouble → Type 0 = λ y. MapperCall g.M.Mapper flat c.args.mapper.now p (commands.OpenSegment c.args.seg) (answer_by replies.Cache y) c.pull_loose.new.mapper new in
-    elim c.match-adopt.branch [
-      | in-Ok-adopt w ↦ (
-          let is = w.in-Ok-adopt.ensures.ok in
-          let cache = w.in-Ok-adopt.cache in
-          subst at (sym w.result-is)
-          (subst (λ (q : Manager). MapperCall g.M.Mapper flat c.args.mapper.now q (commands.OpenSegment c.args.seg) (Ok (replies.Cache cache)) c.pull_loose.new.mapper new) c.self.view_is
-          (adopt_call g.M.Mapper c.args.mapper.now c.pull_loose.new.mapper old c.args.seg F.valid F.free F.few i.actors c.self.invariant
-          c.in-Ok.size c.in-Ok.ensures.pages c.in-Some.size c.in-Some.is F.small (enough g taken) r (E.held ∙ c.size.ensures.held) F.reached (E.page ∙ c.size.ensures.page) c.pull_loose.new.store.loose F.many F.pulled
-          c.adopt.new.self (adopted_caches g x c.adopt.new.self is) (ap (λ (s : Store). s.frames) is ∙ ap (λ (s : Store). s.frames) F.store) (ap (λ (s : Store). s.page_bytes) is ∙ ap (λ (s : Store). s.page_bytes) F.store) (ap (λ (s : Store). s.loose) is) w.in-Ok-adopt.ensures.whole
-          cache (w.in-Ok-adopt.ensures.number ∙ ap (λ (s : Store). length s.caches + 1) F.store))))
-      | in-Err-adopt w ↦ (
-          let back = adopted_back g x c.adopt.new.self w.in-Err-adopt.ensures.err in
-          subst at (sym w.result-is)
-          (subst (λ (s : Store). MapperCall g.M.Mapper flat c.args.mapper.now p (commands.OpenSegment c.args.seg) (Err troubles.Memory) c.pull_loose.new.mapper (record { store = s; actors = i.contexts })) (sym back)
-          (subst (λ (q : Manager). MapperCall g.M.Mapper flat c.args.mapper.now q (commands.OpenSegment c.args.seg) (Err troubles.Memory) c.pull_loose.new.mapper old) c.self.view_is
-          (adopt_lacks g.M.Mapper c.args.mapper.now c.pull_loose.new.mapper old c.args.seg F.valid F.free F.few i.actors c.self.invariant
-          c.in-Ok.size c.in-Ok.ensures.pages c.in-Some.size c.in-Some.is F.small (enough g taken) r (E.held ∙ c.size.ensures.held) F.reached (E.page ∙ c.size.ensures.page) c.pull_loose.new.store.loose F.many F.pulled))))
-    ]
+    let is = c.in_ok-adopt-in-Ok-pull_loose.ensures.ok in
+    let cache = c.in_ok-adopt-in-Ok-pull_loose.field-0 in
+    subst (λ (q : Manager). MapperCall g.M.Mapper flat c.args.mapper.now q (commands.OpenSegment c.args.seg) (Ok (replies.Cache cache)) c.pull_loose.new.mapper new) c.self.view_is
+    (adopt_call g.M.Mapper c.args.mapper.now c.pull_loose.new.mapper old c.args.seg F.valid F.free F.few i.actors c.self.invariant
+    c.in-Ok.size c.in-Ok.ensures.pages c.in-Some.size c.in-Some.is F.small (enough g taken) r (E.held ∙ c.size.ensures.held) F.reached (E.page ∙ c.size.ensures.page) c.pull_loose.new.store.loose F.many F.pulled
+    c.adopt.new.self (adopted_caches g x c.adopt.new.self is) (ap (λ (s : Store). s.frames) is ∙ ap (λ (s : Store). s.frames) F.store) (ap (λ (s : Store). s.page_bytes) is ∙ ap (λ (s : Store). s.page_bytes) F.store) (ap (λ (s : Store). s.loose) is) c.in_ok-adopt-in-Ok-pull_loose.ensures.whole
+    cache (c.in_ok-adopt-in-Ok-pull_loose.ensures.number ∙ ap (λ (s : Store). length s.caches + 1) F.store))
+
+pub returns-in_err-adopt-in-Ok-pull_loose : goal.returns-in_err-adopt-in-Ok-pull_loose
+returns-in_err-adopt-in-Ok-pull_loose g c =
+    let i = c.self.inside in
+    let x = (goal.at.returns-in_err-adopt-in-Ok-pull_loose g c).In-Ok-pull_loose in
+    let taken = (goal.at.returns-in_err-adopt-in-Ok-pull_loose g c).In_ok-take_loose in
+    let F = all_filled g x in
+    let E = c.in-Ok-pull_loose.ensures in
+    let r : Result (Unit {0}) Failed = Ok tt in
+    let p = c.args.self.now in
+    let old : Manager = record { store = i.store; actors = i.contexts } in
+    let back = adopted_back g x c.adopt.new.self c.in_err-adopt-in-Ok-pull_loose.ensures.err in
+    rw (err_is c.from_residual-in_err-adopt-in-Ok-pull_loose.result _ c.from_residual-in_err-adopt-in-Ok-pull_loose.ensures.1)
+    (subst (λ (s : Store). MapperCall g.M.Mapper flat c.args.mapper.now p (commands.OpenSegment c.args.seg) (Err troubles.Memory) c.pull_loose.new.mapper (record { store = s; actors = i.contexts })) (sym back)
+    (subst (λ (q : Manager). MapperCall g.M.Mapper flat c.args.mapper.now q (commands.OpenSegment c.args.seg) (Err troubles.Memory) c.pull_loose.new.mapper old) c.self.view_is
+    (adopt_lacks g.M.Mapper c.args.mapper.now c.pull_loose.new.mapper old c.args.seg F.valid F.free F.few i.actors c.self.invariant
+    c.in-Ok.size c.in-Ok.ensures.pages c.in-Some.size c.in-Some.is F.small (enough g taken) r (E.held ∙ c.size.ensures.held) F.reached (E.page ∙ c.size.ensures.page) c.pull_loose.new.store.loose F.many F.pulled)))
 
 -- where the mapper failed all is as before
 failed_back : (g : Over) (c : In-Err g) (u : Store) → u ≡ record c.pull_loose.new.store { free = c.pull_loose.new.store.free + length c.pull_loose.new.store.loose; loose = [] } → u ≡ c.self.inside.store

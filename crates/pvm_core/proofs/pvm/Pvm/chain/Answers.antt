@@ -1,3 +1,4 @@
+use Rattle.std.proofs.result.Match.{err_is}
 use Rattle.std.proofs.Common.{◌+◌, ◌≤◌, List, length, refl, sym, ap, subst, ◌∙◌, arith}
 use Rattle.std.specs.Prelude.{Ok, Err}
 use Rattle.pvm_core.proofs.Answering.Kept.{valid_seen, answer_still}
@@ -32,24 +33,25 @@ returns-then-page-count-clause-answers c = λ h v.
     (λ f s. let k = sized _ c.in-Some.count (shown_size f p.caches.caches c.args.cache.0 ∙ sym c.pages.ensures ∙ c.in-Some.is) in
     chain_out (machine_by p f) (forest_of p h) c.args.cache c.args.page.0 k.0 k.1 (omega (arith, k.2, c.if-page-count.true))))
 
-pub returns-in-Ok-clause-answers : goal.returns-in-Ok-clause-answers
-returns-in-Ok-clause-answers c = λ h v.
+pub returns-clause-answers : goal.returns-clause-answers
+returns-clause-answers c = λ h v.
     let p : Manager = the_view c.self.inside in
-    answer_still h c.self.view_is (seated p p h (commands.Chain c.args.cache c.args.page) (Ok (replies.Chain c.in-Ok.list)) c.self.invariant.sound.nodes c.self.invariant.sound.nodes (valid_seen c.self.view_is v) refl (λ done m f s none. none) refl tt (λ f. refl) (λ page. refl)
+    answer_still h c.self.view_is (seated p p h (commands.Chain c.args.cache c.args.page) (Ok (replies.Chain c.in_ok-chain.field-0)) c.self.invariant.sound.nodes c.self.invariant.sound.nodes (valid_seen c.self.view_is v) refl (λ done m f s none. none) refl tt (λ f. refl) (λ page. refl)
     (λ f s. let k = sized _ c.in-Some.count (shown_size f p.caches.caches c.args.cache.0 ∙ sym c.pages.ensures ∙ c.in-Some.is) in
     chain_row (machine_by p f) (forest_of p h) c.args.cache c.args.page.0 k.0 k.1 (omega (arith, k.2, c.if-page-count.false))
-    ∙ ap (λ (items : List ChainItem). reply (replies.Chain items) (machine_by p f)) (chains_of p h c.self.invariant.sound.nodes _ ∙ ap (chain_of (arena.forest_of p.caches)) (sym c.node_of-node.ensures.name) ∙ sym c.in-Ok.ensures)))
+    ∙ ap (λ (items : List ChainItem). reply (replies.Chain items) (machine_by p f)) (chains_of p h c.self.invariant.sound.nodes _ ∙ ap (chain_of (arena.forest_of p.caches)) (sym c.node_of-node.ensures.name) ∙ sym c.in_ok-chain.ensures)))
 
-pub returns-in-Err-clause-answers : goal.returns-in-Err-clause-answers
-returns-in-Err-clause-answers c = λ h v.
+pub returns-in_err-chain-clause-answers : goal.returns-in_err-chain-clause-answers
+returns-in_err-chain-clause-answers c = λ h v.
     let p : Manager = the_view c.self.inside in
-    answer_still h c.self.view_is (seated p p h (commands.Chain c.args.cache c.args.page) (Err troubles.Memory) c.self.invariant.sound.nodes c.self.invariant.sound.nodes (valid_seen c.self.view_is v) refl (λ done m f s none. none) refl tt (λ f. refl) (λ page. refl)
+    rw (err_is c.from_residual.result _ c.from_residual.ensures.1)
+    (answer_still h c.self.view_is (seated p p h (commands.Chain c.args.cache c.args.page) (Err troubles.Memory) c.self.invariant.sound.nodes c.self.invariant.sound.nodes (valid_seen c.self.view_is v) refl (λ done m f s none. none) refl tt (λ f. refl) (λ page. refl)
     (λ f s. let k = sized _ c.in-Some.count (shown_size f p.caches.caches c.args.cache.0 ∙ sym c.pages.ensures ∙ c.in-Some.is) in
     let row = chain_row (machine_by p f) (forest_of p h) c.args.cache c.args.page.0 k.0 k.1 (omega (arith, k.2, c.if-page-count.false)) in
-    (refl, tt, rw row tt)))
+    (refl, tt, rw row tt))))
 
-pub returns-in-Ok-clause-short : goal.returns-in-Ok-clause-short
-returns-in-Ok-clause-short c =
+pub returns-clause-short : goal.returns-clause-short
+returns-clause-short c =
     let f = arena.forest_of c.self.inside.caches in
-    subst (λ (p : Manager). length c.in-Ok.list ≤ live_count (nodes_of p) + working_count (nodes_of p)) c.self.view_is
-    (subst (λ (xs : List ChainItem). length xs ≤ live_count f + working_count f) (sym c.in-Ok.ensures) (chains_are_short f (name_of c.self.inside.caches c.node_of-node.result)))
+    subst (λ (p : Manager). length c.in_ok-chain.field-0 ≤ live_count (nodes_of p) + working_count (nodes_of p)) c.self.view_is
+    (subst (λ (xs : List ChainItem). length xs ≤ live_count f + working_count f) (sym c.in_ok-chain.ensures) (chains_are_short f (name_of c.self.inside.caches c.node_of-node.result)))

@@ -1,15 +1,12 @@
-use Rattle.std.proofs.Common.{◌≡◌, ℕ, [], Option, length, refl, sym, subst, ap, ◌∙◌}
-use Rattle.std.specs.Prelude.{Ok, Err, Result}
-use Rattle.vm_ids.specs.Counting.{no_counts}
+use Rattle.std.proofs.result.Match.{err_is}
+use Rattle.std.proofs.Common.{◌≡◌, ℕ, Option, length, refl, sym, ap, ◌∙◌}
+use Rattle.std.specs.Prelude.{Ok, Err}
 use Rattle.vm_ids.specs.declared.command.Command.TheVariants as commands
-use Rattle.vm_ids.specs.declared.numbers.RegionId.{RegionId}
 use Rattle.vm_ids.specs.declared.reply.Reply.TheVariants as replies
-use Rattle.vm_ids.specs.declared.reply.Trouble.{Trouble}
 use Rattle.vm_ids.specs.declared.reply.Trouble.TheVariants as troubles
 use Rattle.vm_model.specs.Answering.{answer_by, reply}
 use Rattle.vm_model.specs.Machine.{numbered}
 use Rattle.vm_model.specs.PageForest.{PageForest}
-use Rattle.vm_model.specs.Run.{AnswerIs}
 use Rattle.local_cache.specs.Whole.{size_of}
 use Rattle.contexts.specs.Actors.{Actors, machine_with, next_region, with_region}
 use Rattle.contexts.specs.Maps.{map_refusal}
@@ -17,7 +14,8 @@ use Rattle.contexts.specs.Placed.{AreRight}
 use Rattle.contexts.proofs.Placing.{after_either, next_placed, right_mapped}
 use Rattle.contexts.proofs.RegionRows.{IsMappable, is_mappable, map_refused, map_row, size_in}
 use Rattle.pvm_core.specs.Manager as managers
-use Rattle.pvm_core.specs.Manager.{Manager, caches_shown, machine_of, state_at}
+use Rattle.vm_ids.specs.Held.{Held}
+use Rattle.pvm_core.specs.Manager.{IsManagerRight, IsValid, Manager, caches_shown, machine_of, state_at}
 use Rattle.pvm_core.specs.Locks.{locks_over}
 use Rattle.pvm_core.proofs.Holding.Actors.{over_mapped}
 use Rattle.pvm_core.specs.Translated.{AreTranslationsRight}
@@ -28,7 +26,7 @@ use Rattle.pvm_core.proofs.Answering.Kept.{seated_sound, seated_valid, valid_see
 use Rattle.pvm_core.proofs.Meaning.Shown.{shown_size}
 use Rattle.pvm_core.proofs.Answering.Recorded.{refused_call}
 use Rattle.pvm_core.proofs.pvm.Pvm.map.Goals as goal
-use Rattle.pvm_core.proofs.pvm.Pvm.map.Goals.{in-Ok, in-Err}
+use Rattle.pvm_core.proofs.pvm.Pvm.map.Goals.{After-map}
 
 pub returns-in-Some-clause-call : goal.returns-in-Some-clause-call
 returns-in-Some-clause-call c = refused_call (
@@ -44,8 +42,9 @@ returns-in-Some-clause-call c = refused_call (
     map_refused t x caches (length i.store.frames.held) actor c.in-Some.refusal (numbered t.actors actor) (numbered caches x.extent.cache.0) refl refl
     (ap (λ (q : Option ℕ). map_refusal t (numbered t.actors actor) q x) size ∙ sym c.map_refusal.ensures ∙ c.in-Some.is))))
 
-pub invariant_of-self : goal.invariant_of-self
-invariant_of-self c = record {
+-- with the region, or without it, the manager is right
+right : (c : After-map) → IsManagerRight c.self.inside.caches c.self.inside.store c.map.new.self c.self.inside.live
+right c = record {
   sound = (
       let i = c.self.inside in
       let t : Actors = i.contexts in
@@ -74,17 +73,25 @@ invariant_of-self c = record {
       );
 }
 
+pub invariant_of-self : goal.invariant_of-self
+invariant_of-self c = right (goal.at.invariant_of-self c).After-map
+
+pub invariant_of-self-2 : goal.invariant_of-self-2
+invariant_of-self-2 c = right (goal.at.invariant_of-self-2 c).After-map
+
+-- nothing of the pages changes
+still : (c : After-map) → (h : Option Held) → IsValid c.args.self.now h → IsValid (the_view (record c.self.inside { contexts = c.map.new.self })) h
+still c h v =
+    let i = c.self.inside in
+    let t : Actors = i.contexts in
+    let u : Actors = c.map.new.self in
+    let e = c.map.ensures in
+    let page : u.page_bytes ≡ t.page_bytes = after_either (λ (w : Actors). w.page_bytes ≡ t.page_bytes) t u (with_region t c.args.actor.0 c.args.mapping) c.map.result e.ok e.err refl refl in
+    seated_valid (the_view i) (the_view (record i { contexts = u })) h refl refl page (valid_seen c.self.view_is v)
+
 pub returns-clause-call : goal.returns-clause-call
 returns-clause-call c = record {
-  valid = (
-      λ h v.
-      let i = c.self.inside in
-      let t : Actors = i.contexts in
-      let u : Actors = c.map.new.self in
-      let e = c.map.ensures in
-      let page : u.page_bytes ≡ t.page_bytes = after_either (λ (w : Actors). w.page_bytes ≡ t.page_bytes) t u (with_region t c.args.actor.0 c.args.mapping) c.map.result e.ok e.err refl refl in
-      seated_valid (the_view i) (the_view (record i { contexts = u })) h refl refl page (valid_seen c.self.view_is v)
-      );
+  valid = still (goal.at.returns-clause-call c).After-map;
   answers = (
       λ h v.
       let i = c.self.inside in
@@ -94,7 +101,6 @@ returns-clause-call c = record {
       let q : Manager = the_view (record i { contexts = u }) in
       let x = c.args.mapping in
       let actor = c.args.actor.0 in
-      let e = c.map.ensures in
       let command = commands.Map c.args.actor x in
       let frames = length i.store.frames.held in
       let size : (f : PageForest) → size_in (numbered (caches_shown f 1 i.caches.caches) x.extent.cache.0) ≡ c.pages-count.result
@@ -103,18 +109,39 @@ returns-clause-call c = record {
       = λ f. is_mappable t x (numbered t.actors actor) (size_in (numbered (caches_shown f 1 i.caches.caches) x.extent.cache.0))
       (ap (λ (n : Option ℕ). map_refusal t (numbered t.actors actor) n x) (size f) ∙ sym c.map_refusal.ensures ∙ c.in_default.is) in
       let row = λ (f : PageForest). map_row t x (caches_shown f 1 i.caches.caches) frames actor (k f) in
-      let page : u.page_bytes ≡ t.page_bytes = after_either (λ (w : Actors). w.page_bytes ≡ t.page_bytes) t u (with_region t actor x) c.map.result e.ok e.err refl refl in
-      let valid = seated_valid p q h refl refl page (valid_seen c.self.view_is v) in
-      let at : Result RegionId Trouble → Type 0 = λ r. AnswerIs (state_at p h) command (answer_by replies.Region r) [] no_counts (state_at q h) in
-      answer_seen h c.self.view_is (elim c.match-map.branch [
-        | in-Ok w ↦ subst at (sym w.result-is)
-            (seated p q h command (Ok (replies.Region w.in-Ok.region)) c.self.invariant.sound.nodes c.self.invariant.sound.nodes valid refl (λ done m f s none. none) refl tt (λ f. refl) (λ page. refl)
-            (λ f s. row f ∙ (λ j. reply (replies.Region (record { 0 = sym w.in-Ok.ensures.number j })) (machine_with (caches_shown f 1 i.caches.caches) frames (sym w.in-Ok.ensures.ok j)))))
-        | in-Err w ↦ subst at (sym w.result-is)
-            (seated p q h command (Err troubles.Memory) c.self.invariant.sound.nodes c.self.invariant.sound.nodes valid refl (λ done m f s none. none) refl tt (λ f. refl) (λ page. refl)
-            (λ f s. (ap (machine_with (caches_shown f 1 i.caches.caches) frames) w.in-Err.ensures.err, tt, (let line = row f in rw line tt))))
-      ])
+      let valid = still (goal.at.returns-clause-call c).After-map h v in
+      (answer_seen h c.self.view_is (seated p q h command (Ok (replies.Region c.in_ok-map.field-0)) c.self.invariant.sound.nodes c.self.invariant.sound.nodes valid refl (λ done m f s none. none) refl tt (λ f. refl) (λ page. refl)
+      (λ f s. row f ∙ (λ j. reply (replies.Region (record { 0 = sym c.in_ok-map.ensures.number j })) (machine_with (caches_shown f 1 i.caches.caches) frames (sym c.in_ok-map.ensures.ok j))))))
       );
-  made = λ h v. made_stays (machine_of c.args.self.now h) (commands.Map c.args.actor c.args.mapping) (answer_by replies.Region c.match-map.result) (machine_of (the_view (record c.self.inside { contexts = c.map.new.self })) h) (managers.numbered c.args.self.now) (managers.numbered (the_view (record c.self.inside { contexts = c.map.new.self }))) (ap managers.numbered c.self.view_is);
+  made = λ h v. made_stays (machine_of c.args.self.now h) (commands.Map c.args.actor c.args.mapping) (answer_by replies.Region (Ok c.in_ok-map.field-0)) (machine_of (the_view (record c.self.inside { contexts = c.map.new.self })) h) (managers.numbered c.args.self.now) (managers.numbered (the_view (record c.self.inside { contexts = c.map.new.self }))) (ap managers.numbered c.self.view_is);
+  room = refl;
+}
+
+pub returns-in_err-map-clause-call : goal.returns-in_err-map-clause-call
+returns-in_err-map-clause-call c = record {
+  valid = still (goal.at.returns-in_err-map-clause-call c).After-map;
+  answers = (
+      λ h v.
+      let i = c.self.inside in
+      let t : Actors = i.contexts in
+      let u : Actors = c.map.new.self in
+      let p : Manager = the_view i in
+      let q : Manager = the_view (record i { contexts = u }) in
+      let x = c.args.mapping in
+      let actor = c.args.actor.0 in
+      let command = commands.Map c.args.actor x in
+      let frames = length i.store.frames.held in
+      let size : (f : PageForest) → size_in (numbered (caches_shown f 1 i.caches.caches) x.extent.cache.0) ≡ c.pages-count.result
+      = λ f. shown_size f i.caches.caches x.extent.cache.0 ∙ sym c.pages-count.ensures in
+      let k : (f : PageForest) → IsMappable t (numbered t.actors actor) (size_in (numbered (caches_shown f 1 i.caches.caches) x.extent.cache.0)) x
+      = λ f. is_mappable t x (numbered t.actors actor) (size_in (numbered (caches_shown f 1 i.caches.caches) x.extent.cache.0))
+      (ap (λ (n : Option ℕ). map_refusal t (numbered t.actors actor) n x) (size f) ∙ sym c.map_refusal.ensures ∙ c.in_default.is) in
+      let row = λ (f : PageForest). map_row t x (caches_shown f 1 i.caches.caches) frames actor (k f) in
+      let valid = still (goal.at.returns-in_err-map-clause-call c).After-map h v in
+      rw (err_is c.from_residual.result _ c.from_residual.ensures.1)
+      (answer_seen h c.self.view_is (seated p q h command (Err troubles.Memory) c.self.invariant.sound.nodes c.self.invariant.sound.nodes valid refl (λ done m f s none. none) refl tt (λ f. refl) (λ page. refl)
+      (λ f s. (ap (machine_with (caches_shown f 1 i.caches.caches) frames) c.in_err-map.ensures.err, tt, (let line = row f in rw line tt)))))
+      );
+  made = λ h v. made_stays (machine_of c.args.self.now h) (commands.Map c.args.actor c.args.mapping) (answer_by replies.Region c.from_residual.result) (machine_of (the_view (record c.self.inside { contexts = c.map.new.self })) h) (managers.numbered c.args.self.now) (managers.numbered (the_view (record c.self.inside { contexts = c.map.new.self }))) (ap managers.numbered c.self.view_is);
   room = refl;
 }
