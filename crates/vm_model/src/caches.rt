@@ -68,10 +68,7 @@ pub(crate) fn make_temp(tables: &mut Tables, pages: u32) -> Result<CacheId, Trou
         segment: None,
         pages: pages_made,
     };
-    match add_cache(tables, cache) {
-        Ok(number) => Ok(number),
-        Err(_) => Err(Trouble::Memory),
-    }
+    Ok(add_cache(tables, cache)?)
 }
 
 // Whether the segment names a live cache.
@@ -131,10 +128,7 @@ pub(crate) fn room_for(
     if tables.live as u64 + size as u64 > LIVE_PAGES as u64 {
         return Err(Trouble::Refused(Refusal::TooMany));
     }
-    match zero_pages(tables.alloc, size, tables.page_bytes) {
-        Ok(pages) => Ok(pages),
-        Err(_) => Err(Trouble::Memory),
-    }
+    Ok(zero_pages(tables.alloc, size, tables.page_bytes)?)
 }
 
 #[tactic(auto, unfolding(crate::specs::Answering::open_of, crate::specs::Answering::unless, crate::specs::Answering::with_some))]
@@ -158,10 +152,7 @@ pub(crate) fn open_segment(
         segment: Some(seg),
         pages,
     };
-    match add_cache(tables, cache) {
-        Ok(number) => Ok(number),
-        Err(_) => Err(Trouble::Memory),
-    }
+    Ok(add_cache(tables, cache)?)
 }
 
 // Whether one of these regions maps the cache.

@@ -172,10 +172,7 @@ impl EagerMachine {
         ensures { IfOk result
             (λ v. map (λ p. p.items) v.items ≡ replicate pages (zero_page self.now.page_bytes)) }
     {
-        match caches::zero_pages(self.tables.alloc, pages, self.tables.page_bytes) {
-            Ok(pages) => Ok(pages),
-            Err(_) => Err(NoMemory),
-        }
+        Ok(caches::zero_pages(self.tables.alloc, pages, self.tables.page_bytes)?)
     }
 
     /// The segment whose pages a copy would change, or none where the destination is temporary.

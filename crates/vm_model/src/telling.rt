@@ -89,10 +89,7 @@ pub(crate) fn chain(tables: &Tables, cache: CacheId, page: PageNo) -> Result<Cha
     if passes_end(found, page.0, 1) {
         return Err(Trouble::Refused(Refusal::OutOfCache));
     }
-    match own_chain(tables.alloc, cache, page) {
-        Ok(chain) => Ok(chain),
-        Err(_) => Err(Trouble::Memory),
-    }
+    Ok(own_chain(tables.alloc, cache, page)?)
 }
 
 pub(crate) fn stat(tables: &Tables) -> Counts
