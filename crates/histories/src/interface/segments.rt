@@ -1,13 +1,18 @@
 // A segment, and what becomes of it: what is stored to its cache goes to it by a sync or a flush,
 // and is lost by an invalidation. Pages that are denied, and calls that fail, are told.
-ghost use Rattle.std.specs.Prelude.{◌≡◌, IfOk};
+ghost use Rattle.std.specs.Prelude.{◌≡◌, ◌≤◌, ◌+◌, ◌*◌, ◌^◌, IfOk};
+ghost use Rattle.vm_model.specs.declared.limits.TheConstants.{LIVE_PAGES};
+ghost use Rattle.vm_model.specs.Machine.{live_pages};
+ghost use Rattle.gmi_calls.specs.Calling.{Fits};
 
 use super::{Shown, ask, extent, load, map, store};
+use gmi_calls::Gmi;
 use std::alloc::Global;
+use std::process::Abort;
 use std::test::Fail;
 use vm_ids::{Command, FaultAt, NoMemory, PageNo, Refusal, SegId};
 use vm_model::EagerMachine;
-use vm_port::{CallKind, CallNo, Fifo, MemoryMapper};
+use vm_port::{CallKind, CallNo, Chooser, Fifo, Mapper, MemoryMapper};
 
 // A mapper of a segment of one page, which begins with 41 42. It denies these pages, and fails at
 // these calls.
@@ -20,6 +25,36 @@ fn one_segment(
 {
     let segment = Vec::from_slice(alloc, &[0x41, 0x42])?;
     MemoryMapper::new(alloc, &[segment], denied, 0, fails, 4096)
+}
+
+// The segment is opened, and its page mapped into an actor.
+fn open_and_map<G: Gmi<M, C>, M: Mapper, C: Chooser>(
+    rt: &impl Abort,
+    gmi: &mut G,
+    mapper: &mut M,
+    chooser: &mut C,
+)
+    requires valid { G.valid gmi.old (M.held mapper.old) }
+    requires made { G.made gmi.old ≤ 2 ^ 61 }
+    requires fits { Fits (M.page_bytes mapper.old) (G.machine gmi.old (M.held mapper.old)) }
+    requires live { live_pages (G.machine gmi.old (M.held mapper.old)) ≤ LIVE_PAGES }
+    ensures valid { G.valid gmi.new (M.held mapper.new) }
+    ensures made { G.made gmi.new ≤ G.made gmi.old + 3 * (32 * LIVE_PAGES + 8) }
+    ensures fits { Fits (M.page_bytes mapper.new) (G.machine gmi.new (M.held mapper.new)) }
+    ensures live { live_pages (G.machine gmi.new (M.held mapper.new)) ≤ LIVE_PAGES }
+{
+    assert_eq!(rt;
+        ask(gmi, &Command::MakeActor, mapper, chooser),
+        Shown::Actor(1)
+    );
+    assert_eq!(rt;
+        ask(gmi, &Command::OpenSegment(SegId(1)), mapper, chooser),
+        Shown::Cache(1)
+    );
+    assert_eq!(rt;
+        ask(gmi, &map(0, 0x10000, true), mapper, chooser),
+        Shown::Region(1)
+    );
 }
 
 #[test]
@@ -47,18 +82,7 @@ fn an_invalidation_loses_what_was_stored(rt: HostRuntime) -> Result<(), Fail> {
     let mut gmi = EagerMachine::new(rt.alloc(), 3, 4096);
     let mut mapper = one_segment(rt.alloc(), &[], &[])?;
     let (gmi, mapper, chooser) = (&mut gmi, &mut mapper, &mut Fifo::new());
-    assert_eq!(rt;
-        ask(gmi, &Command::MakeActor, mapper, chooser),
-        Shown::Actor(1)
-    );
-    assert_eq!(rt;
-        ask(gmi, &Command::OpenSegment(SegId(1)), mapper, chooser),
-        Shown::Cache(1)
-    );
-    assert_eq!(rt;
-        ask(gmi, &map(0, 0x10000, true), mapper, chooser),
-        Shown::Region(1)
-    );
+    open_and_map(&rt, gmi, mapper, chooser);
     assert_eq!(rt; ask(gmi, &store(0x10000)?, mapper, chooser), Shown::Done);
     assert_eq!(rt;
         ask(gmi, &Command::Invalidate(extent(1, 1)), mapper, chooser),
@@ -76,18 +100,7 @@ fn a_sync_saves_what_was_stored(rt: HostRuntime) -> Result<(), Fail> {
     let mut gmi = EagerMachine::new(rt.alloc(), 3, 4096);
     let mut mapper = one_segment(rt.alloc(), &[], &[])?;
     let (gmi, mapper, chooser) = (&mut gmi, &mut mapper, &mut Fifo::new());
-    assert_eq!(rt;
-        ask(gmi, &Command::MakeActor, mapper, chooser),
-        Shown::Actor(1)
-    );
-    assert_eq!(rt;
-        ask(gmi, &Command::OpenSegment(SegId(1)), mapper, chooser),
-        Shown::Cache(1)
-    );
-    assert_eq!(rt;
-        ask(gmi, &map(0, 0x10000, true), mapper, chooser),
-        Shown::Region(1)
-    );
+    open_and_map(&rt, gmi, mapper, chooser);
     assert_eq!(rt; ask(gmi, &store(0x10000)?, mapper, chooser), Shown::Done);
     assert_eq!(rt;
         ask(gmi, &Command::Sync(extent(1, 1)), mapper, chooser),
@@ -109,18 +122,7 @@ fn a_flush_saves_what_was_stored(rt: HostRuntime) -> Result<(), Fail> {
     let mut gmi = EagerMachine::new(rt.alloc(), 3, 4096);
     let mut mapper = one_segment(rt.alloc(), &[], &[])?;
     let (gmi, mapper, chooser) = (&mut gmi, &mut mapper, &mut Fifo::new());
-    assert_eq!(rt;
-        ask(gmi, &Command::MakeActor, mapper, chooser),
-        Shown::Actor(1)
-    );
-    assert_eq!(rt;
-        ask(gmi, &Command::OpenSegment(SegId(1)), mapper, chooser),
-        Shown::Cache(1)
-    );
-    assert_eq!(rt;
-        ask(gmi, &map(0, 0x10000, true), mapper, chooser),
-        Shown::Region(1)
-    );
+    open_and_map(&rt, gmi, mapper, chooser);
     assert_eq!(rt; ask(gmi, &store(0x10000)?, mapper, chooser), Shown::Done);
     assert_eq!(rt;
         ask(gmi, &Command::Flush(extent(1, 2)), mapper, chooser),
@@ -177,18 +179,7 @@ fn a_denied_page_is_not_written(rt: HostRuntime) -> Result<(), Fail> {
     let mut gmi = EagerMachine::new(rt.alloc(), 3, 4096);
     let mut mapper = one_segment(rt.alloc(), &denied, &[])?;
     let (gmi, mapper, chooser) = (&mut gmi, &mut mapper, &mut Fifo::new());
-    assert_eq!(rt;
-        ask(gmi, &Command::MakeActor, mapper, chooser),
-        Shown::Actor(1)
-    );
-    assert_eq!(rt;
-        ask(gmi, &Command::OpenSegment(SegId(1)), mapper, chooser),
-        Shown::Cache(1)
-    );
-    assert_eq!(rt;
-        ask(gmi, &map(0, 0x10000, true), mapper, chooser),
-        Shown::Region(1)
-    );
+    open_and_map(&rt, gmi, mapper, chooser);
     assert_eq!(rt;
         ask(gmi, &store(0x10000)?, mapper, chooser),
         Shown::Refused(Refusal::WriteDenied)
@@ -217,18 +208,7 @@ fn what_asks_for_access_fails_with_it(rt: HostRuntime) -> Result<(), Fail> {
     let mut gmi = EagerMachine::new(rt.alloc(), 3, 4096);
     let mut mapper = one_segment(rt.alloc(), &denied, &fails)?;
     let (gmi, mapper, chooser) = (&mut gmi, &mut mapper, &mut Fifo::new());
-    assert_eq!(rt;
-        ask(gmi, &Command::MakeActor, mapper, chooser),
-        Shown::Actor(1)
-    );
-    assert_eq!(rt;
-        ask(gmi, &Command::OpenSegment(SegId(1)), mapper, chooser),
-        Shown::Cache(1)
-    );
-    assert_eq!(rt;
-        ask(gmi, &map(0, 0x10000, true), mapper, chooser),
-        Shown::Region(1)
-    );
+    open_and_map(&rt, gmi, mapper, chooser);
     assert_eq!(rt;
         ask(gmi, &store(0x10000)?, mapper, chooser),
         Shown::Fault(FaultAt::Access(PageNo(0)))
@@ -253,18 +233,7 @@ fn an_invalidation_fails_where_its_page_is_not_pulled(rt: HostRuntime) -> Result
     let mut gmi = EagerMachine::new(rt.alloc(), 3, 4096);
     let mut mapper = one_segment(rt.alloc(), &[], &fails)?;
     let (gmi, mapper, chooser) = (&mut gmi, &mut mapper, &mut Fifo::new());
-    assert_eq!(rt;
-        ask(gmi, &Command::MakeActor, mapper, chooser),
-        Shown::Actor(1)
-    );
-    assert_eq!(rt;
-        ask(gmi, &Command::OpenSegment(SegId(1)), mapper, chooser),
-        Shown::Cache(1)
-    );
-    assert_eq!(rt;
-        ask(gmi, &map(0, 0x10000, true), mapper, chooser),
-        Shown::Region(1)
-    );
+    open_and_map(&rt, gmi, mapper, chooser);
     assert_eq!(rt;
         ask(gmi, &Command::Invalidate(extent(1, 1)), mapper, chooser),
         Shown::Fault(FaultAt::Save(0))

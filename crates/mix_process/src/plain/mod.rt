@@ -138,10 +138,8 @@ impl PlainProcesses {
         if self.processes.len() >= u32::MAX as usize {
             return Err(NoMemory);
         }
-        match self.processes.push(Some(process)) {
-            Ok(()) => Ok(Ok(Reply::Process(ProcId(self.processes.len() as u32)))),
-            Err(_) => Err(NoMemory),
-        }
+        self.processes.push(Some(process))?;
+        Ok(Ok(Reply::Process(ProcId(self.processes.len() as u32))))
     }
 
     // The image of a segment that has none yet.
@@ -154,10 +152,8 @@ impl PlainProcesses {
         match (image_in(&self.images, seg), held) {
             (None, Some(pages)) => {
                 let pages = pages_from(self.alloc, pages)?;
-                match self.images.push(PlainImage { seg, pages }) {
-                    Ok(()) => Ok(()),
-                    Err(_) => Err(NoMemory),
-                }
+                self.images.push(PlainImage { seg, pages })?;
+                Ok(())
             }
             _ => Ok(()),
         }
