@@ -336,6 +336,7 @@ impl Contexts {
     /// The place of an access of `length` bytes of an actor. `NoActor` where it isn't alive, else
     /// `Crosses` where the access passes the end of a page, and else `BadAddress` where no region
     /// of the actor holds the address.
+    #[inline(always)]
     pub fn locate(&self, actor: ActorId, address: u64, length: u8) -> Result<Place, Refusal>
         ensures { result ≡ place_told (place_of_actor self.now.page_bytes
             (numbered self.now.actors actor.0) address length) }

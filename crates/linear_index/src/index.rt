@@ -126,6 +126,7 @@ impl Index {
     }
 
     /// Enters a key, which isn't entered, at a place that has none.
+    #[inline(always)]
     pub fn enter(&mut self, key: u64, place: u32)
         requires new_key { map.get self.old.places key ≡ None }
         requires free { (other : ℕ) → map.get self.old.places other ≢ Some place }

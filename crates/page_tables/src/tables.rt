@@ -245,6 +245,7 @@ impl PageTables {
     }
 
     // Puts this at a place, an entry or nothing, whatever was there.
+    #[inline(always)]
     fn put(&mut self, place: u32, entry: Option<Entry>)
         requires below { place < length self.old }
         requires frame { IfSome entry (λ entry. IsFrame self.old entry.to.frame.0) }

@@ -81,6 +81,7 @@ impl ProbeTable {
     }
 
     /// Removes a number that is entered.
+    #[inline(always)]
     pub fn remove(&mut self, number: u32)
         requires { IsSome (hash_of self.old number) }
         ensures { self.new ≡ slice_set self.old number None }

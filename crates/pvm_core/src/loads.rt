@@ -36,6 +36,7 @@ pub(crate) struct NodesAt {
 
 impl Pvm {
     // A load whose page a translation leads to. `None` where none does.
+    #[inline(always)]
     pub(crate) fn load_seen(&mut self, actor: ActorId, address: u64, bytes: u8) -> Option<Piece>
         requires some { 1 ≤ bytes }
         requires few { bytes ≤ 64 }

@@ -28,6 +28,7 @@ use vm_port::{Chooser, Mapper};
 
 impl Pvm {
     // A store whose page a translation for writing leads to. `false` where none does.
+    #[inline(always)]
     pub(crate) fn store_seen(&mut self, actor: ActorId, address: u64, piece: &Piece) -> bool
         requires valid { (h : Option Held) × IsValid self.old h }
         ensures unseen { result ≡ false → self.new ≡ self.old }

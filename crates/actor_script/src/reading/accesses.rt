@@ -22,6 +22,7 @@ pub(super) fn command_for(actor: ActorId, access: Access) -> Command
 
 // `A ADDR LEN`
 #[tactic(auto, using(crate::proofs::Operands::loads), unfolding(crate::specs::Forms::load_form))]
+#[inline(always)]
 fn read_load(operands: &[u8]) -> Option<(ActorId, Access)>
     ensures { MatchOption result (load_form (words_of operands.now) ≡ None) (λ found.
         load_form (words_of operands.now) ≡ Some (command_for found.0 found.1)) }
@@ -35,6 +36,7 @@ fn read_load(operands: &[u8]) -> Option<(ActorId, Access)>
 
 // `A ADDR BYTES`
 #[tactic(auto, using(crate::proofs::Operands::stores), unfolding(crate::specs::Forms::store_form))]
+#[inline(always)]
 fn read_store(operands: &[u8]) -> Option<(ActorId, Access)>
     ensures { MatchOption result (store_form (words_of operands.now) ≡ None) (λ found.
         store_form (words_of operands.now) ≡ Some (command_for found.0 found.1)) }
@@ -63,6 +65,7 @@ fn read_verb(verb: &[u8], operands: &[u8]) -> Option<(ActorId, Access)>
 
 /// The load or store that a line asks, and whose it is. `None` exactly where the line asks
 /// something else, or is no command.
+#[inline(always)]
 pub fn read_access(line: &[u8]) -> Option<(ActorId, Access)>
     ensures { MatchOption result (actor_of_line (command_of line.now) ≡ None) (λ found.
         command_of line.now ≡ Ok (command_for found.0 found.1)) }

@@ -15,6 +15,7 @@ use vm_ids::NodeId;
 
 impl Caches {
     /// Sets where a node's own page is.
+    #[inline(always)]
     pub fn set_state(&mut self, node: NodeId, state: OwnState)
         requires { HasNode self.old node }
         ensures changed { self.new ≡ with_own self.old node state }
@@ -59,6 +60,7 @@ impl Caches {
     }
 
     /// Sets where a node hangs, by which link, and between which neighbours.
+    #[inline(always)]
     pub fn set_place(
         &mut self,
         node: NodeId,
@@ -83,6 +85,7 @@ impl Caches {
 
     /// Hangs a node on this parent by a tree link, or on none. Nothing is done to the children of
     /// its old and new parent.
+    #[inline(always)]
     pub fn hang(&mut self, node: NodeId, parent: Option<NodeId>)
         requires { HasNode self.old node }
         ensures changed { self.new ≡ hung self.old node parent }
@@ -114,6 +117,7 @@ impl Caches {
     }
 
     /// Sets the tree children of a node, of which there are at most two.
+    #[inline(always)]
     pub fn set_tree_children(&mut self, node: NodeId, children: &[NodeId])
         requires held { HasNode self.old node }
         requires few { length children.now ≤ 2 }

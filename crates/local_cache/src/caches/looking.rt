@@ -23,6 +23,7 @@ impl Caches {
 
     /// The page of a segment that a node stands for, or `None` exactly for a working node and a
     /// node of a temporary cache.
+    #[inline(always)]
     pub fn home(&self, node: NodeId) -> Option<Home>
         requires { HasNode self.now node }
         ensures { result ≡ home_of self.now node }
@@ -46,6 +47,7 @@ impl Caches {
     }
 
     /// How a node hangs, and the ends of its list of stubs.
+    #[inline(always)]
     pub fn links(&self, node: NodeId) -> Links
         requires { HasNode self.now node }
         ensures { result ≡ (cell self.now node).links }

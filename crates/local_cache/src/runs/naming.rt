@@ -199,6 +199,7 @@ impl NodeRuns {
 impl NodeTable {
     // Names so many nodes of pages, from one on, by the page of this name and the next ones. A
     // working name changes nothing.
+    #[inline(always)]
     fn rename(&mut self, node: u64, count: u32, name: NodeName)
         requires held { HaveCells self.old.cells node count }
         requires short { node + count ≤ 2 ^ 64 }

@@ -182,6 +182,7 @@ impl NodeTable {
     }
 
     // Takes in a node of which this is said, by itself. Its place.
+    #[inline(always)]
     pub(crate) fn insert(&mut self, node: u64, single: Single) -> Place
         requires vacant { map.get self.old.cells node ≡ None }
         requires thin { HasFreeNumber self.old.cells single }
@@ -274,6 +275,7 @@ impl NodeTable {
     }
 
     // Takes out the node at a place.
+    #[inline(always)]
     pub(crate) fn remove_at(&mut self, place: Place) -> Single
         requires { IsPlace self.old.slots place }
         ensures node { map.get self.old.cells place.number ≡ Some result }

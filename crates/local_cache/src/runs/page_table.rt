@@ -132,6 +132,7 @@ impl PageTable {
 
     // The page of this name and so many in all behind it have other nodes: the next one of these is
     // that of the next page. A working name is no page's.
+    #[inline(always)]
     pub(crate) fn set_named(&mut self, name: NodeName, count: u32, node: NodeId)
         requires held { HaveNodes self.old.nodes.cells name count }
         requires short { IsShortFor name count }

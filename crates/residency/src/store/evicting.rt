@@ -157,6 +157,7 @@ impl Store {
 
     /// A frame for the caller, which is held, pinned and bound to no node. It evicts a page only
     /// where no frame is free, and fails only where that push fails.
+    #[inline(always)]
     pub fn make_free<M: Mapper, C: Chooser>(
         &mut self,
         caches: &mut Caches,
