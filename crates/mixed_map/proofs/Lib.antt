@@ -2,3 +2,4 @@ pub mod Maps
 mod Filling
 mod Keeping
 pub mod Telling
+pub mod Clones

@@ -26,7 +26,7 @@ mod lone_map;
 mod mixed_map;
 mod place;
 
-pub use alone::Alone;
+pub use alone::{Alone, Same};
 pub use found::Found;
 pub(crate) use lone_map::LoneMap;
 pub use mixed_map::MixedMap;

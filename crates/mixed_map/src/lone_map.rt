@@ -1,29 +1,42 @@
 // Entries by number, each in a slot of its own.
-ghost use Rattle.std.specs.Prelude.{◌≡◌, ◌≢◌, ℕ, ◌+◌, ◌<◌, ◌≤◌, None, Some, max, IfNone, IfSome, IsOk, OnErr, OnOk, option_copied};
+ghost use Rattle.std.specs.Prelude.{◌≡◌, ◌≢◌, ℕ, ◌+◌, ◌<◌, ◌≤◌, None, Some, max, IfNone, IfOk, IfSome, IsOk, OnErr, OnOk, option_copied};
 ghost use Rattle.std.specs.Borrow.{sem};
 ghost use Rattle.std.specs.FinMap as map;
+ghost use Rattle.slab.specs.Slab.{slab_len};
 ghost use Rattle.mixed_map.specs.Place.{IsPlace};
 
-use crate::Place;
+use crate::{Place, Same};
 use linear_index::Index;
+use slab::Slab;
 use std::alloc::{AllocError, Global};
 use std::marker::Model;
 
+// The same entries under the same keys, with room for so many in all.
+fn roomier<S: Same>(slots: &Slab<S>, room: u32) -> Result<Slab<S>, AllocError>
+    requires { slab_len slots.now ≤ room }
+    ensures { IfOk result (λ more. more ≡ record slots.now { capacity = room }) }
+{
+    let mut more = slots.clone()?;
+    more.reserve_exact(room as usize - more.len())?;
+    if more.capacity() > room as usize {
+        return Err(AllocError);
+    }
+    Ok(more)
+}
+
 // A finite map by number: an index from numbers to slots.
 #[derive(Drop)]
-pub(crate) struct LoneMap<S: Copy> {
+pub(crate) struct LoneMap<S: Same> {
     // The slot of each number.
     index: Index,
-    // The entry in each slot. A vacant one keeps what it had.
-    slots: Vec<S>,
-    // The slots that were given back.
-    vacant: Vec<u32>,
-    // For so many entries there is memory.
+    // The entries, each under its slot as the key.
+    slots: Slab<S>,
+    // For so many entries there is memory, and no slot is beyond.
     room: u32,
 }
 
-impl<S: Copy> Model for LoneMap<S> {
-    ghost use Rattle.std.specs.Prelude.{◌≤◌, vec_capacity};
+impl<S: Same> Model for LoneMap<S> {
+    ghost use Rattle.std.specs.Prelude.{◌≤◌};
     ghost use Rattle.std.specs.FinMap as map;
     ghost use Rattle.mixed_map.specs.Lone.{Lone, lone_code, filled, IsKept};
 
@@ -32,17 +45,16 @@ impl<S: Copy> Model for LoneMap<S> {
     ghost coded = { lone_code S.code };
 
     ghost view = { λ l. record {
-      entries = filled l.slots.items (map.entries l.index.places);
+      entries = filled l.slots (map.entries l.index.places);
       slots = l.index.places;
       room = l.room;
     } };
 
     ghost invariant = { λ l. (l.room ≤ l.index.room)
-        × IsKept l.index.places l.slots.items l.vacant.items l.room (vec_capacity l.slots)
-        (vec_capacity l.vacant) };
+        × IsKept l.index.places l.slots l.room };
 }
 
-impl<S: Copy> LoneMap<S> {
+impl<S: Same> LoneMap<S> {
     ghost use Rattle.mixed_map.specs.Lending.{LendsAlone};
 
     // No entry, and no memory for one.
@@ -51,8 +63,7 @@ impl<S: Copy> LoneMap<S> {
     {
         LoneMap {
             index: Index::new(alloc),
-            slots: Vec::new(alloc),
-            vacant: Vec::new(alloc),
+            slots: Slab::new(alloc),
             room: 0,
         }
     }
@@ -65,11 +76,9 @@ impl<S: Copy> LoneMap<S> {
         ensures enough { room ≤ self.old.room → IsOk result }
     {
         if room > self.room {
-            let total = room as usize;
-            self.slots.reserve(total.saturating_sub(self.slots.len()))?;
-            self.vacant
-                .reserve(total.saturating_sub(self.vacant.len()))?;
+            let slots = roomier(&self.slots, room)?;
             self.index.reserve(room)?;
+            self.slots = slots;
             self.room = room;
         }
         Ok(())
@@ -162,19 +171,9 @@ impl<S: Copy> LoneMap<S> {
         } }
         ensures count { map.len self.new.slots ≡ map.len self.old.slots + 1 }
     {
-        match self.vacant.pop() {
-            Some(slot) => {
-                self.slots[slot as usize] = entry;
-                self.index.enter(number, slot);
-                Place { number, slot }
-            }
-            None => {
-                let slot = self.slots.len() as u32;
-                self.slots.push_reserved(entry);
-                self.index.enter(number, slot);
-                Place { number, slot }
-            }
-        }
+        let slot = self.slots.insert_reserved(entry) as u32;
+        self.index.enter(number, slot);
+        Place { number, slot }
     }
 
     // Takes out the entry at a place.
@@ -188,7 +187,6 @@ impl<S: Copy> LoneMap<S> {
         ensures count { map.len self.new.slots + 1 ≡ map.len self.old.slots }
     {
         self.index.leave(place.number, place.slot);
-        self.vacant.push_reserved(place.slot);
-        self.slots[place.slot as usize]
+        self.slots.remove(place.slot as usize)
     }
 }

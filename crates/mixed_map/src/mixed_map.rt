@@ -22,6 +22,7 @@ use stretches::{Says, Stretch, StretchList};
 pub struct MixedMap<V: Says, S: Alone<V>> {
     stretches: StretchList<V>,
     lone: LoneMap<S>,
+    alloc: Global,
 }
 
 impl<V: Says, S: Alone<V>> Model for MixedMap<V, S> {
@@ -61,6 +62,7 @@ impl<V: Says, S: Alone<V>> MixedMap<V, S> {
         MixedMap {
             stretches: StretchList::new(alloc),
             lone: LoneMap::new(alloc),
+            alloc,
         }
     }
 
@@ -235,7 +237,7 @@ impl<V: Says, S: Alone<V>> MixedMap<V, S> {
             self.stretches.join_at(stretch.first + stretch.count as u64);
             self.stretches.join_at(stretch.first);
         } else if stretch.count == 1 {
-            self.insert(stretch.first, S::from_stretch(stretch.value));
+            self.insert(stretch.first, S::from_stretch(self.alloc, stretch.value));
         }
     }
 
