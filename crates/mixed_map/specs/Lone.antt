@@ -1,5 +1,5 @@
 -- Entries by number, each in a place that an index knows.
-use Rattle.std.specs.Prelude.{◌≡◌, ◌≢◌, ℕ, ◌+◌, ◌<◌, ◌≤◌, refl, List, [], ◌∷◌, Option, Some, None}
+use Rattle.std.specs.Prelude.{◌≡◌, ℕ, refl, List, [], ◌∷◌, Option, Some, None}
 use Rattle.std.specs.Ordering.{nat_cmp}
 use Rattle.std.specs.FinMap.{FinMap}
 use Rattle.std.specs.FinMap as map
@@ -38,11 +38,10 @@ module _ {S : Type 0} where
   filled slots [] = map.empty
   filled slots (e ∷ es) = written (filled slots es) e.0 (get slots e.1)
 
-  -- what is known of the places of numbers, and of the entries under these keys
+  -- what is known of the places of numbers, and of the slab that has the entry at each place
   pub record IsKept (places : FinMap nat_cmp ℕ) (slots : Slab S) (room : ℕ) : Type 0 where
     pub within : (n place : ℕ) → map.get places n ≡ Some place → ContainsKey slots place
     pub once : (n m place : ℕ) → map.get places n ≡ Some place → map.get places m ≡ Some place
         → n ≡ m
     pub counted : map.len places ≡ slab_len slots
-    pub few : map.len places ≤ room
     pub exact : slots.capacity ≡ room

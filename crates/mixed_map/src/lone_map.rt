@@ -2,7 +2,6 @@
 ghost use Rattle.std.specs.Prelude.{◌≡◌, ◌≢◌, ℕ, ◌+◌, ◌<◌, ◌≤◌, None, Some, max, IfNone, IfOk, IfSome, IsOk, OnErr, OnOk, option_copied};
 ghost use Rattle.std.specs.Borrow.{sem};
 ghost use Rattle.std.specs.FinMap as map;
-ghost use Rattle.slab.specs.Slab.{slab_len};
 ghost use Rattle.mixed_map.specs.Place.{IsPlace};
 
 use crate::{Place, Same};
@@ -11,14 +10,16 @@ use slab::Slab;
 use std::alloc::{AllocError, Global};
 use std::marker::Model;
 
-// The same entries under the same keys, with room for so many in all.
+// The same entries under the same keys, with room for just so many in all. A slab that grows may
+// come to have room for more than were asked for, and may give out keys up to there, so it is looked
+// at before it is used.
 fn roomier<S: Same>(slots: &Slab<S>, room: u32) -> Result<Slab<S>, AllocError>
-    requires { slab_len slots.now ≤ room }
     ensures { IfOk result (λ more. more ≡ record slots.now { capacity = room }) }
 {
+    let total = room as usize;
     let mut more = slots.clone()?;
-    more.reserve_exact(room as usize - more.len())?;
-    if more.capacity() > room as usize {
+    more.reserve_exact(total.saturating_sub(more.len()))?;
+    if more.capacity() > total {
         return Err(AllocError);
     }
     Ok(more)
@@ -26,16 +27,16 @@ fn roomier<S: Same>(slots: &Slab<S>, room: u32) -> Result<Slab<S>, AllocError>
 
 // A finite map by number: an index from numbers to slots.
 #[derive(Drop)]
-pub(crate) struct LoneMap<S: Same> {
+pub(crate) struct LoneMap<S> {
     // The slot of each number.
     index: Index,
-    // The entries, each under its slot as the key.
+    // The entry in each slot: the slot is its key.
     slots: Slab<S>,
-    // For so many entries there is memory, and no slot is beyond.
+    // For so many entries there is memory, and slots are below.
     room: u32,
 }
 
-impl<S: Same> Model for LoneMap<S> {
+impl<S> Model for LoneMap<S> {
     ghost use Rattle.std.specs.Prelude.{◌≤◌};
     ghost use Rattle.std.specs.FinMap as map;
     ghost use Rattle.mixed_map.specs.Lone.{Lone, lone_code, filled, IsKept};
@@ -50,11 +51,10 @@ impl<S: Same> Model for LoneMap<S> {
       room = l.room;
     } };
 
-    ghost invariant = { λ l. (l.room ≤ l.index.room)
-        × IsKept l.index.places l.slots l.room };
+    ghost invariant = { λ l. (l.room ≤ l.index.room) × IsKept l.index.places l.slots l.room };
 }
 
-impl<S: Same> LoneMap<S> {
+impl<S> LoneMap<S> {
     ghost use Rattle.mixed_map.specs.Lending.{LendsAlone};
 
     // No entry, and no memory for one.
@@ -71,6 +71,8 @@ impl<S: Same> LoneMap<S> {
     // Makes room for so many entries in all. It can fail only where there was less room, and then
     // nothing changes.
     pub(crate) fn reserve(&mut self, room: u32) -> Result<(), AllocError>
+    where
+        S: Same,
         ensures ok { OnOk result (self.new ≡ record self.old { room = max self.old.room room }) }
         ensures err { OnErr result (self.new ≡ self.old) }
         ensures enough { room ≤ self.old.room → IsOk result }
