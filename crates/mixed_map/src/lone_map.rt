@@ -11,8 +11,8 @@ use std::alloc::{AllocError, Global};
 use std::marker::Model;
 
 // The same entries under the same keys, with room for just so many in all. A slab that grows may
-// come to have room for more than were asked for, and may give out keys up to there, so it is looked
-// at before it is used.
+// come to have room for more than it was asked for, and give out keys up to there: so its room is
+// looked at before it is used.
 fn roomier<S: Same>(slots: &Slab<S>, room: u32) -> Result<Slab<S>, AllocError>
     ensures { IfOk result (λ more. more ≡ record slots.now { capacity = room }) }
 {

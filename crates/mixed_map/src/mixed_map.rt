@@ -22,6 +22,7 @@ use stretches::{Says, Stretch, StretchList};
 pub struct MixedMap<V: Says, S: Alone<V>> {
     stretches: StretchList<V>,
     lone: LoneMap<S>,
+    // For entries that are had from what a stretch says.
     alloc: Global,
 }
 
