@@ -1,11 +1,10 @@
 -- A cell in few bytes.
-use Rattle.std.specs.Prelude.{◌≡◌, ℕ, List, [], ◌∷◌, Bool, true, false, Option, Some, None, is_some, refl}
-use Rattle.std.proofs.Common.{sym, ap, ◌∙◌}
-use Rattle.std.proofs.lemmas.Bool.{false≢true}
+use Rattle.std.specs.Prelude.{◌≡◌, ℕ, ◌≤◌, List, [], ◌∷◌, length, map, Bool, true, false, Option, Some, None, is_some, refl}
+use Rattle.std.proofs.Common.{sym, ap}
+use Rattle.smallvec.specs.SmallVec.{SmallVec}
 use Rattle.vm_ids.specs.declared.numbers.NodeId.{NodeId}
 use Rattle.local_cache.specs.declared.runs.single.Single.TheInside.{Inside}
 use Rattle.local_cache.specs.Arena.{Cell}
-use Rattle.local_cache.specs.NodeCells.{tree_of}
 
 -- the node of this number, if there is one
 abbrev pub node_if : Bool → ℕ → Option NodeId
@@ -15,6 +14,14 @@ node_if true k = Some (record { 0 = k })
 abbrev pub number_of : Option NodeId → ℕ
 number_of None = 0
 number_of (Some n) = n.0
+
+-- the nodes of these numbers
+abbrev pub nodes_of : List ℕ → List NodeId
+nodes_of ks = map (λ (k : ℕ). record { 0 = k }) ks
+
+-- the tree children by their numbers
+abbrev pub packed_tree : List NodeId → SmallVec ℕ
+packed_tree ns = record { items = map (λ (n : NodeId). n.0) ns; capacity = 2 }
 
 abbrev pub cell_of : Inside → Cell
 cell_of s = record {
@@ -29,17 +36,8 @@ cell_of s = record {
     before = node_if s.has.before s.before;
     behind = node_if s.has.behind s.behind;
   };
-  tree = tree_of (node_if s.has.older s.older) (node_if s.has.newer s.newer);
+  tree = nodes_of s.children.items;
 }
-
--- the first and the second tree child
-abbrev pub older_of : List NodeId → Option NodeId
-older_of [] = None
-older_of (n ∷ ns) = Some n
-
-abbrev pub newer_of : List NodeId → Option NodeId
-newer_of [] = None
-newer_of (n ∷ ns) = older_of ns
 
 abbrev pub packed : Cell → Inside
 packed c = record {
@@ -50,8 +48,7 @@ packed c = record {
   last = number_of c.links.last;
   before = number_of c.links.before;
   behind = number_of c.links.behind;
-  older = number_of (older_of c.tree);
-  newer = number_of (newer_of c.tree);
+  children = packed_tree c.tree;
   stubs = c.links.stubs;
   by_stub = c.links.by_stub;
   has = record {
@@ -60,8 +57,6 @@ packed c = record {
     last = is_some c.links.last;
     before = is_some c.links.before;
     behind = is_some c.links.behind;
-    older = is_some (older_of c.tree);
-    newer = is_some (newer_of c.tree);
   };
 }
 
@@ -75,9 +70,8 @@ pub record IsPacked (s : Inside) : Type 0 where
   pub last : IsClear s.has.last s.last
   pub before : IsClear s.has.before s.before
   pub behind : IsClear s.has.behind s.behind
-  pub older : IsClear s.has.older s.older
-  pub newer : IsClear s.has.newer s.newer
-  pub order : s.has.newer ≡ true → s.has.older ≡ true
+  pub room : s.children.capacity ≡ 2
+  pub few : length s.children.items ≤ 2
 
 -- Packed again it is the same
 
@@ -89,24 +83,12 @@ has_back : (has : Bool) (k : ℕ) → is_some (node_if has k) ≡ has
 has_back false k = refl
 has_back true k = refl
 
-older_back : (o n : Bool) (j k : ℕ) → (n ≡ true → o ≡ true)
-    → older_of (tree_of (node_if o j) (node_if n k)) ≡ node_if o j
-older_back true true j k order = refl
-older_back true false j k order = refl
-older_back false true j k order = absurd (false≢true (order refl))
-older_back false false j k order = refl
-
-newer_back : (o n : Bool) (j k : ℕ) → (n ≡ true → o ≡ true)
-    → newer_of (tree_of (node_if o j) (node_if n k)) ≡ node_if n k
-newer_back true true j k order = refl
-newer_back true false j k order = refl
-newer_back false true j k order = absurd (false≢true (order refl))
-newer_back false false j k order = refl
+numbers_back : (ks : List ℕ) → map (λ (n : NodeId). n.0) (nodes_of ks) ≡ ks
+numbers_back [] = refl
+numbers_back (k ∷ ks) = ap (λ (l : List ℕ). k ∷ l) (numbers_back ks)
 
 pub packed_back : (s : Inside) → IsPacked s → packed (cell_of s) ≡ s
 packed_back s h =
-    let older = older_back s.has.older s.has.newer s.older s.newer h.order in
-    let newer = newer_back s.has.older s.has.newer s.older s.newer h.order in
     λ i. record {
       name = s.name;
       own = s.own;
@@ -115,8 +97,10 @@ packed_back s h =
       last = number_back s.has.last s.last h.last i;
       before = number_back s.has.before s.before h.before i;
       behind = number_back s.has.behind s.behind h.behind i;
-      older = (ap number_of older ∙ number_back s.has.older s.older h.older) i;
-      newer = (ap number_of newer ∙ number_back s.has.newer s.newer h.newer) i;
+      children = record {
+        items = numbers_back s.children.items i;
+        capacity = sym h.room i;
+      };
       stubs = s.stubs;
       by_stub = s.by_stub;
       has = record {
@@ -125,7 +109,5 @@ packed_back s h =
         last = has_back s.has.last s.last i;
         before = has_back s.has.before s.before i;
         behind = has_back s.has.behind s.behind i;
-        older = (ap is_some older ∙ has_back s.has.older s.older) i;
-        newer = (ap is_some newer ∙ has_back s.has.newer s.newer) i;
       };
     }

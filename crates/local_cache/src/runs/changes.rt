@@ -314,7 +314,7 @@ impl Change for Renew {
     ghost cell = { λ c. renewed c.0 };
 
     fn of_single(self, single: &mut Single) {
-        *single = Single::new(single.name(), self.0);
+        single.renew(self.0);
     }
 }
 

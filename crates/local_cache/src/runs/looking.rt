@@ -65,8 +65,8 @@ fn member_alone(single: &Single) -> Member
 {
     Member {
         name: single.name(),
-        child: single.older(),
-        has_two: single.newer().is_some(),
+        child: single.tree_child(0),
+        has_two: single.tree_child(1).is_some(),
         count: 1,
     }
 }

@@ -11,7 +11,7 @@ use crate::OwnState;
 use crate::runs::changes::{NameOfPage, NameWorking};
 use crate::runs::page_number::page_number;
 use crate::runs::pieces::Piece;
-use crate::runs::{NodeRuns, NodeTable, PageTable, PlainState, Run, RunName, Single};
+use crate::runs::{NodeRuns, NodeTable, PageTable, PlainState, Run, RunName};
 use stretches::Stretch;
 use vm_ids::{CacheId, NodeId, NodeName, PageNo};
 
@@ -130,7 +130,7 @@ impl NodeRuns {
         let fresh = NodeId(self.counters.next_fresh());
         self.table
             .change(node.0, NameWorking(self.counters.made + 1));
-        self.table.insert(fresh.0, Single::new(name, own));
+        self.table.insert_new(fresh.0, name, own);
         self.pages.set_named(name, 1, fresh);
         self.counters.made += 1;
         self.counters.fresh += 1;
@@ -187,8 +187,8 @@ impl NodeRuns {
     {
         match self.table.nodes.place(node.0) {
             Some(place) => {
-                let single = self.table.remove_at(place);
-                self.counters.live -= self.pages.leave_named(single.name(), 1);
+                let name = self.table.remove_at(place).name();
+                self.counters.live -= self.pages.leave_named(name, 1);
                 self.counters.nodes -= 1;
             }
             None => self.free_many(node, 1),

@@ -6,17 +6,19 @@ ghost use Rattle.stretches.specs.Stretch.{IsFit, is_in};
 ghost use Rattle.stretches.specs.Stretches.{AreTogether, said};
 ghost use Rattle.mixed_map.specs.Mixed.{IsStretchFrom, Tells, with_stretch, without_stretch};
 ghost use Rattle.mixed_map.specs.Place.{IsPlace};
+ghost use Rattle.local_cache.specs.Arena.{new_cell};
 ghost use Rattle.local_cache.specs.NodeCells.{HasCell, cell_at, changed, run_cell};
 ghost use Rattle.local_cache.specs.NodeTable.{HasFreeNumber, HaveFreeNumbers, IsLeastThin, SeesSame};
 ghost use Rattle.local_cache.specs.Runs.{run};
 
+use crate::OwnState;
 use crate::runs::thin_nodes::{FirstThin, is_same_number};
 use crate::runs::{Change, Run, Single, ThinNodes};
 use mixed_map::{Alone, MixedMap, Place};
 use std::alloc::Global;
 use std::marker::Model;
 use stretches::{Says, Stretch};
-use vm_ids::{NoMemory, NodeId};
+use vm_ids::{NoMemory, NodeId, NodeName};
 
 /// The page nodes by their numbers, and the thin ones among them by their working numbers.
 ///
@@ -26,6 +28,8 @@ use vm_ids::{NoMemory, NodeId};
 pub(crate) struct NodeTable {
     pub(crate) nodes: MixedMap<Run, Single>,
     thin: ThinNodes,
+    // what singles are made with, which take no memory of it
+    alloc: Global,
 }
 
 impl Model for NodeTable {
@@ -58,6 +62,7 @@ impl NodeTable {
         NodeTable {
             nodes: MixedMap::new(alloc),
             thin: ThinNodes::new(alloc),
+            alloc,
         }
     }
 
@@ -71,18 +76,6 @@ impl NodeTable {
         self.thin.reserve(total)?;
         self.nodes.reserve(total)?;
         Ok(())
-    }
-
-    // What is said of a node, wherever it stands.
-    #[inline(never)]
-    pub(crate) fn search(&self, node: u64) -> Single
-        requires { HasCell self.now.cells node }
-        ensures { result ≡ cell_at self.now.cells node }
-    {
-        match self.nodes.place(node) {
-            Some(place) => *self.nodes.at(place),
-            None => Single::from_stretch(self.run_from(node).value),
-        }
     }
 
     // What is left of the run of a node that stands in one, from this node on.
@@ -178,7 +171,7 @@ impl NodeTable {
             count: 1,
             value,
         });
-        self.insert(node, Single::from_stretch(value))
+        self.insert(node, Single::from_stretch(self.alloc, value))
     }
 
     // Takes in a node of which this is said, by itself. Its place.
@@ -200,6 +193,18 @@ impl NodeTable {
         place
     }
 
+    // Takes in a node without parent and children, by itself.
+    pub(crate) fn insert_new(&mut self, node: u64, name: NodeName, own: OwnState)
+        requires vacant { map.get self.old.cells node ≡ None }
+        requires thin { HasFreeNumber self.old.cells (new_cell name own) }
+        requires room { self.old.count < self.old.room }
+        ensures cells { self.new.cells ≡ map.insert self.old.cells node (new_cell name own) }
+        ensures count { self.new.count ≡ self.old.count + 1 }
+        ensures room { self.new.room ≡ self.old.room }
+    {
+        self.insert(node, Single::new(self.alloc, name, own));
+    }
+
     // Takes in nodes, as a run, or by itself where it is one.
     pub(crate) fn insert_run(&mut self, nodes: Stretch<Run>)
         requires fit { 0 < nodes.count → IsFit run nodes }
@@ -211,7 +216,7 @@ impl NodeTable {
         ensures room { self.new.room ≡ self.old.room }
     {
         if nodes.count == 1 {
-            self.insert(nodes.first, Single::from_stretch(nodes.value));
+            self.insert(nodes.first, Single::from_stretch(self.alloc, nodes.value));
         } else if nodes.count > 1 {
             self.nodes.insert_stretch(nodes);
             self.thin.enter_run(nodes);

@@ -15,7 +15,7 @@ impl NodeTable {
     {
         match self.nodes.recent(node) {
             Some(single) => single.name(),
-            None => self.search(node).name(),
+            None => self.search_name(node),
         }
     }
 
@@ -27,7 +27,7 @@ impl NodeTable {
     {
         match self.nodes.recent(node) {
             Some(single) => single.own(),
-            None => self.search(node).own(),
+            None => self.search_own(node),
         }
     }
 
@@ -38,7 +38,7 @@ impl NodeTable {
     {
         match self.nodes.recent(node) {
             Some(single) => single.links(),
-            None => self.search(node).links(),
+            None => self.search_links(node),
         }
     }
 
@@ -50,7 +50,7 @@ impl NodeTable {
     {
         match self.nodes.recent(node) {
             Some(single) => single.parent(),
-            None => self.search(node).parent(),
+            None => self.search_links(node).parent,
         }
     }
 
@@ -62,7 +62,7 @@ impl NodeTable {
     {
         match self.nodes.recent(node) {
             Some(single) => single.by_stub(),
-            None => self.search(node).by_stub(),
+            None => self.search_links(node).by_stub,
         }
     }
 
@@ -74,7 +74,7 @@ impl NodeTable {
     {
         match self.nodes.recent(node) {
             Some(single) => single.first(),
-            None => self.search(node).first(),
+            None => self.search_links(node).first,
         }
     }
 
@@ -85,7 +85,7 @@ impl NodeTable {
     {
         match self.nodes.recent(node) {
             Some(single) => single.ends(),
-            None => self.search(node).ends(),
+            None => self.search_links(node).ends(),
         }
     }
 
@@ -96,7 +96,7 @@ impl NodeTable {
     {
         match self.nodes.recent(node) {
             Some(single) => single.neighbours(),
-            None => self.search(node).neighbours(),
+            None => self.search_links(node).neighbours(),
         }
     }
 
@@ -109,7 +109,7 @@ impl NodeTable {
     {
         match self.nodes.recent(node) {
             Some(single) => single.tree_child(place),
-            None => self.search(node).tree_child(place),
+            None => self.search_tree_child(node, place),
         }
     }
 
@@ -122,7 +122,7 @@ impl NodeTable {
     {
         match self.nodes.recent(node) {
             Some(single) => single.is_leaf(),
-            None => self.search(node).is_leaf(),
+            None => self.search_is_leaf(node),
         }
     }
 
@@ -138,7 +138,7 @@ impl NodeTable {
     {
         match self.nodes.recent(node) {
             Some(single) => single.free_leaf(),
-            None => self.search(node).free_leaf(),
+            None => self.search_free_leaf(node),
         }
     }
 }

@@ -4,7 +4,7 @@ ghost use Rattle.std.specs.FinMap as map;
 ghost use Rattle.local_cache.specs.Pages.{HaveNodes, IsShortFor, pages_from, with_pages, without_pages};
 
 use crate::runs::page_number::page_number;
-use mixed_map::{Alone, Found, MixedMap};
+use mixed_map::{Alone, Found, MixedMap, Same};
 use std::alloc::Global;
 use std::marker::Model;
 use stretches::{Rising, Stretch};
@@ -29,10 +29,14 @@ impl Model for PageNode {
     ghost inverse = { λ n. record { node = n } };
 }
 
+impl Same for PageNode {
+    ghost same = { λ _ _ same. same };
+}
+
 impl Alone<Rising> for PageNode {
     ghost told = { λ v. record { 0 = v.0 } };
 
-    fn from_stretch(value: Rising) -> Self {
+    fn from_stretch(_alloc: Global, value: Rising) -> Self {
         PageNode {
             node: NodeId(value.0),
         }

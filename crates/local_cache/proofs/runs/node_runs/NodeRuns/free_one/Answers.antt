@@ -17,27 +17,27 @@ use Rattle.local_cache.proofs.runs.node_runs.NodeRuns.free_one.Goals as goal
 
 pub leave_named-requires-clause-held : goal.leave_named-requires-clause-held
 leave_named-requires-clause-held c =
-    let node = c.remove_at-single.ensures.node in
-    page_held c.self.inside.table.cells c.self.inside.pages.nodes.cells c.in-Some.place.number c.name.result c.self.invariant.paged (ap is_some node)
-    (ap (λ (o : Option Cell). (unwrap_or o blank).name) node ∙ sym c.name.ensures)
+    let node = c.remove_at.ensures.node in
+    page_held c.self.inside.table.cells c.self.inside.pages.nodes.cells c.in-Some.place.number c.name-name.result c.self.invariant.paged (ap is_some node)
+    (ap (λ (o : Option Cell). (unwrap_or o blank).name) node ∙ sym c.name-name.ensures)
 
 -- the node that goes
 abbrev number : goal.After-self-in-Some-1 → ℕ
 number c = c.in-Some.place.number
 
 held : (c : goal.After-self-in-Some-1) → HasCell c.self.inside.table.cells (number c)
-held c = ap is_some c.remove_at-single.ensures.node
+held c = ap is_some c.remove_at.ensures.node
 
-name_is : (c : goal.After-self-in-Some-1) → c.name.result ≡ (cell_at c.self.inside.table.cells (number c)).name
-name_is c = c.name.ensures ∙ ap (λ (o : Option Cell). (unwrap_or o blank).name) (sym c.remove_at-single.ensures.node)
+name_is : (c : goal.After-self-in-Some-1) → c.name-name.result ≡ (cell_at c.self.inside.table.cells (number c)).name
+name_is c = c.name-name.ensures ∙ ap (λ (o : Option Cell). (unwrap_or o blank).name) (sym c.remove_at.ensures.node)
 
-cells_are : (c : goal.After-self-in-Some-1) → c.remove_at-single.new.self.cells ≡ map.remove c.self.inside.table.cells (number c)
-cells_are c = ap (λ (t : Table). t.cells) c.remove_at-single.ensures.removed
+cells_are : (c : goal.After-self-in-Some-1) → c.remove_at.new.self.cells ≡ map.remove c.self.inside.table.cells (number c)
+cells_are c = ap (λ (t : Table). t.cells) c.remove_at.ensures.removed
 
 pages_are : (c : goal.After-self-in-Some-1) → c.leave_named.new.self.nodes.cells ≡ pages_with c.self.inside.pages.nodes.cells (cell_at c.self.inside.table.cells (number c)).name None
 pages_are c = c.leave_named.ensures.pages ∙ ap (λ (x : NodeName). without_pages c.self.inside.pages.nodes.cells x 1) (name_is c)
 
-fewer : (c : goal.After-self-in-Some-1) → map.len c.remove_at-single.new.self.cells + 1 ≡ map.len c.self.inside.table.cells
+fewer : (c : goal.After-self-in-Some-1) → map.len c.remove_at.new.self.cells + 1 ≡ map.len c.self.inside.table.cells
 fewer c = ap (λ (x : Cells). map.len x + 1) (cells_are c) ∙ len_remove_old c.self.inside.table.cells (number c) (held c)
 
 abbrev counted : goal.After-self-in-Some-1 → Counters
@@ -60,13 +60,13 @@ invariant_of-self c =
       counted = record {
         nodes = omega (arith, right.counted.nodes, fewer c);
         live = omega (arith, right.counted.live, c.leave_named.ensures.fewer);
-        table = omega (arith, c.remove_at-single.ensures.count, right.counted.table, fewer c);
+        table = omega (arith, c.remove_at.ensures.count, right.counted.table, fewer c);
         pages = omega (arith, right.counted.pages, c.leave_named.ensures.fewer, c.leave_named.ensures.count);
       };
       places = record {
         few = right.places.few;
         nodes = omega (arith, fewer c, right.places.nodes);
-        table = omega (arith, right.places.table, ap (λ (x : Table). x.room) c.remove_at-single.ensures.removed);
+        table = omega (arith, right.places.table, ap (λ (x : Table). x.room) c.remove_at.ensures.removed);
         pages = omega (arith, right.places.pages, c.leave_named.ensures.room);
       };
     }
@@ -74,7 +74,7 @@ invariant_of-self c =
 pub returns-in-Some : goal.returns-in-Some
 returns-in-Some c =
     let at : c.in-Some.place.number ≡ c.args.node.0 = c.in-Some.ensures.place.0 in
-    let room : c.self.inside.capacity - map.len c.remove_at-single.new.self.cells ≡ c.self.inside.capacity - map.len c.self.inside.table.cells + 1 =
+    let room : c.self.inside.capacity - map.len c.remove_at.new.self.cells ≡ c.self.inside.capacity - map.len c.self.inside.table.cells + 1 =
     omega (arith, fewer c, c.self.invariant.places.nodes) in
     (λ i. record {
       cells = cells_are c i;

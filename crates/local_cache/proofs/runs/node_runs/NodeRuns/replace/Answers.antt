@@ -8,7 +8,6 @@ use Rattle.local_cache.specs.Arena.{new_cell}
 use Rattle.local_cache.specs.NodeCells.{Cells, HasCell, cell_at, changed, is_page, named}
 use Rattle.local_cache.specs.NodeKeys.{page_number, page_of_name}
 use Rattle.local_cache.specs.NodeRuns.{AreNumbered}
-use Rattle.local_cache.specs.NodeTable.{Table}
 use Rattle.local_cache.specs.PageNodes.{ArePaged, PageNodes, as_working, cell, with_new}
 use Rattle.local_cache.specs.Pages.{Pages, with_pages}
 use Rattle.local_cache.specs.declared.runs.counters.Counters.{Counters}
@@ -45,8 +44,8 @@ vacant c =
     let made = ap (λ (m : PageNodes). m.made) c.self.view_is in
     fresh_vacant c.self.inside.table.cells c.self.inside.counters c.next_fresh.result right (omega (arith, right.fresh, c.requires.made, made)) c.next_fresh.ensures
 
-pub insert-requires-clause-vacant : goal.insert-requires-clause-vacant
-insert-requires-clause-vacant c =
+pub insert_new-requires-clause-vacant : goal.insert_new-requires-clause-vacant
+insert_new-requires-clause-vacant c =
     let t = c.self.inside.table in
     let right = c.self.invariant.numbered in
     let made = ap (λ (m : PageNodes). m.made) c.self.view_is in
@@ -61,10 +60,10 @@ set_named-requires-clause-held c =
     page_held c.self.inside.table.cells c.self.inside.pages.nodes.cells c.args.node.0 c.name-name.result c.self.invariant.paged
     (ap (λ (m : PageNodes). is_some (map.get m.cells c.args.node.0)) c.self.view_is ∙ c.requires.held) (sym c.name-name.ensures)
 
-cells_are : (c : goal.After-self-3-1) → c.insert.new.self.cells ≡ map.insert (changed c.self.inside.table.cells c.args.node.0 (named (Working (number c)))) c.next_fresh.result (new_cell (name c) c.args.own)
+cells_are : (c : goal.After-self-3-1) → c.insert_new.new.self.cells ≡ map.insert (changed c.self.inside.table.cells c.args.node.0 (named (Working (number c)))) c.next_fresh.result (new_cell (name c) c.args.own)
 cells_are c =
-    ap (λ (t : Table). t.cells) c.insert.ensures.inserted
-    ∙ (λ i. map.insert (c.change.ensures.cells i) c.next_fresh.result (c.new.ensures i))
+    c.insert_new.ensures.cells
+    ∙ ap (λ (m : Cells). map.insert m c.next_fresh.result (new_cell c.name-name.result c.args.own)) c.change.ensures.cells
     ∙ ap (λ (x : NodeName). map.insert (changed c.self.inside.table.cells c.args.node.0 (named (Working (number c)))) c.next_fresh.result (new_cell x c.args.own)) c.name-name.ensures
 
 pages_are : (c : goal.After-self-3-1) → c.set_named.new.self.nodes.cells ≡ with_pages c.self.inside.pages.nodes.cells (name c) (record { 0 = c.next_fresh.result }) 1
@@ -72,7 +71,7 @@ pages_are c =
     c.set_named.ensures.pages
     ∙ ap (λ (x : NodeName). with_pages c.self.inside.pages.nodes.cells x (record { 0 = c.next_fresh.result }) 1) c.name-name.ensures
 
-more : (c : goal.After-self-3-1) → map.len c.insert.new.self.cells ≡ map.len c.self.inside.table.cells + 1
+more : (c : goal.After-self-3-1) → map.len c.insert_new.new.self.cells ≡ map.len c.self.inside.table.cells + 1
 more c =
     let t = c.self.inside.table in
     let f = named (Working (number c)) in
@@ -121,13 +120,13 @@ invariant_of-self c =
       counted = record {
         nodes = omega (arith, more c, right.counted.nodes);
         live = right.counted.live ∙ sym (same_pages c);
-        table = omega (arith, more c, right.counted.table, c.change.ensures.count, ap (λ (x : Table). x.count) c.insert.ensures.inserted);
+        table = omega (arith, more c, right.counted.table, c.change.ensures.count, c.insert_new.ensures.count);
         pages = c.set_named.ensures.count ∙ right.counted.pages ∙ sym (same_pages c);
       };
       places = record {
         few = right.places.few;
         nodes = omega (arith, more c, room, right.places.nodes);
-        table = omega (arith, right.places.table, c.change.ensures.room, ap (λ (x : Table). x.room) c.insert.ensures.inserted);
+        table = omega (arith, right.places.table, c.change.ensures.room, c.insert_new.ensures.room);
         pages = omega (arith, right.places.pages, c.set_named.ensures.room);
       };
     }
@@ -138,7 +137,7 @@ returns-clause-replaced c =
     let p = c.self.inside.pages.nodes.cells in
     let k = c.self.inside.counters in
     let pages = pages_are c ∙ sym (pages_replaced t.cells p c.args.node.0 c.next_fresh.result (page c).0 c.args.own c.self.invariant.paged (held c) (vacant c) (page c).1) in
-    let room : c.self.inside.capacity - map.len c.insert.new.self.cells ≡ c.self.inside.capacity - map.len t.cells - 1 = omega (arith, more c) in
+    let room : c.self.inside.capacity - map.len c.insert_new.new.self.cells ≡ c.self.inside.capacity - map.len t.cells - 1 = omega (arith, more c) in
     (λ i. record {
       cells = cells_are c i;
       pages = pages i;

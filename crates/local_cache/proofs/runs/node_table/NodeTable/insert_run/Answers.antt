@@ -39,6 +39,6 @@ invariant_of-self c =
 
 pub returns-then-nodes-eq1-clause-cells : goal.returns-then-nodes-eq1-clause-cells
 returns-then-nodes-eq1-clause-cells c =
-    ap (λ (t : Table). t.cells) c.insert.ensures.inserted
+    ap (λ (t : Table). t.cells) c.insert-then-nodes-eq1.ensures.inserted
     ∙ ap (λ (d : Cell). map.insert c.args.self.now.cells c.args.nodes.first d) c.from_stretch.ensures
     ∙ sym (one_told run run_cell run_goes_on.starts c.args.self.now.cells c.args.nodes c.args.nodes.count c.if-nodes-eq1.true)

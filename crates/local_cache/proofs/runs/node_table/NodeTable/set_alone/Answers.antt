@@ -33,9 +33,9 @@ pub returns-clause-same : goal.returns-clause-same
 returns-clause-same c =
     let n = c.args.node in
     let r : Stretch Run = record { first = n; count = 1; value = c.args.value } in
-    let e = c.insert.ensures.inserted in
-    let count : c.insert.new.self.count ≡ c.remove_run.new.self.count + 1 = ap (λ (t : Table). t.count) e in
-    let room : c.insert.new.self.room ≡ c.remove_run.new.self.room = ap (λ (t : Table). t.room) e in
+    let e = c.insert-2.ensures.inserted in
+    let count : c.insert-2.new.self.count ≡ c.remove_run.new.self.count + 1 = ap (λ (t : Table). t.count) e in
+    let room : c.insert-2.new.self.room ≡ c.remove_run.new.self.room = ap (λ (t : Table). t.room) e in
     record {
       cells = ap (λ (t : Table). t.cells) e
           ∙ ap (λ (m : Cells). map.insert m n c.from_stretch.result) c.remove_run.ensures.cells
@@ -44,13 +44,13 @@ returns-clause-same c =
       room = room ∙ c.remove_run.ensures.room;
       slots = λ q slot at.
           let other : q ≢ n = λ same. none-some slot (sym (ap (map.get c.args.self.now.slots) same ∙ c.remove_run.ensures.apart n (within r n (omega arith) (omega arith))) ∙ at) in
-          ap (λ (t : Table). map.get t.slots q) e ∙ insert_other c.remove_run.new.self.slots n c.insert.result.slot q other
+          ap (λ (t : Table). map.get t.slots q) e ∙ insert_other c.remove_run.new.self.slots n c.insert-2.result.slot q other
           ∙ ap (λ (m : FinMap nat_cmp ℕ). map.get m q) c.remove_run.ensures.slots ∙ at;
     }
 
 pub returns-clause-place : goal.returns-clause-place
 returns-clause-place c = (
-  c.insert.ensures.number,
-  ap (λ (t : Table). map.get t.slots c.insert.result.number) c.insert.ensures.inserted
-      ∙ insert_same c.remove_run.new.self.slots c.args.node c.insert.result.slot c.insert.result.number c.insert.ensures.number,
+  c.insert-2.ensures.number,
+  ap (λ (t : Table). map.get t.slots c.insert-2.result.number) c.insert-2.ensures.inserted
+      ∙ insert_same c.remove_run.new.self.slots c.args.node c.insert-2.result.slot c.insert-2.result.number c.insert-2.ensures.number,
 )
