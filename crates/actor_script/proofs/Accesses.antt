@@ -1,6 +1,6 @@
 -- Lines that are accesses.
 use Rattle.std.proofs.Common.{◌≡◌, ◌<◌, ◌≤◌, ◌∙◌, ℕ, Bool, true, false, List, [], ◌∷◌, length, Option, Some, None, Ok, Err, nat_lt, refl, sym, ap, subst, arith, inl, inr}
-use Rattle.std.specs.Prelude.{◌||◌, MatchOption, IfSome, bytes_eq, codes, if◌then◌else◌}
+use Rattle.std.specs.Prelude.{MatchOption, IfSome, bytes_eq, codes, if◌then◌else◌}
 use Rattle.std.specs.Option.{ok_or}
 use Rattle.std.proofs.lemmas.Bool.{cases_Bool}
 use Rattle.vm_ids.specs.Accessing.{command_for}

@@ -1,11 +1,9 @@
 -- A number, written from its last hexadecimal digit to its first.
-use Rattle.std.proofs.Common.{◌≡◌, ◌+◌, ◌-◌, ◌/◌, ◌%◌, ◌^◌, ◌<◌, ◌≤◌, ◌==◌, ◌&&◌, ℕ, zero, suc, Bool, true, false, List, ◌∷◌, length, take, drop, set, drop_of_length-le, slice_index, arith, refl, sym, ap}
+use Rattle.std.proofs.Common.{◌≡◌, ◌+◌, ◌-◌, ◌/◌, ◌%◌, ◌^◌, ◌<◌, ◌≤◌, ◌==◌, ℕ, zero, suc, false, List, ◌∷◌, length, take, drop, set, drop_of_length-le, arith, sym, ap}
 use Rattle.std.specs.Fmt.{digit_glyph, digits, digits_onto}
 use Rattle.std.proofs.lemmas.List.{drop-set, length-drop, length-set, take_all}
 use Rattle.std.proofs.lemmas.Bool.{cond-true, cond-false, eq-eqb, ne_eqb}
-use Rattle.std.proofs.lemmas.Bool.Decides.{Decides-below_and, Decides-eqb}
 use Rattle.std.proofs.lemmas.Grind.{pow_more}
-use Rattle.hex.specs.Hex.{lower_digits}
 use Rattle.actor_script.specs.Text.{hexadecimal}
 
 last_of : (j k n : ℕ) (acc : List ℕ) → j ≡ suc k → n < 16 → digits_onto j 16 false n acc ≡ digit_glyph false (n % 16) ∷ acc
@@ -40,17 +38,3 @@ some_left left (suc first) small large = omega arith
 
 pub fewer_left : (left first : ℕ) → left < 16 ^ (first + 1) → 1 ≤ first → left / 16 < 16 ^ (first - 1 + 1)
 fewer_left left first small some = let from : first - 1 + 1 ≡ first = omega arith in rw from (omega (arith, small, pow_more 16 first))
-
--- the digits as they stand in the table
-
-abbrev same : ℕ → Bool
-same d = digit_glyph false d == slice_index lower_digits d
-
-abbrev all_same : ℕ → Bool
-all_same zero = true
-all_same (suc n) = same n && all_same n
-
-pub digit_is : (d : ℕ) → d < 16 → digit_glyph false d ≡ slice_index lower_digits d
-digit_is d small =
-    let all = Decides-below_and same (λ k. digit_glyph false k ≡ slice_index lower_digits k) all_same (λ k. Decides-eqb (digit_glyph false k) (slice_index lower_digits k)) refl (λ n. refl) 16 in
-    all.0 refl d small

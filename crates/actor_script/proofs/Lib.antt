@@ -15,7 +15,6 @@ pub mod Numbers
 -- Operands that have a space in them.
 pub mod Operands
 -- Bytes, read from two digits each.
-pub mod Pieces
 pub mod Replies
 -- Lines of scripts that have some commands of actors, and others besides.
 pub mod Sharing

@@ -4,7 +4,8 @@ ghost use Rattle.std.specs.FinMap as map;
 ghost use Rattle.stretches.specs.Stretch.{is_in};
 
 use crate::draws::Draws;
-use mixed_map::{Alone, Found, MixedMap};
+use mixed_map::{Alone, Found, MixedMap, Same};
+use std::alloc::Global;
 use std::test::Fail;
 use stretches::{Rising, Stretch};
 
@@ -14,10 +15,14 @@ struct Frame {
     number: u64,
 }
 
+impl Same for Frame {
+    ghost same = { λ entry copy is. is };
+}
+
 impl Alone<Rising> for Frame {
     ghost told = { λ v. record { number = v.0 } };
 
-    fn from_stretch(value: Rising) -> Self {
+    fn from_stretch(_alloc: Global, value: Rising) -> Self {
         Frame { number: value.0 }
     }
 }

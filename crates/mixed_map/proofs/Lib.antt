@@ -1,3 +1,4 @@
+mod Clones
 pub mod Maps
 mod Filling
 mod Keeping

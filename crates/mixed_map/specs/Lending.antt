@@ -1,6 +1,7 @@
 -- An entry that stands alone, lent.
 use Rattle.std.specs.Borrow.{Lends, Fml, RattleType, MutBor}
 use Rattle.std.specs.FinMap as map
+use Rattle.std.specs.declared.clone.Clone.{Ghosts as CloneGhosts}
 use Rattle.stretches.specs.declared.says.Says.{Ghosts}
 use Rattle.mixed_map.specs.declared.alone.Alone.{Ghosts as AloneGhosts}
 use Rattle.mixed_map.specs.declared.place.Place.{Place}
@@ -16,7 +17,7 @@ LendsAlone S m place r =
     (λ w. record m.now { entries = map.insert m.now.entries place.number w })
 
 abbrev pub LendsEntry : (V S : RattleType) → Ghosts V.Denot → AloneGhosts S.Denot V.Denot
-    → MutBor (Mixed V.Denot S.Denot) → Place → MutBor S.Denot → Fml
-LendsEntry V S says alone m place r =
-    Lends (mixed_map.the_row V S says alone) S m r
+    → CloneGhosts S.Denot → MutBor (Mixed V.Denot S.Denot) → Place → MutBor S.Denot → Fml
+LendsEntry V S says alone clone m place r =
+    Lends (mixed_map.the_row V S says alone clone) S m r
     (λ w. record m.now { cells = map.insert m.now.cells place.number w })

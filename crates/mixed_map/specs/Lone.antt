@@ -1,9 +1,10 @@
 -- Entries by number, each in a place that an index knows.
-use Rattle.std.specs.Prelude.{◌≡◌, ◌≢◌, ℕ, ◌+◌, ◌<◌, ◌≤◌, refl, List, [], ◌∷◌, length, Option, Some, None, slice_get, slice_index_or}
+use Rattle.std.specs.Prelude.{◌≡◌, ℕ, refl, List, [], ◌∷◌, Option, Some, None}
 use Rattle.std.specs.Ordering.{nat_cmp}
 use Rattle.std.specs.FinMap.{FinMap}
 use Rattle.std.specs.FinMap as map
 use Rattle.std.specs.Coded.{Coded, code_by, coded×, coded_ℕ}
+use Rattle.slab.specs.Slab.{Slab, get, ContainsKey, slab_len}
 
 -- the entry of each number, the slot of each, and for how many there is room
 pub record Lone (S : Type 0) : Type 0 where
@@ -23,9 +24,9 @@ lone_code {S} code =
 
 module _ {S : Type 0} where
   -- what stands at a place, if one is given
-  abbrev pub slot_at : List S → Option ℕ → Option S
+  abbrev pub slot_at : Slab S → Option ℕ → Option S
   slot_at slots None = None
-  slot_at slots (Some place) = slice_get slots place
+  slot_at slots (Some place) = get slots place
 
   -- the map with this at a number, or with nothing there
   abbrev pub written : FinMap nat_cmp S → ℕ → Option S → FinMap nat_cmp S
@@ -33,21 +34,14 @@ module _ {S : Type 0} where
   written m n (Some x) = map.insert m n x
 
   -- the entry of each number, by the numbers and their places
-  unfoldable pub filled : List S → List (ℕ × ℕ) → FinMap nat_cmp S
+  unfoldable pub filled : Slab S → List (ℕ × ℕ) → FinMap nat_cmp S
   filled slots [] = map.empty
-  filled slots (e ∷ es) = written (filled slots es) e.0 (slice_get slots e.1)
+  filled slots (e ∷ es) = written (filled slots es) e.0 (get slots e.1)
 
-  -- what is known of the places of numbers, of the slots, and of the vacant places among them
-  pub record IsKept (places : FinMap nat_cmp ℕ) (slots : List S) (vacant : List ℕ)
-      (room slots_limit vacant_limit : ℕ) : Type 0 where
-    pub within : (n place : ℕ) → map.get places n ≡ Some place → place < length slots
+  -- what is known of the places of numbers, and of the slab that has the entry at each place
+  pub record IsKept (places : FinMap nat_cmp ℕ) (slots : Slab S) (room : ℕ) : Type 0 where
+    pub within : (n place : ℕ) → map.get places n ≡ Some place → ContainsKey slots place
     pub once : (n m place : ℕ) → map.get places n ≡ Some place → map.get places m ≡ Some place
         → n ≡ m
-    pub free : (i : ℕ) → i < length vacant → (slice_index_or vacant i 0 < length slots)
-        × ((n : ℕ) → map.get places n ≢ Some (slice_index_or vacant i 0))
-    pub apart : (i j : ℕ) → i < j → j < length vacant
-        → slice_index_or vacant i 0 ≢ slice_index_or vacant j 0
-    pub counted : map.len places + length vacant ≡ length slots
-    pub few : length slots ≤ room
-    pub slots_room : room ≤ slots_limit
-    pub vacant_room : room ≤ vacant_limit
+    pub counted : map.len places ≡ slab_len slots
+    pub exact : slots.capacity ≡ room

@@ -1,29 +1,43 @@
 // Entries by number, each in a slot of its own.
-ghost use Rattle.std.specs.Prelude.{◌≡◌, ◌≢◌, ℕ, ◌+◌, ◌<◌, ◌≤◌, None, Some, max, IfNone, IfSome, IsOk, OnErr, OnOk, option_copied};
+ghost use Rattle.std.specs.Prelude.{◌≡◌, ◌≢◌, ℕ, ◌+◌, ◌<◌, ◌≤◌, None, Some, max, IfNone, IfOk, IfSome, IsOk, OnErr, OnOk, option_copied};
 ghost use Rattle.std.specs.Borrow.{sem};
 ghost use Rattle.std.specs.FinMap as map;
 ghost use Rattle.mixed_map.specs.Place.{IsPlace};
 
-use crate::Place;
+use crate::{Place, Same};
 use linear_index::Index;
+use slab::Slab;
 use std::alloc::{AllocError, Global};
 use std::marker::Model;
 
+// The same entries under the same keys, with room for just so many in all. A slab that grows may
+// come to have room for more than were asked for, and may give out keys up to there, so it is looked
+// at before it is used.
+fn roomier<S: Same>(slots: &Slab<S>, room: u32) -> Result<Slab<S>, AllocError>
+    ensures { IfOk result (λ more. more ≡ record slots.now { capacity = room }) }
+{
+    let total = room as usize;
+    let mut more = slots.clone()?;
+    more.reserve_exact(total.saturating_sub(more.len()))?;
+    if more.capacity() > total {
+        return Err(AllocError);
+    }
+    Ok(more)
+}
+
 // A finite map by number: an index from numbers to slots.
 #[derive(Drop)]
-pub(crate) struct LoneMap<S: Copy> {
+pub(crate) struct LoneMap<S> {
     // The slot of each number.
     index: Index,
-    // The entry in each slot. A vacant one keeps what it had.
-    slots: Vec<S>,
-    // The slots that were given back.
-    vacant: Vec<u32>,
-    // For so many entries there is memory.
+    // The entry in each slot: the slot is its key.
+    slots: Slab<S>,
+    // For so many entries there is memory, and slots are below.
     room: u32,
 }
 
-impl<S: Copy> Model for LoneMap<S> {
-    ghost use Rattle.std.specs.Prelude.{◌≤◌, vec_capacity};
+impl<S> Model for LoneMap<S> {
+    ghost use Rattle.std.specs.Prelude.{◌≤◌};
     ghost use Rattle.std.specs.FinMap as map;
     ghost use Rattle.mixed_map.specs.Lone.{Lone, lone_code, filled, IsKept};
 
@@ -32,17 +46,15 @@ impl<S: Copy> Model for LoneMap<S> {
     ghost coded = { lone_code S.code };
 
     ghost view = { λ l. record {
-      entries = filled l.slots.items (map.entries l.index.places);
+      entries = filled l.slots (map.entries l.index.places);
       slots = l.index.places;
       room = l.room;
     } };
 
-    ghost invariant = { λ l. (l.room ≤ l.index.room)
-        × IsKept l.index.places l.slots.items l.vacant.items l.room (vec_capacity l.slots)
-        (vec_capacity l.vacant) };
+    ghost invariant = { λ l. (l.room ≤ l.index.room) × IsKept l.index.places l.slots l.room };
 }
 
-impl<S: Copy> LoneMap<S> {
+impl<S> LoneMap<S> {
     ghost use Rattle.mixed_map.specs.Lending.{LendsAlone};
 
     // No entry, and no memory for one.
@@ -51,8 +63,7 @@ impl<S: Copy> LoneMap<S> {
     {
         LoneMap {
             index: Index::new(alloc),
-            slots: Vec::new(alloc),
-            vacant: Vec::new(alloc),
+            slots: Slab::new(alloc),
             room: 0,
         }
     }
@@ -60,16 +71,16 @@ impl<S: Copy> LoneMap<S> {
     // Makes room for so many entries in all. It can fail only where there was less room, and then
     // nothing changes.
     pub(crate) fn reserve(&mut self, room: u32) -> Result<(), AllocError>
+    where
+        S: Same,
         ensures ok { OnOk result (self.new ≡ record self.old { room = max self.old.room room }) }
         ensures err { OnErr result (self.new ≡ self.old) }
         ensures enough { room ≤ self.old.room → IsOk result }
     {
         if room > self.room {
-            let total = room as usize;
-            self.slots.reserve(total.saturating_sub(self.slots.len()))?;
-            self.vacant
-                .reserve(total.saturating_sub(self.vacant.len()))?;
+            let slots = roomier(&self.slots, room)?;
             self.index.reserve(room)?;
+            self.slots = slots;
             self.room = room;
         }
         Ok(())
@@ -162,19 +173,9 @@ impl<S: Copy> LoneMap<S> {
         } }
         ensures count { map.len self.new.slots ≡ map.len self.old.slots + 1 }
     {
-        match self.vacant.pop() {
-            Some(slot) => {
-                self.slots[slot as usize] = entry;
-                self.index.enter(number, slot);
-                Place { number, slot }
-            }
-            None => {
-                let slot = self.slots.len() as u32;
-                self.slots.push_reserved(entry);
-                self.index.enter(number, slot);
-                Place { number, slot }
-            }
-        }
+        let slot = self.slots.insert_reserved(entry) as u32;
+        self.index.enter(number, slot);
+        Place { number, slot }
     }
 
     // Takes out the entry at a place.
@@ -188,7 +189,6 @@ impl<S: Copy> LoneMap<S> {
         ensures count { map.len self.new.slots + 1 ≡ map.len self.old.slots }
     {
         self.index.leave(place.number, place.slot);
-        self.vacant.push_reserved(place.slot);
-        self.slots[place.slot as usize]
+        self.slots.remove(place.slot as usize)
     }
 }

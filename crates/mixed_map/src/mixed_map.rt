@@ -22,6 +22,7 @@ use stretches::{Says, Stretch, StretchList};
 pub struct MixedMap<V: Says, S: Alone<V>> {
     stretches: StretchList<V>,
     lone: LoneMap<S>,
+    alloc: Global,
 }
 
 impl<V: Says, S: Alone<V>> Model for MixedMap<V, S> {
@@ -61,6 +62,7 @@ impl<V: Says, S: Alone<V>> MixedMap<V, S> {
         MixedMap {
             stretches: StretchList::new(alloc),
             lone: LoneMap::new(alloc),
+            alloc,
         }
     }
 
@@ -154,8 +156,8 @@ impl<V: Says, S: Alone<V>> MixedMap<V, S> {
     #[inline(always)]
     pub fn at_mut(&mut self, place: Place) -> &mut S
         requires { IsPlace self.old.slots place }
-        ensures* writes_back { sem 𝓛 (LendsEntry V.row S.row V.Says S.Alone self.entry place
-            result) }
+        ensures* writes_back { sem 𝓛 (LendsEntry V.row S.row V.Says S.Alone.own S.Clone
+            self.entry place result) }
         ensures entry { map.get self.old.cells place.number ≡ Some result.now }
     {
         self.lone.at_mut(place)
@@ -235,8 +237,16 @@ impl<V: Says, S: Alone<V>> MixedMap<V, S> {
             self.stretches.join_at(stretch.first + stretch.count as u64);
             self.stretches.join_at(stretch.first);
         } else if stretch.count == 1 {
-            self.insert(stretch.first, S::from_stretch(stretch.value));
+            let entry = self.entry_of(stretch.value);
+            self.insert(stretch.first, entry);
         }
+    }
+
+    // The entry of a number of which a stretch says this.
+    fn entry_of(&self, value: V) -> S
+        ensures { result ≡ S.told value }
+    {
+        S::from_stretch(self.alloc, value)
     }
 
     /// Says something else of numbers that are in one stretch: what this stretch says of them. It

@@ -1,4 +1,4 @@
-use Rattle.std.proofs.Common.{◌≡◌, ◌+◌, ℕ, sym, ap, subst, ◌∙◌, refl, arith}
+use Rattle.std.proofs.Common.{◌+◌, ℕ, sym, ap, subst, ◌∙◌, refl, arith}
 use Rattle.std.specs.Prelude.{IsSome}
 use Rattle.std.proofs.lemmas.Bool.{cond-false, cond-true}
 use Rattle.std.specs.Ordering.{nat_cmp}

@@ -1,6 +1,5 @@
-use Rattle.std.proofs.Common.{◌≡◌, ◌+◌, Option, refl, sym, ap, subst, ◌∙◌, arith}
+use Rattle.std.proofs.Common.{refl, sym, ap, subst, ◌∙◌, arith}
 use Rattle.std.specs.FinMap as map
-use Rattle.stretches.specs.Stretches.{said}
 use Rattle.mixed_map.specs.Lone.{Lone}
 use Rattle.mixed_map.specs.Mixed.{IsMixed, Mixed}
 use Rattle.mixed_map.proofs.Telling.{cell_alone, mixed_changed, none_left, none_less, seen, the_mixed, told_remove}

@@ -1,8 +1,6 @@
-use Rattle.std.proofs.Common.{◌≡◌, ◌≢◌, ◌+◌, ◌-◌, ◌<◌, ◌≤◌, ℕ, List, Option, Some, None, cond, true, false, refl, sym, ap, subst, ◌∙◌, inl, inr, arith}
+use Rattle.std.proofs.Common.{None, cond, sym, ap, ◌∙◌}
 use Rattle.std.specs.FinMap as map
-use Rattle.stretches.specs.Stretches.{Stretches, number_count, said}
-use Rattle.mixed_map.specs.Lone.{Lone}
-use Rattle.mixed_map.specs.Mixed.{IsMixed, Mixed, with_stretch, with_told}
+use Rattle.mixed_map.specs.Mixed.{Mixed}
 use Rattle.stretches.specs.Stretch.{is_in}
 use Rattle.mixed_map.proofs.Telling.{is_without, tells, told_less}
 use Rattle.mixed_map.proofs.mixed_map.MixedMap.remove_stretch.Goals as goal

@@ -1,5 +1,4 @@
-use Rattle.std.proofs.Common.{◌≡◌, ◌+◌, ◌≤◌, ℕ, sym, ap, subst, ◌∙◌, arith}
-use Rattle.std.specs.FinMap as map
+use Rattle.std.proofs.Common.{◌+◌, ℕ, sym, ap, subst, ◌∙◌, arith}
 use Rattle.stretches.specs.Stretches.{AreTogether}
 use Rattle.stretches.proofs.Reading.Numbers.{within}
 use Rattle.mixed_map.specs.Mixed.{without_range}
