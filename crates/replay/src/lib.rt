@@ -26,8 +26,6 @@ mod processes;
 mod replaying;
 mod segments;
 mod status;
-#[cfg(test)]
-mod tests;
 mod top;
 mod trial_words;
 mod trying;

@@ -1,0 +1,2 @@
+-- What is known of the pages of the first cache that was made.
+mod FirstPages

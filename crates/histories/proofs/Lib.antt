@@ -1,4 +1,0 @@
--- What is known of some nodes and of some pages.
-pub mod Known
--- What is known of the pages of the first cache that was made.
-mod FirstPages
