@@ -12,9 +12,11 @@
 mod fault;
 mod file_mapper;
 mod folder;
+mod message;
 mod opened;
 mod sink;
 mod source;
+mod stack;
 mod swap_area;
 #[cfg(test)]
 mod tests;
@@ -22,9 +24,11 @@ mod waiting;
 
 use fault::Fault;
 use file_mapper::FileMapper;
+use message::tell;
 use replay::{Status, folder, page_size, run};
 use sink::StreamSink;
 use source::StreamSource;
+use stack::take_stack;
 use std::env;
 use std::io::ErrorKind;
 use std::os::fd::AsFd;
@@ -82,13 +86,21 @@ fn run_words(rt: &HostRuntime, words: &[String]) -> Status {
     )
 }
 
-fn main(rt: HostRuntime) -> ExitCode {
-    let status = match words_given(&rt) {
-        Ok(words) => run_words(&rt, &words),
+// Runs the words that were given, with the stack that this takes.
+fn run_given(rt: &HostRuntime) -> Status {
+    if take_stack(rt).is_err() {
+        return Status::NoMemory;
+    }
+    match words_given(rt) {
+        Ok(words) => run_words(rt, &words),
         Err(status) => status,
-    };
+    }
+}
+
+fn main(rt: HostRuntime) -> ExitCode {
+    let status = run_given(&rt);
     if let Some(fault) = Fault::of(status) {
-        let _ = eprintln!(rt; "{fault}");
+        tell(&rt, fault);
     }
     ExitCode::from(status.code())
 }

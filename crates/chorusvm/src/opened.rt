@@ -55,6 +55,25 @@ impl FileId {
     }
 }
 
+/// A file at a moment. Whoever writes the file changes it.
+#[derive(Clone, Copy, PartialEq)]
+pub struct Version {
+    length: u64,
+    seconds: i64,
+    nanoseconds: i64,
+}
+
+impl Version {
+    /// The file at the moment when this was found of it.
+    pub fn of(found: &Metadata) -> Version {
+        Version {
+            length: found.len(),
+            seconds: found.ctime(),
+            nanoseconds: found.ctime_nsec(),
+        }
+    }
+}
+
 /// An opened regular file. As long as it is open it is locked: against runs that write it, and once
 /// it was owned against all others.
 #[derive(Drop)]
@@ -89,6 +108,19 @@ impl Opened {
         self.file.metadata()
     }
 
+    /// Which version of the file is there now.
+    pub fn version(&self) -> io::Result<Version> {
+        Ok(Version::of(&self.metadata()?))
+    }
+
+    /// Whether nobody wrote the file since.
+    pub fn is_still(&self, version: Version) -> bool {
+        match self.version() {
+            Ok(now) => now == version,
+            Err(_) => false,
+        }
+    }
+
     /// Whether it is open for this.
     pub fn serves(&self, uses: Uses) -> bool {
         (self.uses.reads || !uses.reads) && (self.uses.writes || !uses.writes)
@@ -99,12 +131,16 @@ impl Opened {
         locked(self.file.try_lock_shared())
     }
 
-    /// Locks it against all other runs. Fails where one has it open; then it isn't locked any more.
+    /// Whether it is locked against all other runs.
+    pub fn is_owned(&self) -> bool {
+        self.owned
+    }
+
+    /// Locks it against all other runs. The lock that it had is let go for a moment, in which
+    /// another run may write the file. Fails where one has it open; then it isn't locked any more.
     pub fn own(&mut self) -> io::Result<()> {
-        if !self.owned {
-            locked(self.file.try_lock())?;
-            self.owned = true;
-        }
+        locked(self.file.try_lock())?;
+        self.owned = true;
         Ok(())
     }
 

@@ -9,8 +9,6 @@ use std::{fs, io};
 #[derive(Drop)]
 pub struct SwapArea {
     file: File,
-    // So many bytes it has at least.
-    end: u64,
 }
 
 impl SwapArea {
@@ -18,10 +16,8 @@ impl SwapArea {
     pub fn new(rt: &HostRuntime, path: &str) -> io::Result<SwapArea> {
         let mut how = OpenOptions::new();
         how.read(true).write(true).create_new(true).mode(0o600);
-        Ok(SwapArea {
-            file: open_above(rt, path, &how)?,
-            end: 0,
-        })
+        let file = open_above(rt, path, &how)?;
+        Ok(SwapArea { file })
     }
 
     /// Reads bytes that were written at this place. Fails where the file doesn't reach so far any
@@ -30,21 +26,8 @@ impl SwapArea {
         self.file.read_exact_at(into, at)
     }
 
-    // Fails where somebody cut the file short. Its last byte is read, which takes less than to ask
-    // for its length.
-    fn look_at_end(&self) -> io::Result<()> {
-        match self.end.checked_sub(1) {
-            Some(last) => self.file.read_exact_at(&mut [0], last),
-            None => Ok(()),
-        }
-    }
-
-    /// Writes these bytes at this place. Fails where somebody cut the file short: what is cut off
-    /// would be read as zeros once the file reached behind it again.
-    pub fn write(&mut self, at: u64, from: &[u8]) -> io::Result<()> {
-        self.look_at_end()?;
-        self.file.write_all_at(from, at)?;
-        self.end = self.end.max(at.saturating_add(from.len() as u64));
-        Ok(())
+    /// Writes these bytes at this place.
+    pub fn write(&self, at: u64, from: &[u8]) -> io::Result<()> {
+        self.file.write_all_at(from, at)
     }
 }

@@ -55,6 +55,7 @@ fn replay_lines<V: Service<M, C>, S: Source, K: Sink, M: Mapper, C: Chooser, D: 
 }
 
 /// Replays the script that the source has left, over a manager of this size.
+#[inline(never)]
 pub fn replay_commands<S: Source, K: Sink, M: Mapper, C: Chooser, D: Dispatcher>(
     alloc: Global,
     size: Size,
@@ -94,6 +95,7 @@ pub fn replay_commands<S: Source, K: Sink, M: Mapper, C: Chooser, D: Dispatcher>
 }
 
 /// Replays the script of processes that the source has left, over a manager of so many page frames.
+#[inline(never)]
 pub fn replay_processes<S: Source, K: Sink, M: Mapper, C: Chooser, D: Dispatcher>(
     alloc: Global,
     frames: u32,
@@ -133,6 +135,7 @@ pub fn replay_processes<S: Source, K: Sink, M: Mapper, C: Chooser, D: Dispatcher
 
 /// Replays the script of message ports that the source has left, over a manager of so many page
 /// frames.
+#[inline(never)]
 pub fn replay_messages<S: Source, K: Sink, M: Mapper, C: Chooser, D: Dispatcher>(
     alloc: Global,
     frames: u32,
@@ -164,6 +167,7 @@ pub fn replay_messages<S: Source, K: Sink, M: Mapper, C: Chooser, D: Dispatcher>
 
 /// Replays the script of segments that the source has left, over a manager of so many page frames.
 /// So many caches are kept to which nothing refers.
+#[inline(never)]
 pub fn replay_segments<S: Source, K: Sink, M: Mapper, C: Chooser, D: Dispatcher>(
     alloc: Global,
     frames: u32,
@@ -204,6 +208,7 @@ pub fn replay_segments<S: Source, K: Sink, M: Mapper, C: Chooser, D: Dispatcher>
 
 /// Replays the script that the source has left, over a manager in which each live page has one of
 /// so many page frames.
+#[inline(never)]
 pub fn replay_flat<S: Source, K: Sink, M: Mapper, C: Chooser, D: Dispatcher>(
     alloc: Global,
     frames: u32,

@@ -71,6 +71,7 @@ fn answer_all<G: Gmi<M, C>, M: Mapper, C: Chooser, D: Dispatcher, K: Sink>(
 
 /// Answers each line of the script over a manager of so many page frames, and writes the summary of
 /// the answers. `NoMemory` where there is none to begin with.
+#[inline(never)]
 pub fn trial<K: Sink, M: Mapper, C: Chooser, D: Dispatcher>(
     alloc: Global,
     script: Generated,

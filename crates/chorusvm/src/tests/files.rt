@@ -59,6 +59,26 @@ fn a_segment_is_the_file_that_was_opened(rt: HostRuntime) -> io::Result<()> {
 }
 
 #[test]
+fn a_segment_that_was_cut_is_no_zeros(rt: HostRuntime) -> io::Result<()> {
+    let folder = new_folder(&rt, "cut")?;
+    let file = path_in(&rt, &folder, "seg.1")?;
+    fs::write(&rt, file.as_str(), [7u8; 1024].as_slice())?;
+    let mut mapper = mapper_over(&rt, &folder)?;
+    let mut page = [1u8; 512];
+    assert_eq!(&rt; mapper.size(SegId(1)), Ok(Some(2)));
+    fs::write(&rt, file.as_str(), [7u8; 1000].as_slice())?;
+    assert_eq!(&rt; mapper.pull_in(SegId(1), PageNo(0), &mut page), Ok(()));
+    assert_eq!(&rt; mapper.pull_in(SegId(1), PageNo(1), &mut page), Err(Failed));
+    assert_eq!(&rt;
+        mapper.push_out(SegId(1), PageNo(1), &[9; 512]),
+        Err(Failed)
+    );
+    assert_eq!(&rt; mapper.size(SegId(1)), Ok(Some(2)));
+    assert_eq!(&rt; mapper.push_out(SegId(1), PageNo(1), &[9; 512]), Ok(()));
+    fs::remove_dir_all(&rt, folder)
+}
+
+#[test]
 fn a_segment_is_written_by_one_run(rt: HostRuntime) -> io::Result<()> {
     let folder = new_folder(&rt, "runs")?;
     fs::write(&rt, path_in(&rt, &folder, "seg.1")?, [7u8; 512].as_slice())?;
@@ -82,18 +102,17 @@ fn a_swap_area_is_of_one_run_alone(rt: HostRuntime) -> io::Result<()> {
     let mut page = [1u8; 512];
     assert_eq!(&rt; one.swap_in(SlotId(0), &mut page), Err(Failed));
     fs::write(&rt, swap.as_str(), "mine")?;
-    assert_eq!(&rt; one.swap_out(SlotId(5), &[8; 512]), Err(Failed));
+    assert_eq!(&rt; one.swap_out(SlotId(5), &[8; 512]), Ok(()));
     assert_eq!(&rt; fs::read(&rt, swap.as_str())?.len(), 4);
     fs::remove_file(&rt, swap.as_str())?;
     symlink(&rt, "nowhere", swap.as_str())?;
-    assert_eq!(&rt; one.swap_out(SlotId(5), &[8; 512]), Err(Failed));
-    fs::remove_file(&rt, swap.as_str())?;
-    assert_eq!(&rt; one.swap_out(SlotId(5), &[8; 512]), Ok(()));
-    assert!(&rt; !fs::exists(&rt, swap.as_str())?);
     assert_eq!(&rt; other.swap_out(SlotId(5), &[9; 512]), Ok(()));
+    fs::remove_file(&rt, swap.as_str())?;
     assert_eq!(&rt; one.swap_in(SlotId(5), &mut page), Ok(()));
     assert_eq!(&rt; page, [8; 512]);
     assert_eq!(&rt; one.swap_in(SlotId(6), &mut page), Err(Failed));
+    let mut nowhere = mapper_over(&rt, &path_in(&rt, &folder, "none")?)?;
+    assert_eq!(&rt; nowhere.swap_out(SlotId(5), &[8; 512]), Err(Failed));
     fs::remove_dir(&rt, folder)
 }
 
