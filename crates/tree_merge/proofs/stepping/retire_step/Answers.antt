@@ -1,4 +1,4 @@
-use Rattle.std.proofs.Common.{◌≡◌, IsSome, sym, ap, ◌∙◌, subst, arith}
+use Rattle.std.proofs.Common.{◌≡◌, ◌+◌, IsSome, sym, ap, ◌∙◌, subst, arith}
 use Rattle.local_cache.specs.Arena.{Arena, HasNode, node_at}
 use Rattle.local_cache.specs.Reading.{name_of}
 use Rattle.local_cache.specs.Sound.{IsSound}
@@ -49,6 +49,6 @@ pub returns-else-many-gt0-clause-step : goal.returns-else-many-gt0-clause-step
 returns-else-many-gt0-clause-step c =
     let x = c.args.extent in
     let one = c.retire-released in
-    let same = c.retire_many-many.ensures.none (omega arith) ∙ c.gather.ensures in
+    let same : c.retire_many-many.new.caches ≡ c.args.caches.now = c.retire_many-many.ensures.none (omega arith) ∙ c.gather.ensures in
     subst (λ (b : Arena). IsRetireStep b one.new.caches x c.args.done (record { pages = 1; released = one.result })) same
     (retired_one c.retire_many-many.new.caches one.new.caches x c.args.done one.result one.ensures.alone)
