@@ -20,19 +20,61 @@ ghost use Rattle.fault_path.specs.Faults.{HasLoose, IsHeirOf, IsOwner, MayWrite,
 use crate::gathering::{copy_out, double, release};
 use crate::giving::{drop_translations, hand_page, own_page, settle_in};
 use crate::writing::{hand_over, own_framed};
-use history_tree::heir;
+use history_tree::{heir, owner_of};
 use local_cache::{Caches, OwnState};
 use residency::{Miss, Store};
 use vm_ids::{FrameId, NodeId};
 use vm_port::{Chooser, Mapper};
 
-/// The page of a node, whose owner is told, is made ready for a write: the node owns its page, in a
-/// frame, which is the answer, and its heir, where there is one, has the page as it is. The bytes
-/// of the frame may be written then, and the page is dirty; where it is one of a segment, that was
-/// granted before. Translations that led to the page, or to that of its owner, are dropped. All
-/// frames are gathered before anything changes, so that after a fault every page is where it was,
-/// or left its frame.
+/// The page of a node is made ready for a write: the node owns its page, in a frame, which is the
+/// answer, and its heir, where there is one, has the page as it is. The bytes of the frame may be
+/// written then, and the page is dirty; where it is one of a segment, that was granted before.
+/// Translations that led to the page, or to that of its owner, are dropped. All frames are gathered
+/// before anything changes, so that after a fault every page is where it was, or left its frame.
 pub fn write_fault<M: Mapper, C: Chooser>(
+    store: &mut Store,
+    caches: &mut Caches,
+    node: NodeId,
+    mapper: &mut M,
+    chooser: &mut C,
+) -> Result<FrameId, Miss>
+    requires right { RightForest M.Mapper mapper.old caches.old store.old }
+    requires node { HasNode caches.old node }
+    requires live { is_live (name_of caches.old node) ≡ true }
+    requires granted { MayWrite caches.old node }
+    requires loose { HasLoose 3 store.old.frames }
+    requires copies { caches.old.copies + 1 < 2 ^ 63 }
+    ensures answered { Across IsAnswered M.Mapper
+        mapper.old caches.old store.old mapper.new caches.new store.new }
+    ensures ready { IfOk result (λ f. Between (IsFramed readied node f.0) M.Mapper
+        mapper.old caches.old store.old mapper.new caches.new store.new) }
+    ensures missed { IfErr result (λ miss. Across (IsMissed miss) M.Mapper
+        mapper.old caches.old store.old mapper.new caches.new store.new) }
+    ensures drops { (o : NodeId) → IsOwner caches.old node o
+        → Drops (MayCome caches.old o) caches.old store.old caches.new store.new }
+    ensures homes { (o : NodeId) → IsOwner caches.old node o
+        → OnOk result (DropsHomes o node store.old store.new) }
+    ensures alone { OnOk result (IsAlone caches.new (name_of caches.new node)) }
+    ensures frames { (o : NodeId) → IsOwner caches.old node o
+        → Between (OnlyCome (IsOfWrite caches.old node o)) M.Mapper
+        mapper.old caches.old store.old mapper.new caches.new store.new }
+    ensures copies { OnOk result (caches.new.copies ≤ caches.old.copies + 2) }
+    ensures traffic { (o : NodeId) → IsOwner caches.old node o → OnOk result (Takes
+        (pulls_to_write caches.old node o) (frames_to_write caches.old node o)
+        store.old.frames (M.counts mapper.old) (M.counts mapper.new)) }
+    ensures most { TakesAtMost 1 3 store.old.frames (M.counts mapper.old) (M.counts mapper.new) }
+    ensures no_pull { (o : NodeId) → IsOwner caches.old node o →
+        is_at_hand (own_of caches.old o) ≡ true →
+        NoPull (M.counts mapper.old) (M.counts mapper.new) }
+    ensures victim { (o : NodeId) → IsOwner caches.old node o →
+        is_at_hand (own_of caches.old o) ≡ true → OnlyVictim result }
+{
+    let owner = owner_of(caches, node);
+    write_from_owner(store, caches, node, owner, mapper, chooser)
+}
+
+/// The same where the owner of the node is told.
+pub fn write_from_owner<M: Mapper, C: Chooser>(
     store: &mut Store,
     caches: &mut Caches,
     node: NodeId,

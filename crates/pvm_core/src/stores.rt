@@ -20,7 +20,7 @@ use crate::loads::NodesAt;
 use crate::pieces::{fault_of, write_found, write_frame};
 use crate::translations::{byte_at, remember, translated_for_writing};
 use crate::writes::grant_range;
-use fault_path::{read_owner, write_fault};
+use fault_path::{read_fault, write_from_owner};
 use page_tables::Translation;
 use regions::Place;
 use vm_ids::{ActorId, Command, Extent, FaultAt, Piece, Refusal, Trouble};
@@ -145,7 +145,7 @@ impl Pvm {
             self.new.store.tables actor.0 address (length piece.now)))) }
     {
         let bytes = piece.as_slice();
-        match write_fault(
+        match write_from_owner(
             &mut self.store,
             &mut self.caches,
             nodes.node,
@@ -199,8 +199,8 @@ impl Pvm {
         ensures admits { StillAdmits Admits self.old self.new }
         ensures grants { GrantsStay self.old.caches self.new.caches }
     {
-        let owner = nodes.owner;
-        if let Err(miss) = read_owner(&mut self.store, &mut self.caches, owner, mapper, chooser) {
+        let node = nodes.node;
+        if let Err(miss) = read_fault(&mut self.store, &mut self.caches, node, mapper, chooser) {
             return Err(Trouble::Mapper(fault_of(miss, place.page)));
         }
         Ok(())

@@ -20,11 +20,30 @@ use Rattle.local_cache.proofs.Nodes.Cells.{find-put_other}
 use Rattle.tree_merge.specs.declared.released.Released.{Released}
 use Rattle.tree_merge.specs.Stepping.{IsDetachedAlone}
 use Rattle.tree_merge.proofs.CopiedPages.Changes.{find-new}
-use Rattle.tree_merge.proofs.PagesAlone.Others.{IsThere, apart_fresh, between_there, detached_there, live_name}
+use Rattle.tree_merge.proofs.PagesAlone.Others.{IsThere, apart_fresh, between_there, detached_there}
 use Rattle.tree_merge.proofs.PagesAlone.Retired.{alone_room, alone_sizes}
 use Rattle.move_pages.specs.Moved.{IsMovedAlone}
 use Rattle.move_pages.proofs.Moves.{move_consistent, move_nodes, move_others, move_room, move_sizes, move_sound, move_zero}
 use Rattle.move_pages.proofs.MovedPages.Changes.{exchanged_is}
+
+-- One node
+
+one_node : (n : NodeId) → next_node n 0 ≡ n
+one_node n = let same : n.0 + 0 ≡ n.0 = omega arith in λ i. record { 0 = same i }
+
+one_named : (b : Arena) (n : NodeId) (cache : CacheId) (page : PageNo) → HasNode b n → name_of b n ≡ Live cache page → AreNamed b n cache page 1
+one_named b n cache page held named k less =
+    let first : k ≡ 0 = omega arith in
+    subst (λ j. HasNode b (next_node n j) × (name_of b (next_node n j) ≡ Live cache (record { 0 = page.0 + j }))) (sym first)
+    (subst (HasNode b) (sym (one_node n)) held, ap (name_of b) (one_node n) ∙ named ∙ (let same : page.0 ≡ page.0 + 0 = omega arith in λ i. Live cache (record { 0 = same i })))
+
+-- the fresh node of a page that was detached
+pub fresh_is : (a b : Arena) (cache : CacheId) (page : PageNo) (r : Released) (is : IsDetachedAlone a b cache page Zero r) (n : NodeId) → node_at b cache.0 page.0 ≡ Some n → n ≡ is.fresh
+fresh_is a b cache page r is n at =
+    let held : HasNode b is.fresh = ap (λ (x : Arena). is_some (find x is.fresh)) is.is ∙ ap is_some (find-new is.between is.fresh (Live cache page) Zero) in
+    let name : name_of b is.fresh ≡ Live cache page = ap (λ (x : Arena). name_of x is.fresh) is.is ∙ fresh_name is.between is.fresh is.free (Live cache page) Zero in
+    let both : Some n ≡ Some is.fresh = sym at ∙ is.sound.kept.listed.pages cache.0 page.0 is.fresh held name in
+    cc both
 
 module _ (a b : Arena) (sound : IsSound a) (consistent : IsConsistent (forest_of a)) (to : CacheId) (to_page : PageNo) (from : CacheId) (from_page : PageNo) (r : Released)
     (is : IsDetachedAlone a b to to_page Zero r) (s : NodeId) (held : HasNode a s) (named : name_of a s ≡ Live from from_page) (pages : ArePages (forest_of a) (Live to to_page) (Live from from_page)) where
@@ -78,66 +97,30 @@ module _ (a b : Arena) (sound : IsSound a) (consistent : IsConsistent (forest_of
         room = move_room is.between is.retired.sound to to_page is.retired.vacant from from_page s source c refl is.fresh free d new a (alone_room a is.between to to_page r is.retired);
       }
 
--- One node
+  -- where the fresh node is told as that of its page
+  module _ (fresh : NodeId) (at : node_at b to.0 to_page.0 ≡ Some fresh) where
+    source_there : IsThere a b s
+    source_there = detached_there a b sound to to_page Zero r is s held other
 
-one_node : (n : NodeId) → next_node n 0 ≡ n
-one_node n = let same : n.0 + 0 ≡ n.0 = omega arith in λ i. record { 0 = same i }
+    pub fresh_named : (cache : CacheId) × (page : PageNo) × AreNamed b fresh cache page 1
+    fresh_named =
+        let n = is.sound.kept.listed.nodes to.0 to_page.0 fresh at in
+        (to, to_page, one_named b fresh to to_page n.0 n.1)
 
-one_named : (b : Arena) (n : NodeId) (cache : CacheId) (page : PageNo) → HasNode b n → name_of b n ≡ Live cache page → AreNamed b n cache page 1
-one_named b n cache page held named k less =
-    let first : k ≡ 0 = omega arith in
-    subst (λ j. HasNode b (next_node n j) × (name_of b (next_node n j) ≡ Live cache (record { 0 = page.0 + j }))) (sym first)
-    (subst (HasNode b) (sym (one_node n)) held, ap (name_of b) (one_node n) ∙ named ∙ (let same : page.0 ≡ page.0 + 0 = omega arith in λ i. Live cache (record { 0 = same i })))
+    pub source_named : (cache : CacheId) × (page : PageNo) × AreNamed b s cache page 1
+    source_named = (from, from_page, one_named b s from from_page (source_there.held ∙ held) (source_there.name ∙ named))
 
--- the fresh node of a page that was detached
-pub fresh_is : (a b : Arena) (cache : CacheId) (page : PageNo) (r : Released) (is : IsDetachedAlone a b cache page Zero r) (n : NodeId) → node_at b cache.0 page.0 ≡ Some n → n ≡ is.fresh
-fresh_is a b cache page r is n at =
-    let held : HasNode b is.fresh = ap (λ (x : Arena). is_some (find x is.fresh)) is.is ∙ ap is_some (find-new is.between is.fresh (Live cache page) Zero) in
-    let name : name_of b is.fresh ≡ Live cache page = ap (λ (x : Arena). name_of x is.fresh) is.is ∙ fresh_name is.between is.fresh is.free (Live cache page) Zero in
-    let both : Some n ≡ Some is.fresh = sym at ∙ is.sound.kept.listed.pages cache.0 page.0 is.fresh held name in
-    cc both
+    pub fresh_source : (i j : ℕ) → i < 1 → j < 1 → next_node fresh i ≢ next_node s j
+    fresh_source i j low high e =
+        let n = is.sound.kept.listed.nodes to.0 to_page.0 fresh at in
+        let first : i ≡ 0 = omega arith in
+        let second : j ≡ 0 = omega arith in
+        let same : fresh ≡ s = sym (one_node fresh) ∙ ap (next_node fresh) (sym first) ∙ e ∙ ap (next_node s) second ∙ one_node s in
+        pages.apart (sym n.1 ∙ ap (name_of b) same ∙ source_there.name ∙ named)
 
--- Where the pages are told by their nodes
-
-module _ (a b : Arena) (sound : IsSound a) (consistent : IsConsistent (forest_of a)) (d s : NodeId) (held_s : HasNode a s) (fresh : NodeId) (r : Released)
-    (pages : ArePages (forest_of a) (name_of a d) (name_of a s))
-    (is : (cache : CacheId) (page : PageNo) → name_of a d ≡ Live cache page → IsDetachedAlone a b cache page Zero r)
-    (at : (cache : CacheId) (page : PageNo) → name_of a d ≡ Live cache page → node_at b cache.0 page.0 ≡ Some fresh) where
-  to_is : (cache : CacheId) × (page : PageNo) × (name_of a d ≡ Live cache page)
-  to_is = live_name (name_of a d) pages.live_destination
-
-  from_is : (cache : CacheId) × (page : PageNo) × (name_of a s ≡ Live cache page)
-  from_is = live_name (name_of a s) pages.live_source
-
-  detached : IsDetachedAlone a b to_is.0 to_is.1 Zero r
-  detached = is to_is.0 to_is.1 to_is.2
-
-  source_there : IsThere a b s
-  source_there = detached_there a b sound to_is.0 to_is.1 Zero r detached s held_s (λ e. pages.apart (to_is.2 ∙ sym e))
-
-  pub fresh_named : (cache : CacheId) × (page : PageNo) × AreNamed b fresh cache page 1
-  fresh_named =
-      let n = detached.sound.kept.listed.nodes to_is.0.0 to_is.1.0 fresh (at to_is.0 to_is.1 to_is.2) in
-      (to_is.0, to_is.1, one_named b fresh to_is.0 to_is.1 n.0 n.1)
-
-  pub source_named : (cache : CacheId) × (page : PageNo) × AreNamed b s cache page 1
-  source_named = (from_is.0, from_is.1, one_named b s from_is.0 from_is.1 (source_there.held ∙ held_s) (source_there.name ∙ from_is.2))
-
-  pub fresh_source : (i j : ℕ) → i < 1 → j < 1 → next_node fresh i ≢ next_node s j
-  fresh_source i j low high e =
-      let n = detached.sound.kept.listed.nodes to_is.0.0 to_is.1.0 fresh (at to_is.0 to_is.1 to_is.2) in
-      let first : i ≡ 0 = omega arith in
-      let second : j ≡ 0 = omega arith in
-      let same : fresh ≡ s = sym (one_node fresh) ∙ ap (next_node fresh) (sym first) ∙ e ∙ ap (next_node s) second ∙ one_node s in
-      pages.apart (to_is.2 ∙ sym n.1 ∙ ap (name_of b) same ∙ source_there.name)
-
-  pub moved_node : (from : CacheId) (from_page : PageNo) (to : CacheId) (to_page : PageNo) → name_of a d ≡ Live to to_page → name_of a s ≡ Live from from_page
-      → IsMovedAlone a (exchanged_many b fresh s 1) from from_page to to_page r
-  moved_node from from_page to to_page named_d named_s =
-      let one : IsDetachedAlone a b to to_page Zero r = is to to_page named_d in
-      let two : ArePages (forest_of a) (Live to to_page) (Live from from_page) =
-      subst (ArePages (forest_of a) (Live to to_page)) named_s (subst (λ x. ArePages (forest_of a) x (name_of a s)) named_d pages) in
-      let same : fresh ≡ one.fresh = fresh_is a b to to_page r one fresh (at to to_page named_d) in
-      subst (λ (x : Arena). IsMovedAlone a x from from_page to to_page r)
-      (λ i. exchanged_names b ((sym same ∙ sym (one_node fresh)) i) (sym (one_node s) i))
-      (moved_alone a b sound consistent to to_page from from_page r one s held_s named_s two)
+    pub moved_node : IsMovedAlone a (exchanged_many b fresh s 1) from from_page to to_page r
+    moved_node =
+        let same : fresh ≡ is.fresh = fresh_is a b to to_page r is fresh at in
+        subst (λ (x : Arena). IsMovedAlone a x from from_page to to_page r)
+        (λ i. exchanged_names b ((sym same ∙ sym (one_node fresh)) i) (sym (one_node s) i))
+        moved_alone

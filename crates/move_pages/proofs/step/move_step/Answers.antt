@@ -1,15 +1,17 @@
-use Rattle.std.proofs.Common.{rules, ◌+◌, ◌-◌, sym, ap, ◌∙◌, subst, refl, inl, inr, arith}
+use Rattle.std.proofs.Common.{rules, ◌+◌, ◌-◌, ◌≤◌, sym, ap, ◌∙◌, subst, refl, inl, inr, arith}
 use Rattle.vm_ids.specs.Forest.Commands.{page_name}
 use Rattle.vm_ids.specs.Forest.Laws.Linking.{ArePages}
+use Rattle.vm_ids.specs.Forest.Rules.{move_page}
 use Rattle.vm_ids.specs.Forest.Shape.{IsConsistent}
 use Rattle.vm_ids.proofs.Forest.Pairs.{move_now}
 use Rattle.local_cache.specs.declared.own_state.OwnState.TheVariants.{Zero}
-use Rattle.local_cache.specs.Arena.{Arena, HasNode}
-use Rattle.local_cache.specs.Reading.{forest_of, name_of}
+use Rattle.local_cache.specs.Arena.{Arena}
+use Rattle.local_cache.specs.Reading.{forest_of}
 use Rattle.local_cache.specs.Sound.{IsSound}
+use Rattle.local_cache.specs.Whole.{SameCaches}
 use Rattle.tree_merge.specs.Copying.{page_after}
 use Rattle.tree_merge.proofs.CopiedPages.AtOnce.{destination_there, source_there}
-use Rattle.move_pages.specs.Moved.{IsMovedAlone}
+use Rattle.move_pages.specs.Moved.{IsMoved}
 use Rattle.move_pages.specs.Moving.{AreMoved, CanMoveMany, part_of}
 use Rattle.move_pages.proofs.MovedPages.AtOnce.{can_move}
 use Rattle.move_pages.proofs.step.move_step.Goals as goal
@@ -69,62 +71,39 @@ returns-then-pages-gt1 c =
 
 -- One is moved alone.
 
-pub move_node-released-requires-clause-sound : goal.move_node-released-requires-clause-sound
-move_node-released-requires-clause-sound c = subst IsSound (sym c.moved_at_once-pages.ensures.same) c.requires.sound
+pub move_one-released-requires-clause-sound : goal.move_one-released-requires-clause-sound
+move_one-released-requires-clause-sound c = subst IsSound (sym c.moved_at_once-pages.ensures.same) c.requires.sound
 
-pub move_node-released-requires-clause-consistent : goal.move_node-released-requires-clause-consistent
-move_node-released-requires-clause-consistent c = subst (λ (x : Arena). IsConsistent (forest_of x)) (sym c.moved_at_once-pages.ensures.same) c.requires.consistent
+pub move_one-released-requires-clause-consistent : goal.move_one-released-requires-clause-consistent
+move_one-released-requires-clause-consistent c = subst (λ (x : Arena). IsConsistent (forest_of x)) (sym c.moved_at_once-pages.ensures.same) c.requires.consistent
 
-pub move_node-released-requires-clause-node : goal.move_node-released-requires-clause-node
-move_node-released-requires-clause-node c =
-    subst (λ (x : Arena). HasNode x c.node_of-node.result) (sym c.moved_at_once-pages.ensures.same)
-    (c.requires.sound.kept.listed.nodes c.args.span.to.0 (c.args.span.to_page.0 + c.args.done) c.node_of-node.result c.node_of-node.ensures).0
-
-pub move_node-released-requires-clause-source : goal.move_node-released-requires-clause-source
-move_node-released-requires-clause-source c =
-    subst (λ (x : Arena). HasNode x c.node_of-source.result) (sym c.moved_at_once-pages.ensures.same)
-    (c.requires.sound.kept.listed.nodes c.args.span.from.0 (c.args.span.from_page.0 + c.args.done) c.node_of-source.result c.node_of-source.ensures).0
-
-pub move_node-released-requires-clause-pages : goal.move_node-released-requires-clause-pages
-move_node-released-requires-clause-pages c =
+pub move_one-released-requires-clause-pages : goal.move_one-released-requires-clause-pages
+move_one-released-requires-clause-pages c =
     let s = c.args.span in
     let k = c.args.done in
-    let a = c.args.caches.now in
-    let d = c.node_of-node.result in
-    let o = c.node_of-source.result in
-    let named_d = (c.requires.sound.kept.listed.nodes s.to.0 (s.to_page.0 + k) d c.node_of-node.ensures).1 in
-    let named_o = (c.requires.sound.kept.listed.nodes s.from.0 (s.from_page.0 + k) o c.node_of-source.ensures).1 in
-    let pages : ArePages (forest_of a) (page_name s.to (s.to_page.0 + k)) (page_name s.from (s.from_page.0 + k)) =
-    move_now Zero (forest_of a) s.from s.from_page.0 s.to s.to_page.0 s.pages k c.requires.done c.requires.consistent c.requires.can in
-    subst (λ (x : Arena). ArePages (forest_of x) (name_of x d) (name_of x o)) (sym c.moved_at_once-pages.ensures.same)
-    (subst (ArePages (forest_of a) (name_of a d)) (sym named_o) (subst (λ x. ArePages (forest_of a) x (page_name s.from (s.from_page.0 + k))) (sym named_d) pages))
+    subst (λ (x : Arena). ArePages (forest_of x) (page_name s.to (s.to_page.0 + k)) (page_name s.from (s.from_page.0 + k))) (sym c.moved_at_once-pages.ensures.same)
+    (move_now Zero (forest_of c.args.caches.now) s.from s.from_page.0 s.to s.to_page.0 s.pages k c.requires.done c.requires.consistent c.requires.can)
 
-pub move_node-released-requires-clause-room : goal.move_node-released-requires-clause-room
-move_node-released-requires-clause-room c = omega (arith, ap (λ (x : Arena). x.room.nodes) c.moved_at_once-pages.ensures.same, c.requires.room)
+pub move_one-released-requires-clause-room : goal.move_one-released-requires-clause-room
+move_one-released-requires-clause-room c = omega (arith, ap (λ (x : Arena). x.room.nodes) c.moved_at_once-pages.ensures.same, c.requires.room)
 
-pub move_node-released-requires-clause-made : goal.move_node-released-requires-clause-made
-move_node-released-requires-clause-made c = omega (arith, ap (λ (x : Arena). x.made) c.moved_at_once-pages.ensures.same, c.requires.made)
+pub move_one-released-requires-clause-made : goal.move_one-released-requires-clause-made
+move_one-released-requires-clause-made c = omega (arith, ap (λ (x : Arena). x.made) c.moved_at_once-pages.ensures.same, c.requires.made)
 
 pub returns-else-pages-gt1 : goal.returns-else-pages-gt1
 returns-else-pages-gt1 c =
     let s = c.args.span in
     let k = c.args.done in
     let same = c.moved_at_once-pages.ensures.same in
-    let r = c.move_node-released in
-    let d = c.node_of-node.result in
-    let o = c.node_of-source.result in
-    let named_d = (c.requires.sound.kept.listed.nodes s.to.0 (s.to_page.0 + k) d c.node_of-node.ensures).1 in
-    let named_o = (c.requires.sound.kept.listed.nodes s.from.0 (s.from_page.0 + k) o c.node_of-source.ensures).1 in
-    let one = subst (λ (x : Arena). IsMovedAlone x r.new.caches s.from (page_after s.from_page k) s.to (page_after s.to_page k) r.result) same
-    (r.ensures s.from (page_after s.from_page k) s.to (page_after s.to_page k)
-    (ap (λ (x : Arena). name_of x d) same ∙ named_d) (ap (λ (x : Arena). name_of x o) same ∙ named_o)) in
+    let r = c.move_one-released in
+    let one = r.ensures in
     record {
       some = search rules;
       few = search rules;
-      forest = one.forest;
+      forest = one.forest ∙ ap (λ (x : Arena). move_page (forest_of x) (page_name s.to (s.to_page.0 + k)) (page_name s.from (s.from_page.0 + k)) Zero) same;
       sound = one.sound;
       consistent = one.consistent;
-      moved = inr (refl, one.moved);
-      sizes = one.sizes;
-      room = one.room;
+      moved = inr (refl, subst (λ (x : Arena). IsMoved x r.new.caches s.from (page_after s.from_page k) s.to (page_after s.to_page k) r.result) same one.moved);
+      sizes = subst (λ (x : Arena). SameCaches x r.new.caches) same one.sizes;
+      room = subst (λ (x : Arena). x.room.nodes ≤ r.new.caches.room.nodes + 1) same one.room;
     }

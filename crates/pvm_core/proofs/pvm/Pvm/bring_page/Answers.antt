@@ -33,7 +33,7 @@ use Rattle.pvm_core.proofs.Translating.Dropped.{dropped_right}
 use Rattle.pvm_core.proofs.Answering.Recorded.{asks_missed}
 use Rattle.regions.specs.AddressSpace.{place_told}
 use Rattle.pvm_core.proofs.pvm.Pvm.bring_page.Given.{Over}
-use Rattle.pvm_core.proofs.pvm.Pvm.bring_page.Goals.{After-read_owner, After-self}
+use Rattle.pvm_core.proofs.pvm.Pvm.bring_page.Goals.{After-read_fault, After-self}
 use Rattle.residency.specs.declared.miss.Miss.TheVariants.{Pull, Victim}
 use Rattle.fault_path.proofs.OnePage.FoundPage.{owner_page}
 use Rattle.pvm_core.proofs.Accesses.AtHand.{failed_hand, owner_some}
@@ -60,39 +60,40 @@ raised Pull page m command next before now same = omega (arith, same)
 raised Victim page m command next before now same = omega (arith, same)
 
 -- the page is looked for: what the manager stands for stays
-looked : (g : Over) (c : After-read_owner g) → Stands (seen c.self.inside.caches c.self.inside.store c.self.inside.contexts) c.read_owner.new.caches c.read_owner.new.store c.self.inside.contexts c.self.inside.live (g.M.Mapper.held c.args.mapper.now) (g.M.Mapper.held c.read_owner.new.mapper) (g.M.Mapper.counts c.args.mapper.now) (g.M.Mapper.counts c.read_owner.new.mapper)
+looked : (g : Over) (c : After-read_fault g) → Stands (seen c.self.inside.caches c.self.inside.store c.self.inside.contexts) c.read_fault.new.caches c.read_fault.new.store c.self.inside.contexts c.self.inside.live (g.M.Mapper.held c.args.mapper.now) (g.M.Mapper.held c.read_fault.new.mapper) (g.M.Mapper.counts c.args.mapper.now) (g.M.Mapper.counts c.read_fault.new.mapper)
 looked g c =
     let i = c.self.inside in
-    let n = c.read_owner.new in
-    let e = c.read_owner.ensures in
-    stands_answered i.caches n.caches i.store n.store _ _ _ _ i.contexts i.live c.self.invariant.sound _ _ e.answered e.forest (valid_before g (goal.at.After-read_owner g c).After-self)
+    let n = c.read_fault.new in
+    let e = c.read_fault.ensures in
+    stands_answered i.caches n.caches i.store n.store _ _ _ _ i.contexts i.live c.self.invariant.sound _ _ e.answered e.forest (valid_before g (goal.at.After-read_fault g c).After-self)
 
 -- the nodes of the page
 told_nodes : (g : Over) (c : After-self g) → AreNodesOf c.self.inside.caches c.args.place.cache c.args.place.page c.args.nodes.node c.args.nodes.owner
 told_nodes g c = subst (λ (p : Manager). AreNodesOf p.caches c.args.place.cache c.args.place.page c.args.nodes.node c.args.nodes.owner) (sym c.self.view_is) c.requires.nodes
 
-still_right : (g : Over) (c : After-read_owner g) → AreTranslationsRight c.read_owner.new.caches c.read_owner.new.store c.self.inside.contexts
+still_right : (g : Over) (c : After-read_fault g) → AreTranslationsRight c.read_fault.new.caches c.read_fault.new.store c.self.inside.contexts
 still_right g c =
     let i = c.self.inside in
-    let n = c.read_owner.new in
-    let e = c.read_owner.ensures in
-    dropped_right (λ m. m ≡ c.args.nodes.owner) i.caches n.caches i.store n.store i.contexts e.drops (same_grants i.caches n.caches e.answered.kept.nodes.caches) c.self.invariant.translated
+    let n = c.read_fault.new in
+    let e = c.read_fault.ensures in
+    let o = told_nodes g (goal.at.After-read_fault g c).After-self in
+    dropped_right (λ m. m ≡ c.args.nodes.owner) i.caches n.caches i.store n.store i.contexts (e.drops c.args.nodes.owner o.owner) (same_grants i.caches n.caches e.answered.kept.nodes.caches) c.self.invariant.translated
 
 pub invariant_of-self : goal.invariant_of-self
 invariant_of-self g c =
-    let at = (goal.at.invariant_of-self g c).After-read_owner in
+    let at = (goal.at.invariant_of-self g c).After-read_fault in
     record { sound = (looked g at).sound; translated = still_right g at }
 
 pub invariant_of-self-2 : goal.invariant_of-self-2
 invariant_of-self-2 g c =
-    let at = (goal.at.invariant_of-self-2 g c).After-read_owner in
+    let at = (goal.at.invariant_of-self-2 g c).After-read_fault in
     record { sound = (looked g at).sound; translated = still_right g at }
 
-looked_for : (g : Over) (c : After-read_owner g) → IsLookedFor g.M.Mapper c.args.mapper.now c.args.self.now c.read_owner.new.mapper (seen c.read_owner.new.caches c.read_owner.new.store c.self.inside.contexts)
+looked_for : (g : Over) (c : After-read_fault g) → IsLookedFor g.M.Mapper c.args.mapper.now c.args.self.now c.read_fault.new.mapper (seen c.read_fault.new.caches c.read_fault.new.store c.self.inside.contexts)
 looked_for g c =
     let i = c.self.inside in
-    let n = c.read_owner.new in
-    let e = c.read_owner.ensures in
+    let n = c.read_fault.new in
+    let e = c.read_fault.ensures in
     let k = looked g c in
     let p : Manager = seen i.caches i.store i.contexts in
     let q : Manager = seen n.caches n.store i.contexts in
@@ -111,21 +112,21 @@ looked_for g c =
     })
 
 pub returns-clause-brought : goal.returns-clause-brought
-returns-clause-brought g c = looked_for g (goal.at.returns-clause-brought g c).After-read_owner
+returns-clause-brought g c = looked_for g (goal.at.returns-clause-brought g c).After-read_fault
 
 pub returns-in-Err-clause-brought : goal.returns-in-Err-clause-brought
-returns-in-Err-clause-brought g c = looked_for g (goal.at.returns-in-Err-clause-brought g c).After-read_owner
+returns-in-Err-clause-brought g c = looked_for g (goal.at.returns-in-Err-clause-brought g c).After-read_fault
 
 -- its nodes are the same
-still_nodes : (g : Over) (c : After-read_owner g) → AreNodesOf c.read_owner.new.caches c.args.place.cache c.args.place.page c.args.nodes.node c.args.nodes.owner
+still_nodes : (g : Over) (c : After-read_fault g) → AreNodesOf c.read_fault.new.caches c.args.place.cache c.args.place.page c.args.nodes.node c.args.nodes.owner
 still_nodes g c =
     let i = c.self.inside in
-    let n = c.read_owner.new in
-    let e = c.read_owner.ensures in
+    let n = c.read_fault.new in
+    let e = c.read_fault.ensures in
     let old = c.self.invariant.sound.nodes in
     let l = looked g c in
     let node = c.args.nodes.node in
-    let o = told_nodes g (goal.at.After-read_owner g c).After-self in
+    let o = told_nodes g (goal.at.After-read_fault g c).After-self in
     let w : World = world_at g.M.Mapper c.args.mapper.now i.caches i.store in
     let v : World = world_at g.M.Mapper n.mapper n.caches n.store in
     let held = e.answered.kept.nodes.held node ∙ o.held in
@@ -138,21 +139,22 @@ still_nodes g c =
     }
 
 pub returns-clause-nodes : goal.returns-clause-nodes
-returns-clause-nodes g c = still_nodes g (goal.at.returns-clause-nodes g c).After-read_owner
+returns-clause-nodes g c = still_nodes g (goal.at.returns-clause-nodes g c).After-read_fault
 
 pub returns-in-Err-clause-nodes : goal.returns-in-Err-clause-nodes
-returns-in-Err-clause-nodes g c = still_nodes g (goal.at.returns-in-Err-clause-nodes g c).After-read_owner
+returns-in-Err-clause-nodes g c = still_nodes g (goal.at.returns-in-Err-clause-nodes g c).After-read_fault
 
 pub returns-clause-ready : goal.returns-clause-ready
 returns-clause-ready g c =
     let places = goal.at.returns-clause-ready g c in
     let i = c.self.inside in
-    let n = c.read_owner.new in
-    let e = c.read_owner.ensures in
-    let l = looked g places.After-read_owner in
+    let n = c.read_fault.new in
+    let e = c.read_fault.ensures in
+    let l = looked g places.After-read_fault in
     let r = found g places.After-self in
-    let o = still_nodes g places.After-read_owner in
-    let there : IsFoundIn (seen n.caches n.store i.contexts) c.args.nodes.owner c.in_default.field-0 = found_in (g.M.Mapper.held n.mapper) (g.M.Mapper.page_bytes n.mapper) i.caches n.caches n.store i.contexts e.answered.kept.right c.args.nodes.owner c.in_default.field-0 c.in_default.ensures.frame (λ hand. (e.idle hand).2) in
+    let o = still_nodes g places.After-read_fault in
+    let was = told_nodes g places.After-self in
+    let there : IsFoundIn (seen n.caches n.store i.contexts) c.args.nodes.owner c.in_default.field-0 = found_in (g.M.Mapper.held n.mapper) (g.M.Mapper.page_bytes n.mapper) i.caches n.caches n.store i.contexts e.answered.kept.right c.args.nodes.owner c.in_default.field-0 (c.in_default.ensures.frame c.args.nodes.owner was.owner) (λ hand. (e.idle c.args.nodes.owner was.owner hand).2) in
     ready_hand n.caches n.store i.contexts i.live l.sound (seen n.caches n.store i.contexts) refl c.args.actor.0 c.args.address c.requires.place.0 (found_at r.region c.args.place) (sym r.is) c.args.nodes.node c.args.nodes.owner o.held o.owner o.name
     ∙ found_hand (seen n.caches n.store i.contexts) c.args.nodes.owner c.in_default.field-0 there
 
@@ -163,21 +165,22 @@ returns-clause-pulled g c = λ away.
     let o = told_nodes g (goal.at.returns-clause-pulled g c).After-self in
     let r = found g (goal.at.returns-clause-pulled g c).After-self in
     let hand = ready_hand i.caches i.store i.contexts i.live c.self.invariant.sound c.args.self.now c.self.view_is c.args.actor.0 c.args.address c.requires.place.0 (found_at r.region c.args.place) (sym r.is) c.args.nodes.node c.args.nodes.owner o.held o.owner o.name in
-    pulled_one (own_of i.caches c.args.nodes.owner) c.read_owner.result c.in_default.field-0 (g.M.Mapper.counts c.args.mapper.now) (g.M.Mapper.counts c.read_owner.new.mapper) c.in_default.is (owner_some i.caches nodes.sound nodes.consistent.shaped c.args.nodes.node c.args.nodes.owner o.held o.owner) (sym hand ∙ away)
-    (λ zero. (_, c.read_owner.ensures.traffic zero))
+    pulled_one (own_of i.caches c.args.nodes.owner) c.read_fault.result c.in_default.field-0 (g.M.Mapper.counts c.args.mapper.now) (g.M.Mapper.counts c.read_fault.new.mapper) c.in_default.is (owner_some i.caches nodes.sound nodes.consistent.shaped c.args.nodes.node c.args.nodes.owner o.held o.owner) (sym hand ∙ away)
+    (λ zero. (_, c.read_fault.ensures.traffic c.args.nodes.owner o.owner zero))
 
 pub returns-in-Err-clause-missed : goal.returns-in-Err-clause-missed
 returns-in-Err-clause-missed g c =
-    let e = c.read_owner.ensures in
-    missed_at (own_of c.self.inside.caches c.args.nodes.owner) c.read_owner.result (g.M.Mapper.counts c.args.mapper.now) (g.M.Mapper.counts c.read_owner.new.mapper) c.in-Err.miss c.args.place.page c.fault_of.result c.fault_of.ensures c.in-Err.is (λ zero. (_, e.traffic zero)) (λ hand. (e.idle hand).0)
+    let e = c.read_fault.ensures in
+    let o = told_nodes g (goal.at.returns-in-Err-clause-missed g c).After-self in
+    missed_at (own_of c.self.inside.caches c.args.nodes.owner) c.read_fault.result (g.M.Mapper.counts c.args.mapper.now) (g.M.Mapper.counts c.read_fault.new.mapper) c.in-Err.miss c.args.place.page c.fault_of.result c.fault_of.ensures c.in-Err.is (λ zero. (_, e.traffic c.args.nodes.owner o.owner zero)) (λ hand. (e.idle c.args.nodes.owner o.owner hand).0)
 
 pub returns-in-Err-clause-no_more : goal.returns-in-Err-clause-no_more
 returns-in-Err-clause-no_more g c =
     let i = c.self.inside in
-    let n = c.read_owner.new in
+    let n = c.read_fault.new in
     let nodes = c.self.invariant.sound.nodes in
     seen_no_more i.caches n.caches i.store n.store i.contexts c.self.view_is
-    (failed_hand (world_at g.M.Mapper c.args.mapper.now i.caches i.store) (world_at g.M.Mapper n.mapper n.caches n.store) c.read_owner.ensures.still nodes.sound nodes.consistent.shaped c.in-Err.ensures.failed)
+    (failed_hand (world_at g.M.Mapper c.args.mapper.now i.caches i.store) (world_at g.M.Mapper n.mapper n.caches n.store) c.read_fault.ensures.still nodes.sound nodes.consistent.shaped c.in-Err.ensures.failed)
 
 pub returns-in-Err-clause-call : goal.returns-in-Err-clause-call
 returns-in-Err-clause-call g c = λ piece may granted told.
@@ -185,15 +188,15 @@ returns-in-Err-clause-call g c = λ piece may granted told.
     let i = c.self.inside in
     let h = g.M.Mapper.held c.args.mapper.now in
     let before = g.M.Mapper.counts c.args.mapper.now in
-    let n = c.read_owner.new in
+    let n = c.read_fault.new in
     let k = g.M.Mapper.held n.mapper in
     let after = g.M.Mapper.counts n.mapper in
     let p : Manager = seen i.caches i.store i.contexts in
     let q : Manager = seen n.caches n.store i.contexts in
     let nodes = c.self.invariant.sound.nodes in
     let valid = valid_before g places.After-self in
-    let l = looked g places.After-read_owner in
-    let brought = looked_for g places.After-read_owner in
+    let l = looked g places.After-read_fault in
+    let brought = looked_for g places.After-read_fault in
     let r = spot (size_of i.caches) i.contexts c.args.actor.0 c.args.address (length piece) c.args.place c.self.invariant.sound.actors
     (subst (λ (p : Manager). Ok c.args.place ≡ place_told (place_of_actor p.page_bytes (has_number p.actors c.args.actor.0) c.args.address (length piece))) (sym c.self.view_is) told) in
     let at : Place = found_at r.region c.args.place in

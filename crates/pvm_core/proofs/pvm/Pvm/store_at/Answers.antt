@@ -56,7 +56,7 @@ use Rattle.pvm_core.proofs.Meaning.Values.{followed_of}
 use Rattle.pvm_core.proofs.Answering.Recorded.{asks_missed}
 use Rattle.page_release.specs.Homes.{IsWritable}
 use Rattle.pvm_core.proofs.pvm.Pvm.store_at.Given.{Over}
-use Rattle.pvm_core.proofs.pvm.Pvm.store_at.Goals.{After-remember, After-self, After-write_fault, In-Err, In-Ok}
+use Rattle.pvm_core.proofs.pvm.Pvm.store_at.Goals.{After-remember, After-self, After-write_from_owner, In-Err, In-Ok}
 use Rattle.pvm_core.specs.Access.{AreNodesOf, is_ready}
 use Rattle.residency.specs.declared.miss.Miss.{Miss}
 use Rattle.residency.specs.declared.miss.Miss.TheVariants.{Victim}
@@ -92,41 +92,41 @@ returns-in-Ok-clause-translated g c =
 
 pub remember-requires-clause-frame : goal.remember-requires-clause-frame
 remember-requires-clause-frame g c =
-    let e = c.write_fault.ensures in
+    let e = c.write_from_owner.ensures in
     let fitted = e.answered.kept.right.tied.fitted in
     omega (arith, c.in-Ok.ensures.ready.bound.0, fitted.map_frames, fitted.places_frames, ap (λ (s : Store). length s.tables) c.write_frame.ensures)
 
 pub remember-requires-clause-mark : goal.remember-requires-clause-mark
 remember-requires-clause-mark g c =
-    let e = c.write_fault.ensures in
+    let e = c.write_from_owner.ensures in
     let fitted = e.answered.kept.right.tied.fitted in
     omega (arith, c.in-Ok.ensures.ready.bound.0, fitted.map_frames, fitted.marks_frames, ap (λ (s : Store). length s.marks) c.write_frame.ensures)
 
-pub write_fault-requires-clause-granted : goal.write_fault-requires-clause-granted
-write_fault-requires-clause-granted g c = writable_node c.self.inside.caches c.args.nodes.node c.args.place.cache c.args.place.page.0 (told_nodes g (goal.at.write_fault-requires-clause-granted g c).After-self).name (writable g (goal.at.write_fault-requires-clause-granted g c).After-self)
+pub write_from_owner-requires-clause-granted : goal.write_from_owner-requires-clause-granted
+write_from_owner-requires-clause-granted g c = writable_node c.self.inside.caches c.args.nodes.node c.args.place.cache c.args.place.page.0 (told_nodes g (goal.at.write_from_owner-requires-clause-granted g c).After-self).name (writable g (goal.at.write_from_owner-requires-clause-granted g c).After-self)
 
-pub write_fault-requires-clause-copies : goal.write_fault-requires-clause-copies
-write_fault-requires-clause-copies g c = omega (arith, c.requires.made, ap numbered c.self.view_is)
+pub write_from_owner-requires-clause-copies : goal.write_from_owner-requires-clause-copies
+write_from_owner-requires-clause-copies g c = omega (arith, c.requires.made, ap numbered c.self.view_is)
 
 -- the page is readied for the write, or isn't: what is kept either way
-reach_then : (g : Over) (c : After-write_fault g) → Reach (machine_of (seen c.self.inside.caches c.self.inside.store c.self.inside.contexts) (g.M.Mapper.held c.args.mapper.now)) (g.M.Mapper.held c.args.mapper.now) (g.M.Mapper.held c.write_fault.new.mapper) (g.M.Mapper.counts c.args.mapper.now) (g.M.Mapper.counts c.write_fault.new.mapper)
+reach_then : (g : Over) (c : After-write_from_owner g) → Reach (machine_of (seen c.self.inside.caches c.self.inside.store c.self.inside.contexts) (g.M.Mapper.held c.args.mapper.now)) (g.M.Mapper.held c.args.mapper.now) (g.M.Mapper.held c.write_from_owner.new.mapper) (g.M.Mapper.counts c.args.mapper.now) (g.M.Mapper.counts c.write_from_owner.new.mapper)
 reach_then g c =
-    let n = c.write_fault.new in
-    reached (seen c.self.inside.caches c.self.inside.store c.self.inside.contexts) (g.M.Mapper.held c.args.mapper.now) c.self.invariant.sound.nodes c.self.invariant.sound.apart (g.M.Mapper.page_bytes c.args.mapper.now) (g.M.Mapper.page_bytes n.mapper) n.caches n.store (g.M.Mapper.held c.write_fault.new.mapper) (g.M.Mapper.counts c.args.mapper.now) (g.M.Mapper.counts c.write_fault.new.mapper) c.write_fault.ensures.answered.later c.write_fault.ensures.answered.told
+    let n = c.write_from_owner.new in
+    reached (seen c.self.inside.caches c.self.inside.store c.self.inside.contexts) (g.M.Mapper.held c.args.mapper.now) c.self.invariant.sound.nodes c.self.invariant.sound.apart (g.M.Mapper.page_bytes c.args.mapper.now) (g.M.Mapper.page_bytes n.mapper) n.caches n.store (g.M.Mapper.held c.write_from_owner.new.mapper) (g.M.Mapper.counts c.args.mapper.now) (g.M.Mapper.counts c.write_from_owner.new.mapper) c.write_from_owner.ensures.answered.later c.write_from_owner.ensures.answered.told
 
-sound_then : (g : Over) (c : After-write_fault g) → IsManagerSound c.write_fault.new.caches c.write_fault.new.store c.self.inside.contexts c.self.inside.live
+sound_then : (g : Over) (c : After-write_from_owner g) → IsManagerSound c.write_from_owner.new.caches c.write_from_owner.new.store c.self.inside.contexts c.self.inside.live
 sound_then g c =
     let i = c.self.inside in
-    let n = c.write_fault.new in
-    kept_sound c.self.inside.caches n.caches i.store n.store (g.M.Mapper.held c.args.mapper.now) (g.M.Mapper.held c.write_fault.new.mapper) (g.M.Mapper.page_bytes c.args.mapper.now) (g.M.Mapper.page_bytes n.mapper) c.write_fault.ensures.answered.kept i.contexts i.live c.self.invariant.sound (valid_before g (goal.at.After-write_fault g c).After-self).right.tied.placed.bound
+    let n = c.write_from_owner.new in
+    kept_sound c.self.inside.caches n.caches i.store n.store (g.M.Mapper.held c.args.mapper.now) (g.M.Mapper.held c.write_from_owner.new.mapper) (g.M.Mapper.page_bytes c.args.mapper.now) (g.M.Mapper.page_bytes n.mapper) c.write_from_owner.ensures.answered.kept i.contexts i.live c.self.invariant.sound (valid_before g (goal.at.After-write_from_owner g c).After-self).right.tied.placed.bound
 
-translated_then : (g : Over) (c : After-write_fault g) → AreTranslationsRight c.write_fault.new.caches c.write_fault.new.store c.self.inside.contexts
+translated_then : (g : Over) (c : After-write_from_owner g) → AreTranslationsRight c.write_from_owner.new.caches c.write_from_owner.new.store c.self.inside.contexts
 translated_then g c =
     let i = c.self.inside in
     let a = c.self.inside.caches in
-    let n = c.write_fault.new in
-    let e = c.write_fault.ensures in
-    let o = told_nodes g (goal.at.After-write_fault g c).After-self in
+    let n = c.write_from_owner.new in
+    let e = c.write_from_owner.ensures in
+    let o = told_nodes g (goal.at.After-write_from_owner g c).After-self in
     dropped_right (MayCome a c.args.nodes.owner) a n.caches i.store n.store i.contexts (e.drops c.args.nodes.owner o.owner) (same_grants a n.caches e.answered.kept.nodes.caches) c.self.invariant.translated
 
 pub invariant_of-self : goal.invariant_of-self
@@ -134,8 +134,8 @@ invariant_of-self g c =
     let places = goal.at.invariant_of-self g c in
     let i = c.self.inside in
     let a = c.self.inside.caches in
-    let n = c.write_fault.new in
-    let e = c.write_fault.ensures in
+    let n = c.write_from_owner.new in
+    let e = c.write_from_owner.ensures in
     let node : NodeId = c.args.nodes.node in
     let o = told_nodes g places.After-self in
     let s = c.write_frame.new.store in
@@ -153,9 +153,9 @@ invariant_of-self g c =
       alone = alone;
       granted = same_grants a n.caches e.answered.kept.nodes.caches (name_at at) (writable g places.After-self);
     } in
-    let moved = fewer_right n.caches n.store s i.contexts (ap (λ (v : Store). v.map) c.write_frame.ensures) (λ place e is. ap (λ (v : Store). entry_at v.tables place) (sym c.write_frame.ensures) ∙ is) (translated_then g places.After-write_fault) in
+    let moved = fewer_right n.caches n.store s i.contexts (ap (λ (v : Store). v.map) c.write_frame.ensures) (λ place e is. ap (λ (v : Store). entry_at v.tables place) (sym c.write_frame.ensures) ∙ is) (translated_then g places.After-write_from_owner) in
     record {
-      sound = seen_sound s u c.remember.ensures.only n.caches i.contexts i.live (bytes_sound n.caches n.store s i.contexts i.live c.in-Ok.frame.0 _ c.write_frame.ensures (sound_then g places.After-write_fault));
+      sound = seen_sound s u c.remember.ensures.only n.caches i.contexts i.live (bytes_sound n.caches n.store s i.contexts i.live c.in-Ok.frame.0 _ c.write_frame.ensures (sound_then g places.After-write_from_owner));
       translated = led_right c.args.actor c.args.address to n.caches s u i.contexts c.remember.ensures moved
           (led_page (size_of i.caches) n.caches s i.contexts c.args.actor c.args.address (length c.args.piece.now) to at c.self.invariant.sound.actors (sym r.is)
           (ap (λ (v : Store). seen_in n.caches v.map (name_at at)) c.write_frame.ensures ∙ ap (seen_in n.caches n.store.map) (sym name) ∙ seen_there) (λ w. may));
@@ -163,13 +163,13 @@ invariant_of-self g c =
 
 pub invariant_of-self-in-Err : goal.invariant_of-self-in-Err
 invariant_of-self-in-Err g c =
-    let at = (goal.at.invariant_of-self-in-Err g c).After-write_fault in
+    let at = (goal.at.invariant_of-self-in-Err g c).After-write_from_owner in
     record { sound = sound_then g at; translated = translated_then g at }
 
 -- the piece is written once the page is ready
 written_then : (g : Over) (c : After-remember g)
-    → IsValid (seen c.write_fault.new.caches c.remember.new.store c.self.inside.contexts) (g.M.Mapper.held c.write_fault.new.mapper)
-    × CallIs (g.M.Mapper.counts c.args.mapper.now) (g.M.Mapper.counts c.write_fault.new.mapper) (state_at c.args.self.now (g.M.Mapper.held c.args.mapper.now)) (commands.Store c.args.actor c.args.address c.args.piece.now) (Ok replies.Done) (state_at (seen c.write_fault.new.caches c.remember.new.store c.self.inside.contexts) (g.M.Mapper.held c.write_fault.new.mapper))
+    → IsValid (seen c.write_from_owner.new.caches c.remember.new.store c.self.inside.contexts) (g.M.Mapper.held c.write_from_owner.new.mapper)
+    × CallIs (g.M.Mapper.counts c.args.mapper.now) (g.M.Mapper.counts c.write_from_owner.new.mapper) (state_at c.args.self.now (g.M.Mapper.held c.args.mapper.now)) (commands.Store c.args.actor c.args.address c.args.piece.now) (Ok replies.Done) (state_at (seen c.write_from_owner.new.caches c.remember.new.store c.self.inside.contexts) (g.M.Mapper.held c.write_from_owner.new.mapper))
 written_then g c =
     let places = goal.at.After-remember g c in
     let i = c.self.inside in
@@ -179,13 +179,13 @@ written_then g c =
     let before = g.M.Mapper.counts c.args.mapper.now in
     let sound = c.self.invariant.sound in
     let valid = valid_before g places.After-self in
-    let n = c.write_fault.new in
-    let e = c.write_fault.ensures in
+    let n = c.write_from_owner.new in
+    let e = c.write_from_owner.ensures in
     let k = g.M.Mapper.held n.mapper in
     let then_size = g.M.Mapper.page_bytes n.mapper in
     let after = g.M.Mapper.counts n.mapper in
     let p : Manager = seen a i.store i.contexts in
-    let reach = reach_then g places.After-write_fault in
+    let reach = reach_then g places.After-write_from_owner in
     let pl = c.args.place in
     let bs : c.as_slice-bytes.result.now ≡ c.args.piece.now = c.as_slice-bytes.ensures.bytes in
     let r = found g places.After-self in
@@ -197,7 +197,7 @@ written_then g c =
     let new = overwrite pl.at c.args.piece.now (bytes_of n.store.frames c.in-Ok.frame.0) in
     let stored_at : c.write_frame.new.store ≡ record n.store { frames = with_bytes n.store.frames c.in-Ok.frame.0 new }
     = c.write_frame.ensures ∙ ap (λ xs. record n.store { frames = with_bytes n.store.frames c.in-Ok.frame.0 (overwrite pl.at xs (bytes_of n.store.frames c.in-Ok.frame.0)) }) bs in
-    let then = bytes_sound n.caches n.store c.write_frame.new.store i.contexts i.live c.in-Ok.frame.0 new stored_at (sound_then g places.After-write_fault) in
+    let then = bytes_sound n.caches n.store c.write_frame.new.store i.contexts i.live c.in-Ok.frame.0 new stored_at (sound_then g places.After-write_from_owner) in
     let frames = ap (λ (s : Store). length s.frames.held) stored_at ∙ e.answered.kept.frames in
     let by : (f : PageForest) → machine_by q f ≡ machine_by p f = λ f. (λ j. machine_by (seen n.caches (stored_at j) i.contexts) f) ∙ kept_by a n.caches i.store n.store h k size then_size e.answered.kept i.contexts f in
     let ready = c.in-Ok.ensures.ready in
@@ -227,10 +227,10 @@ written_then g c =
     )
 
 -- at most two pages are copied
-most : (g : Over) (c : In-Ok g) → c.write_fault.new.caches.copies ≤ c.self.inside.caches.copies + 2
+most : (g : Over) (c : In-Ok g) → c.write_from_owner.new.caches.copies ≤ c.self.inside.caches.copies + 2
 most g c =
-    let n = c.write_fault.new in
-    copied_most (world_at g.M.Mapper c.args.mapper.now c.self.inside.caches c.self.inside.store) (world (g.M.Mapper.held c.write_fault.new.mapper) (g.M.Mapper.page_bytes n.mapper) n.caches n.store) _ c.in-Ok.ensures.ready.forest
+    let n = c.write_from_owner.new in
+    copied_most (world_at g.M.Mapper c.args.mapper.now c.self.inside.caches c.self.inside.store) (world (g.M.Mapper.held c.write_from_owner.new.mapper) (g.M.Mapper.page_bytes n.mapper) n.caches n.store) _ c.in-Ok.ensures.ready.forest
 
 pub returns-in-Ok-clause-call : goal.returns-in-Ok-clause-call
 returns-in-Ok-clause-call g c = record {
@@ -238,7 +238,7 @@ returns-in-Ok-clause-call g c = record {
   answers = (written_then g (goal.at.returns-in-Ok-clause-call g c).After-remember).1;
   asks_first = tt;
   made = (
-      omega (arith, most g (goal.at.returns-in-Ok-clause-call g c).In-Ok, c.write_fault.ensures.answered.kept.made, ap numbered c.self.view_is)
+      omega (arith, most g (goal.at.returns-in-Ok-clause-call g c).In-Ok, c.write_from_owner.ensures.answered.kept.made, ap numbered c.self.view_is)
       );
   room = refl;
   page = search rules;
@@ -246,15 +246,15 @@ returns-in-Ok-clause-call g c = record {
 
 pub returns-in-Ok-clause-copies : goal.returns-in-Ok-clause-copies
 returns-in-Ok-clause-copies g c =
-    subst (λ (p : Manager). c.write_fault.new.caches.copies ≤ p.caches.copies + 2) c.self.view_is (omega (arith, most g (goal.at.returns-in-Ok-clause-copies g c).In-Ok))
+    subst (λ (p : Manager). c.write_from_owner.new.caches.copies ≤ p.caches.copies + 2) c.self.view_is (omega (arith, most g (goal.at.returns-in-Ok-clause-copies g c).In-Ok))
 
 -- the page isn't readied: the manager stands for the same
-missed : (g : Over) (c : In-Err g) → Stands (seen c.self.inside.caches c.self.inside.store c.self.inside.contexts) c.write_fault.new.caches c.write_fault.new.store c.self.inside.contexts c.self.inside.live (g.M.Mapper.held c.args.mapper.now) (g.M.Mapper.held c.write_fault.new.mapper) (g.M.Mapper.counts c.args.mapper.now) (g.M.Mapper.counts c.write_fault.new.mapper)
+missed : (g : Over) (c : In-Err g) → Stands (seen c.self.inside.caches c.self.inside.store c.self.inside.contexts) c.write_from_owner.new.caches c.write_from_owner.new.store c.self.inside.contexts c.self.inside.live (g.M.Mapper.held c.args.mapper.now) (g.M.Mapper.held c.write_from_owner.new.mapper) (g.M.Mapper.counts c.args.mapper.now) (g.M.Mapper.counts c.write_from_owner.new.mapper)
 missed g c =
     let places = goal.at.In-Err g c in
     let i = c.self.inside in
-    let n = c.write_fault.new in
-    stands c.self.inside.caches n.caches i.store n.store (g.M.Mapper.held c.args.mapper.now) (g.M.Mapper.held c.write_fault.new.mapper) (g.M.Mapper.page_bytes c.args.mapper.now) (g.M.Mapper.page_bytes n.mapper) c.write_fault.ensures.answered.kept i.contexts i.live c.self.invariant.sound (g.M.Mapper.counts c.args.mapper.now) (g.M.Mapper.counts c.write_fault.new.mapper) c.in-Err.ensures.missed.forest (reach_then g places.After-write_fault) (valid_before g places.After-self)
+    let n = c.write_from_owner.new in
+    stands c.self.inside.caches n.caches i.store n.store (g.M.Mapper.held c.args.mapper.now) (g.M.Mapper.held c.write_from_owner.new.mapper) (g.M.Mapper.page_bytes c.args.mapper.now) (g.M.Mapper.page_bytes n.mapper) c.write_from_owner.ensures.answered.kept i.contexts i.live c.self.invariant.sound (g.M.Mapper.counts c.args.mapper.now) (g.M.Mapper.counts c.write_from_owner.new.mapper) c.in-Err.ensures.missed.forest (reach_then g places.After-write_from_owner) (valid_before g places.After-self)
 
 pub returns-in-Err-clause-call : goal.returns-in-Err-clause-call
 returns-in-Err-clause-call g c = record {
@@ -265,9 +265,9 @@ returns-in-Err-clause-call g c = record {
       let a = c.self.inside.caches in
       let h = g.M.Mapper.held c.args.mapper.now in
       let before = g.M.Mapper.counts c.args.mapper.now in
-      let k = g.M.Mapper.held c.write_fault.new.mapper in
-      let after = g.M.Mapper.counts c.write_fault.new.mapper in
-      let n = c.write_fault.new in
+      let k = g.M.Mapper.held c.write_from_owner.new.mapper in
+      let after = g.M.Mapper.counts c.write_from_owner.new.mapper in
+      let n = c.write_from_owner.new in
       let p : Manager = seen a i.store i.contexts in
       let q : Manager = seen n.caches n.store i.contexts in
       let valid = valid_before g places.After-self in
@@ -286,10 +286,10 @@ returns-in-Err-clause-call g c = record {
       (λ f s told. store_fault (length l.reach.pushes) (machine_by p f) (machine_by q f) (forest_of p h) c.args.actor c.args.address c.args.piece.now s before after c.in-Err.miss page at (l.by f) (is f) may
       (undenied p h c.self.invariant.sound.nodes valid.right pl.cache pl.page.0 r.count there r.less written f k s (reach_denied (machine_of p h) h k before after l.reach) told) refl c.in-Err.ensures.missed.cause)))
       );
-  asks_first = subst (λ (f : FaultAt). AsksFirst (commands.Store c.args.actor c.args.address c.args.piece.now) (Err (troubles.Mapper f)) (g.M.Mapper.counts c.args.mapper.now) (g.M.Mapper.counts c.write_fault.new.mapper)) (sym c.fault_of.ensures) (asks_missed (commands.Store c.args.actor c.args.address c.args.piece.now) c.in-Err.miss c.args.place.page (g.M.Mapper.counts c.args.mapper.now) (g.M.Mapper.counts c.write_fault.new.mapper));
+  asks_first = subst (λ (f : FaultAt). AsksFirst (commands.Store c.args.actor c.args.address c.args.piece.now) (Err (troubles.Mapper f)) (g.M.Mapper.counts c.args.mapper.now) (g.M.Mapper.counts c.write_from_owner.new.mapper)) (sym c.fault_of.ensures) (asks_missed (commands.Store c.args.actor c.args.address c.args.piece.now) c.in-Err.miss c.args.place.page (g.M.Mapper.counts c.args.mapper.now) (g.M.Mapper.counts c.write_from_owner.new.mapper));
   made = (
-      let n = c.write_fault.new in
-      omega (arith, kept_copies (g.M.Mapper.held c.args.mapper.now) (g.M.Mapper.held c.write_fault.new.mapper) (g.M.Mapper.page_bytes c.args.mapper.now) (g.M.Mapper.page_bytes n.mapper) c.self.inside.caches n.caches c.self.inside.store n.store c.in-Err.ensures.missed.forest, c.write_fault.ensures.answered.kept.made, ap numbered c.self.view_is)
+      let n = c.write_from_owner.new in
+      omega (arith, kept_copies (g.M.Mapper.held c.args.mapper.now) (g.M.Mapper.held c.write_from_owner.new.mapper) (g.M.Mapper.page_bytes c.args.mapper.now) (g.M.Mapper.page_bytes n.mapper) c.self.inside.caches n.caches c.self.inside.store n.store c.in-Err.ensures.missed.forest, c.write_from_owner.ensures.answered.kept.made, ap numbered c.self.view_is)
       );
   room = refl;
   page = search rules;
@@ -297,17 +297,17 @@ returns-in-Err-clause-call g c = record {
 
 pub returns-in-Err-clause-copies : goal.returns-in-Err-clause-copies
 returns-in-Err-clause-copies g c =
-    let n = c.write_fault.new in
-    subst (λ (p : Manager). n.caches.copies ≤ p.caches.copies + 2) c.self.view_is (omega (arith, kept_copies (g.M.Mapper.held c.args.mapper.now) (g.M.Mapper.held c.write_fault.new.mapper) (g.M.Mapper.page_bytes c.args.mapper.now) (g.M.Mapper.page_bytes n.mapper) c.self.inside.caches n.caches c.self.inside.store n.store c.in-Err.ensures.missed.forest))
+    let n = c.write_from_owner.new in
+    subst (λ (p : Manager). n.caches.copies ≤ p.caches.copies + 2) c.self.view_is (omega (arith, kept_copies (g.M.Mapper.held c.args.mapper.now) (g.M.Mapper.held c.write_from_owner.new.mapper) (g.M.Mapper.page_bytes c.args.mapper.now) (g.M.Mapper.page_bytes n.mapper) c.self.inside.caches n.caches c.self.inside.store n.store c.in-Err.ensures.missed.forest))
 
-kept_grants : (g : Over) (c : After-write_fault g) → GrantsStay c.args.self.now.caches c.write_fault.new.caches
-kept_grants g c = subst (λ (p : Manager). GrantsStay p.caches c.write_fault.new.caches) c.self.view_is (same_tables c.self.inside.caches c.write_fault.new.caches c.write_fault.ensures.answered.kept.nodes.caches)
+kept_grants : (g : Over) (c : After-write_from_owner g) → GrantsStay c.args.self.now.caches c.write_from_owner.new.caches
+kept_grants g c = subst (λ (p : Manager). GrantsStay p.caches c.write_from_owner.new.caches) c.self.view_is (same_tables c.self.inside.caches c.write_from_owner.new.caches c.write_from_owner.ensures.answered.kept.nodes.caches)
 
 pub returns-in-Ok-clause-grants : goal.returns-in-Ok-clause-grants
-returns-in-Ok-clause-grants g c = kept_grants g (goal.at.returns-in-Ok-clause-grants g c).After-write_fault
+returns-in-Ok-clause-grants g c = kept_grants g (goal.at.returns-in-Ok-clause-grants g c).After-write_from_owner
 
 pub returns-in-Err-clause-grants : goal.returns-in-Err-clause-grants
-returns-in-Err-clause-grants g c = kept_grants g (goal.at.returns-in-Err-clause-grants g c).After-write_fault
+returns-in-Err-clause-grants g c = kept_grants g (goal.at.returns-in-Err-clause-grants g c).After-write_from_owner
 
 pub returns-in-Err-clause-asked : goal.returns-in-Err-clause-asked
 returns-in-Err-clause-asked g c = missed_by _ c.fault_of.result c.in-Err.miss c.args.place.page c.fault_of.ensures
@@ -326,8 +326,8 @@ pub returns-in-Ok-clause-no_more : goal.returns-in-Ok-clause-no_more
 returns-in-Ok-clause-no_more g c = λ ready.
     let at = goal.at.returns-in-Ok-clause-no_more g c in
     let i = c.self.inside in
-    let n = c.write_fault.new in
-    let e = c.write_fault.ensures in
+    let n = c.write_from_owner.new in
+    let e = c.write_from_owner.ensures in
     let nodes = c.self.invariant.sound.nodes in
     let o = told_nodes g at.After-self in
     seen_no_more i.caches n.caches i.store c.remember.new.store i.contexts c.self.view_is
@@ -337,8 +337,8 @@ pub returns-in-Err-clause-no_more : goal.returns-in-Err-clause-no_more
 returns-in-Err-clause-no_more g c = λ ready.
     let at = goal.at.returns-in-Err-clause-no_more g c in
     let i = c.self.inside in
-    let n = c.write_fault.new in
-    let e = c.write_fault.ensures in
+    let n = c.write_from_owner.new in
+    let e = c.write_from_owner.ensures in
     let nodes = c.self.invariant.sound.nodes in
     let o = told_nodes g at.After-self in
     seen_no_more i.caches n.caches i.store n.store i.contexts c.self.view_is
@@ -347,30 +347,30 @@ returns-in-Err-clause-no_more g c = λ ready.
 pub returns-in-Ok-clause-admits : goal.returns-in-Ok-clause-admits
 returns-in-Ok-clause-admits g c =
     let i = c.self.inside in
-    let n = c.write_fault.new in
-    seen_admits i.caches n.caches i.store c.remember.new.store i.contexts c.self.view_is c.write_fault.ensures.answered.kept.nodes.caches
+    let n = c.write_from_owner.new in
+    seen_admits i.caches n.caches i.store c.remember.new.store i.contexts c.self.view_is c.write_from_owner.ensures.answered.kept.nodes.caches
 
 pub returns-in-Err-clause-admits : goal.returns-in-Err-clause-admits
 returns-in-Err-clause-admits g c =
     let i = c.self.inside in
-    let n = c.write_fault.new in
-    seen_admits i.caches n.caches i.store n.store i.contexts c.self.view_is c.write_fault.ensures.answered.kept.nodes.caches
+    let n = c.write_from_owner.new in
+    seen_admits i.caches n.caches i.store n.store i.contexts c.self.view_is c.write_from_owner.ensures.answered.kept.nodes.caches
 
 pub returns-in-Ok-clause-no_pull : goal.returns-in-Ok-clause-no_pull
 returns-in-Ok-clause-no_pull g c = λ ready.
     let at = (goal.at.returns-in-Ok-clause-no_pull g c).After-self in
     let o = told_nodes g at in
-    c.write_fault.ensures.no_pull c.args.nodes.owner o.owner (hand_there g at ready)
+    c.write_from_owner.ensures.no_pull c.args.nodes.owner o.owner (hand_there g at ready)
 
 pub returns-in-Err-clause-no_pull : goal.returns-in-Err-clause-no_pull
 returns-in-Err-clause-no_pull g c = λ ready.
     let at = (goal.at.returns-in-Err-clause-no_pull g c).After-self in
     let o = told_nodes g at in
-    c.write_fault.ensures.no_pull c.args.nodes.owner o.owner (hand_there g at ready)
+    c.write_from_owner.ensures.no_pull c.args.nodes.owner o.owner (hand_there g at ready)
 
 pub returns-in-Err-clause-victim : goal.returns-in-Err-clause-victim
 returns-in-Err-clause-victim g c = λ ready.
     let at = (goal.at.returns-in-Err-clause-victim g c).After-self in
     let o = told_nodes g at in
-    let miss : c.in-Err.miss ≡ Victim = subst (λ (r : Result FrameId Miss). IfErr r (λ m. m ≡ Victim)) c.in-Err.is (c.write_fault.ensures.victim c.args.nodes.owner o.owner (hand_there g at ready)) in
+    let miss : c.in-Err.miss ≡ Victim = subst (λ (r : Result FrameId Miss). IfErr r (λ m. m ≡ Victim)) c.in-Err.is (c.write_from_owner.ensures.victim c.args.nodes.owner o.owner (hand_there g at ready)) in
     ap (λ (f : FaultAt). troubles.Mapper f) (c.fault_of.ensures ∙ ap (λ (m : Miss). fault_at m c.args.place.page) miss)

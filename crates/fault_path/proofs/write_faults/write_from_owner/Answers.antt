@@ -15,7 +15,7 @@ use Rattle.fault_path.specs.Translating.{DropsHomes, MayCome, without_homes}
 use Rattle.fault_path.proofs.Rules.ReadyForest.{ready_alone}
 use Rattle.fault_path.proofs.Translations.Given.{forgot_world}
 use Rattle.fault_path.specs.Coming.{IsOfWrite, OnlyCome}
-use Rattle.fault_path.proofs.write_faults.write_fault.Goals as goal
+use Rattle.fault_path.proofs.write_faults.write_from_owner.Goals as goal
 
 pub drop_translations-requires : goal.drop_translations-requires
 drop_translations-requires g c =
