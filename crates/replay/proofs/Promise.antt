@@ -51,7 +51,7 @@ use Rattle.seg_manager.specs.Calling.{beginning as segments_beginning}
 use Rattle.seg_manager.specs.ReferenceMachine.{ReferenceMachine}
 use Rattle.seg_manager.specs.ReferenceMachine.{start as no_openings}
 use Rattle.seg_manager.specs.Stepping.{State as SegmentState}
-use Rattle.seg_manager.specs.Tying.{IsBare as IsBareForSegments}
+use Rattle.seg_manager.specs.Tying.{IsBare as IsBareForSegments, noted_regions}
 use Rattle.replay.specs.Ending.{CommandScene, EndsAs, FlatEnds, KeepEnds, MixEnds, Outside, PortEnds, RunEnds, scene_of_frames, scene_of_ports, scene_of_processes, scene_of_segments, scene_with, status_of, stored_in}
 use Rattle.flat_mm.specs.TwoManagers.{frames_left}
 use Rattle.replay.specs.Framed.{framed_command_of, framed_semantics}
@@ -257,7 +257,7 @@ bare_segments G gmi told page_bytes frames named valid unlimited pages same star
   unlimited = unlimited;
   fits = fits_start page_bytes frames PAGE named (G.machine gmi told) pages same starts;
   caches = ap (λ (m : Machine). m.caches) starts;
-  actors = ap (λ (m : Machine). m.actors) starts;
+  regions = ap (λ (m : Machine). noted_regions 1 m.actors) starts;
 }
 
 pub as_asked : (asked : Asked) (words : Option Asked) (P : Asked → Type 0) → Some asked ≡ words → P asked → IfSome words P

@@ -1,8 +1,11 @@
 -- What the lines of a script mean to a manager in which each live page has a page frame.
-use Rattle.std.specs.Prelude.{ℕ, Bool, true, false, List, Ok, Err, if◌then◌else◌}
+use Rattle.std.specs.Prelude.{◌≡◌, ℕ, Bool, true, false, List, Ok, Err, if◌then◌else◌}
+use Rattle.vm_ids.specs.Counting.{MapperCounts, no_counts}
 use Rattle.vm_ids.specs.declared.command.Command.{Command}
 use Rattle.vm_ids.specs.declared.command.Command.TheVariants as commands
-use Rattle.vm_ids.specs.declared.refusal.Refusal.TheVariants.{BadLine}
+use Rattle.vm_ids.specs.declared.refusal.Refusal.TheVariants.{BadLine, Full}
+use Rattle.vm_ids.specs.declared.reply.Trouble.TheVariants.{Refused}
+use Rattle.vm_model.specs.Answering.{Answer}
 use Rattle.vm_model.specs.Run.{Read, State}
 use Rattle.vm_model.specs.Steps.{Semantics}
 use Rattle.actor_script.specs.Forms.{command_of}
@@ -23,14 +26,21 @@ without_forest (Ok command) = if asks_forest command then Err BadLine else Ok co
 abbrev pub framed_command_of : List ℕ → Read
 framed_command_of line = without_forest (command_of line)
 
--- What its commands mean: the answer is the machine's, or Full exactly where more pages are asked
--- than frames are left.
+-- with `Full` no count of the mapper rises
+abbrev pub IsQuietlyFull : Answer → MapperCounts → Type 0
+IsQuietlyFull (Err (Refused Full)) rises = rises ≡ no_counts
+IsQuietlyFull answer rises = Unit {0}
+
+-- A command is answered as by the machine, or `Full` exactly where more pages are asked than frames
+-- are left.
+pub record IsFramedAnswer (before : State) (command : Command) (answer : Answer)
+    (rises : MapperCounts) (after : State) : Type 0 where
+  pub within : IsAnsweredWithin before (Ok command) answer rises after
+  pub quiet : IsQuietlyFull answer rises
+
+-- what its commands mean
 abbrev pub framed_meaning : Meaning Command
-framed_meaning = record {
-  State = State;
-  Is = λ before command answer rises after.
-      IsAnsweredWithin before (Ok command) answer rises after;
-}
+framed_meaning = record { State = State; Is = IsFramedAnswer }
 
 abbrev pub framed_semantics : Semantics
 framed_semantics = at_once framed_meaning

@@ -16,6 +16,7 @@ use Rattle.vm_ids.specs.declared.reply.Trouble.{Trouble}
 use Rattle.vm_ids.specs.declared.reply.Trouble.TheVariants as troubles
 use Rattle.vm_model.specs.Answering.{opened}
 use Rattle.vm_model.specs.Machine.{Machine}
+use Rattle.vm_model.specs.Outcome.{OutcomeAt}
 use Rattle.vm_model.proofs.Parts.ListParts.{numbered_past}
 use Rattle.vm_port.specs.declared.traits.mapper.Mapper.{Ghosts as GhostsOfMapper}
 use Rattle.gmi_calls.specs.Backing.{AreBacked}
@@ -24,7 +25,7 @@ use Rattle.gmi_calls.specs.Managing.{meanings_of}
 use Rattle.gmi_calls.specs.declared.gmi.Gmi.{Ghosts as GhostsOfGmi}
 use Rattle.gmi_calls.proofs.Rising.{rise_none, rise_then}
 use Rattle.seg_manager.specs.Answering.{Answered, reply_cache}
-use Rattle.seg_manager.specs.Calling.{HasNoRoom, Acquires}
+use Rattle.seg_manager.specs.Calling.{Acquires, HasNoRoom, SegmentCall}
 use Rattle.seg_manager.specs.Inner.{first_of}
 use Rattle.seg_manager.specs.Keeping.{AreBehind}
 use Rattle.seg_manager.specs.Outcome.{Outcome}
@@ -39,12 +40,14 @@ use Rattle.seg_manager.specs.declared.tables.Named.{Named}
 use Rattle.seg_manager.proofs.Acquiring.{anew_row, caches_seen}
 use Rattle.seg_manager.proofs.Anew.{opened_next, tied_anew}
 use Rattle.seg_manager.proofs.Calls.{able_after, backed_next, call_is, denied_after, forest, made_after, told_after}
+use Rattle.seg_manager.proofs.Live.{live_seen}
+use Rattle.seg_manager.proofs.Lacking.{IsLacking, open_lacks}
 use Rattle.seg_manager.proofs.Going.{Caches, length_used}
 use Rattle.seg_manager.proofs.Leaving.{credit_few, seen_length}
 use Rattle.seg_manager.proofs.Named.{tied_named}
 use Rattle.seg_manager.proofs.Opened.{Ends, IsOpen, appended, failed, lacks, made, many, nowhere, number_next}
 use Rattle.seg_manager.proofs.Releasing.{blank_told}
-use Rattle.seg_manager.proofs.Staying.{refused_again, stays_call}
+use Rattle.seg_manager.proofs.Staying.{Stays, refused_again, stays_by, stays_call}
 use Rattle.seg_manager.proofs.Steps.{step_whole}
 use Rattle.seg_manager.proofs.Tried.{can_same, none_noted, noted_none, open_ended, open_leaves, seen_same}
 use Rattle.seg_manager.proofs.Unopened.{behind_not, goes_on_by, not_kept, nowhere_row, number_below, number_unseen, opened_of, seen_opened, stored_as, stored_nothing, whole_caches, whole_for, whole_stored}
@@ -190,42 +193,63 @@ module _ {Manager X Chooser : Type 0} (M : GhostsOfMapper X) (G : GhostsOfGmi Ma
       abbrev rises : MapperCounts
       rises = counts_sum thins.rises its_rises
 
-      abbrev Says : Trouble → Segments → Type 0
-      Says x h = Outcome R None (commands.Plain (OpenSegment seg)) h 0 (Err x) R rises
+      abbrev Says : ReferenceMachine → Trouble → Segments → Type 0
+      Says r x h = Outcome r None (commands.Plain (OpenSegment seg)) h 0 (Err x) r rises
 
-      said : Ends then_told m seg.0 (Err t) n its_rises → (h : Segments) → Says t h
-      said (made p) h = absurd (let wrong : Err t ≡ Ok (replies.Cache (record { 0 = number_next m })) = p.answer in cc wrong)
-      said (many e s) h = subst (λ (x : Trouble). Says x h) (let is : troubles.Refused refusals.TooMany ≡ t = cc e in is) (inl (refl, number_R))
-      said (nowhere e s none) h =
-          subst (λ (x : Trouble). Says x h) (let is : troubles.Refused refusals.NoSegment ≡ t = cc e in is)
-          (nowhere_row R seg.0 0 number_R (stored_nothing told m by.caches.items seg.0
-          (stored_as m told then_told by.caches.items by.kept.items by.kept.room by.regions.items thins.can.tied seg anew_by (told_after M G by gmi middle after (OpenSegment seg) (Err t) thins.can call) None none)))
-      said (failed e s some) h =
-          subst (λ (x : Trouble). Says x h) (let is : troubles.Mapper faults.Opening ≡ t = cc e in is)
-          (refl, omega (arith, some), number_R, goes_on_by R seg 0 faults.Opening number_R (R.stored seg.0) refl)
-      said (lacks e s) h = subst (λ (x : Trouble). Says x h) (let is : troubles.Memory ≡ t = cc e in is) (refl, tt, tt)
+      asked_for : OutcomeAt then_told m (forest M G by gmi middle after (OpenSegment seg) (Err t) thins.can call) (OpenSegment seg) (Err t) n its_rises
+      asked_for = (call_is M G by gmi middle after (OpenSegment seg) (Err t) thins.can call).is.outcome
+
+      seen_then : seen_with M G left after ≡ R
+      seen_then = seen_same M G by gmi middle after (OpenSegment seg) (Err t) thins.can call same
+
+      lacking : left.kept.items ≡ [] → t ≡ troubles.Refused refusals.TooMany → IsLacking then_told (state_of G old (M.held before)) (state_of G left (M.held after)) (commands.Plain (OpenSegment seg))
+      lacking none e =
+          open_lacks m by.caches.items by.kept.items by.kept.room by.regions.items none (forest M G by gmi middle after (OpenSegment seg) (Err t) thins.can call) n its_rises (state_of G old (M.held before)) (state_of G left (M.held after))
+          told then_told thins.can.tied (told_after M G by gmi middle after (OpenSegment seg) (Err t) thins.can call) (sym seen_by) seen_then seg anew_by
+          (subst (λ (x : Trouble). OutcomeAt then_told m (forest M G by gmi middle after (OpenSegment seg) (Err t) thins.can call) (OpenSegment seg) (Err x) n its_rises) e asked_for)
 
       denied_then : option_map (λ (h : Segments). h.denied) then_told ≡ option_map (λ (h : Segments). h.denied) told
       denied_then = denied_after M G by gmi middle after (OpenSegment seg) (Err t) thins.can call
 
+      stays : Stays M G before old can after left rises
+      stays = record {
+        can = can_same M G by gmi middle after (OpenSegment seg) (Err t) thins.can call same;
+        made = omega (arith, made_after M G by gmi middle after (OpenSegment seg) (Err t) thins.can call, thins.credit, credit_few M G start before start_can);
+        limit = thins.limit;
+        many = ap (λ (x : Machine). length x.caches) same ∙ as_many;
+        rose = rise_then (M.counts before) (M.counts middle) (M.counts after) thins.rises its_rises thins.rose (call_is M G by gmi middle after (OpenSegment seg) (Err t) thins.can call).rose;
+        seen = seen_then ∙ seen_by;
+        denied = denied_then ∙ thins.denied;
+      }
+
+      -- of what is seen
+      so : ((h : Segments) → Says R t h) → SegmentCall M G before old (commands.Plain (OpenSegment seg)) (Err t) after left
+      so says = stays_call M G before old can after left (commands.Plain (OpenSegment seg)) t rises stays (λ h. subst (λ (r : ReferenceMachine). Says r t h) seen_by (says h))
+
+      said : (t ≡ troubles.Refused refusals.TooMany → left.kept.items ≡ []) → Ends then_told m seg.0 (Err t) n its_rises → SegmentCall M G before old (commands.Plain (OpenSegment seg)) (Err t) after left
+      said kept (made p) = absurd (let wrong : Err t ≡ Ok (replies.Cache (record { 0 = number_next m })) = p.answer in cc wrong)
+      said kept (many e s) =
+          let is : t ≡ troubles.Refused refusals.TooMany = cc e in
+          let L = lacking (kept is) is in
+          stays_by M G before old can after left (commands.Plain (OpenSegment seg)) t rises stays L.whole L.seen (λ h. subst (λ (x : Trouble). Says L.whole x h) (sym is) (inl (refl, L.lacks)))
+      said kept (nowhere e s none) =
+          so (λ h. subst (λ (x : Trouble). Says R x h) (let is : troubles.Refused refusals.NoSegment ≡ t = cc e in is)
+          (nowhere_row R seg.0 0 number_R (stored_nothing told m by.caches.items seg.0
+          (stored_as m told then_told by.caches.items by.kept.items by.kept.room by.regions.items thins.can.tied seg anew_by (told_after M G by gmi middle after (OpenSegment seg) (Err t) thins.can call) None none))))
+      said kept (failed e s some few) =
+          so (λ h. subst (λ (x : Trouble). Says R x h) (let is : troubles.Mapper faults.Opening ≡ t = cc e in is)
+          (refl, omega (arith, some), (number_R, omega (arith, few, seen_length told m by.caches.items)), goes_on_by R seg 0 faults.Opening number_R (R.stored seg.0) refl))
+      said kept (lacks e s) = so (λ h. subst (λ (x : Trouble). Says R x h) (let is : troubles.Memory ≡ t = cc e in is) (refl, tt, tt))
+
       pub not_opened : (t ≡ troubles.Refused refusals.TooMany → left.kept.items ≡ []) → Acquires M G before old seg (Err t) after left
       not_opened none = record {
-        call = stays_call M G before old can after left (commands.Plain (OpenSegment seg)) t rises (record {
-          can = can_same M G by gmi middle after (OpenSegment seg) (Err t) thins.can call same;
-          made = omega (arith, made_after M G by gmi middle after (OpenSegment seg) (Err t) thins.can call, thins.credit, credit_few M G start before start_can);
-          limit = thins.limit;
-          many = ap (λ (x : Machine). length x.caches) same ∙ as_many;
-          rose = rise_then (M.counts before) (M.counts middle) (M.counts after) thins.rises its_rises thins.rose (call_is M G by gmi middle after (OpenSegment seg) (Err t) thins.can call).rose;
-          seen = seen_same M G by gmi middle after (OpenSegment seg) (Err t) thins.can call same ∙ seen_by;
-          denied = denied_then ∙ thins.denied;
-        }) (λ h. subst (λ (r : ReferenceMachine). Outcome r None (commands.Plain (OpenSegment seg)) h 0 (Err t) r rises) seen_by (said (open_ended M G by middle thins.can seg anew_by (Err t) after gmi call) h));
+        call = said none (open_ended M G by middle thins.can seg anew_by (Err t) after gmi call);
         kept = behind_not (HasNoRoom G old.gmi (M.held before) (OpenSegment seg)) (list_any (λ s. s == seg.0) (kept_segments old.kept.items)) seg.0 (kept_segments old.kept.items) (kept_segments left.kept.items) (Err t)
             (not_kept m0 told0 old.caches.items old.kept.items old.kept.room old.regions.items can.tied seg anew) kept_behind;
         again = λ k e. absurd (no_cache k e);
         too_many = λ e. (let is : t ≡ troubles.Refused refusals.TooMany = cc e in (
           none is,
-          refused_again then_told m n (forest M G by gmi middle after (OpenSegment seg) (Err t) thins.can call) (G.forest gmi (M.held after)) (OpenSegment seg) (λ x f g h. refl) t its_rises same
-              (call_is M G by gmi middle after (OpenSegment seg) (Err t) thins.can call).is.outcome is,
+          refused_again then_told m n (forest M G by gmi middle after (OpenSegment seg) (Err t) thins.can call) (G.forest gmi (M.held after)) (OpenSegment seg) (λ x f g h. refl) t its_rises same asked_for is,
         ));
       }
 
@@ -316,6 +340,7 @@ module _ {Manager X Chooser : Type 0} (M : GhostsOfMapper X) (G : GhostsOfGmi Ma
                 (seen_opened told told_then m n' by.caches.items by.kept.items by.kept.room by.regions.items thins.can.tied seg anew_by p.pages d refl number_is refl
                 (told_after M G by gmi middle after (OpenSegment seg) (Ok (replies.Cache cache)) thins.can call) p.next (blank_told (M.held middle) m thins.can.blank) (blank_told (M.held after) n' final_can.blank)
                 (state_of G old (M.held before)) (state_of G final (M.held after)) (sym seen_by) (ap (references_seen n' told_then) pushed));
+            live = live_seen M G final after final_can;
             denied = open_denied ∙ thins.denied;
           };
         };

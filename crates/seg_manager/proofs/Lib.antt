@@ -38,7 +38,9 @@ pub mod LeavingRows
 pub mod RegionsLeft
 pub mod Parting
 pub mod Temporary
+pub mod Live
 pub mod Staying
+pub mod Lacking
 pub mod Temped
 pub mod Shapes
 pub mod Passed

@@ -17,7 +17,7 @@ use Rattle.vm_model.specs.PageForest.{PageForest}
 use Rattle.seg_manager.specs.Answering.{Answered, MayHave, answer_of, make_temp_of, open_anew, open_by, open_of}
 use Rattle.seg_manager.specs.Laws.{Chain, Step}
 use Rattle.seg_manager.specs.Limits.{AreAlike, AreEqualSteps, AreSameSteps, EndAlike, EqualRunsAnswerEqually, Renaming, RunsAreAlike, TellTheSame, answers_of, behind, decided, is_decided, makes_cache, renamed, renamed_answer, renaming_behind, same_numbers, with_pair}
-use Rattle.seg_manager.specs.Outcome.{Gives, MayExceed, Outcome}
+use Rattle.seg_manager.specs.Outcome.{Gives, LacksRoom, Outcome}
 use Rattle.seg_manager.specs.ReferenceMachine.{ReferenceMachine, Stored, number_named, start}
 use Rattle.seg_manager.proofs.Alike.{Match, at_by, same}
 use Rattle.seg_manager.proofs.Renaming.{pair_again}
@@ -57,7 +57,7 @@ module _ (m : ReferenceMachine) (f : Option PageForest) (h : Segments) (number :
   settled command (Err troubles.Memory) o = o.0
   settled command (Err (troubles.Refused refusals.TooMany)) o = many command o
     where
-      many : (command : KeepCommand) → ((next ≡ m) × MayExceed m command) ⊎ Gives m command h number (Err (troubles.Refused refusals.TooMany)) next
+      many : (command : KeepCommand) → ((next ≡ m) × LacksRoom m command) ⊎ Gives m command h number (Err (troubles.Refused refusals.TooMany)) next
           → Settled command (Err (troubles.Refused refusals.TooMany)) (not (makes_cache command))
       many (commands.Plain (plain_commands.OpenSegment seg)) (inl o) = o.0
       many (commands.Plain (plain_commands.OpenSegment seg)) (inr o) = absurd (never_many seg.0 o)

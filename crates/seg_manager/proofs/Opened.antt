@@ -40,7 +40,7 @@ pub data Ends (told : Option Segments) (m : Machine) (seg : ℕ) (a : Answer) (n
   made : IsOpen told m seg a n → Ends told m seg a n rises
   many : a ≡ Err (troubles.Refused refusals.TooMany) → n ≡ m → Ends told m seg a n rises
   nowhere : a ≡ Err (troubles.Refused refusals.NoSegment) → n ≡ m → IfSome told (λ h. get h.pages seg ≡ None) → Ends told m seg a n rises
-  failed : a ≡ Err (troubles.Mapper faults.Opening) → n ≡ m → 0 < rises.faults → Ends told m seg a n rises
+  failed : a ≡ Err (troubles.Mapper faults.Opening) → n ≡ m → 0 < rises.faults → length m.caches < MOST_MADE → Ends told m seg a n rises
   lacks : a ≡ Err troubles.Memory → n ≡ m → Ends told m seg a n rises
 
 -- by the row of the table
@@ -81,6 +81,10 @@ at_opening : (m : Machine) (f : Option PageForest) (h : Segments) (seg : SegId) 
 at_opening m f h seg faults.Opening rises may = refl
 at_opening m f h seg at rises may = absurd may
 
+opening_few : (m : Machine) (f : Option PageForest) (h : Segments) (seg : SegId) (at : FaultAt) (rises : MapperCounts) → MayFault m f (commands.OpenSegment seg) h at rises → length m.caches < MOST_MADE
+opening_few m f h seg faults.Opening rises may = may
+opening_few m f h seg at rises may = absurd may
+
 by_outcome : (m : Machine) (f : Option PageForest) (h : Segments) (seg : SegId) (a : Answer) (n : Machine) (rises : MapperCounts) → is_some (cache_named m.caches seg.0) ≡ false → Outcome m f (commands.OpenSegment seg) h a n rises → Ends (Some h) m seg.0 a n rises
 by_outcome m f h seg (Ok r) n rises free o = by (open_of m seg.0 (get h.pages seg.0)) o (row_ends m seg.0 (get h.pages seg.0) free)
   where
@@ -96,7 +100,7 @@ by_outcome m f h seg (Err (troubles.Refused r)) n rises free o = by (open_of m s
     by x o (row_made pages held few e) = absurd (let wrong : Err (troubles.Refused r) ≡ Ok (replies.Cache (record { 0 = number_next m })) = ap (λ (y : Answered). y.answer) (sym o ∙ e) in cc wrong)
     by x o (row_many e) = many (ap (λ (y : Answered). y.answer) (sym o ∙ e)) (ap (λ (y : Answered). y.next) (sym o ∙ e))
     by x o (row_nowhere none e) = nowhere (ap (λ (y : Answered). y.answer) (sym o ∙ e)) (ap (λ (y : Answered). y.next) (sym o ∙ e)) none
-by_outcome m f h seg (Err (troubles.Mapper at)) n rises free o = failed (ap (λ (x : FaultAt). Err (troubles.Mapper x)) (at_opening m f h seg at rises o.2)) o.0 o.1
+by_outcome m f h seg (Err (troubles.Mapper at)) n rises free o = failed (ap (λ (x : FaultAt). Err (troubles.Mapper x)) (at_opening m f h seg at rises o.2)) o.0 o.1 (opening_few m f h seg at rises o.2)
 by_outcome m f h seg (Err troubles.Memory) n rises free o = lacks refl o.0
 
 -- without bytes
@@ -145,5 +149,5 @@ open_ends None m f seg a n rises free o = by (by_outcome w f o.segments seg o.wh
     })
     by (many e s) = many (alike_err (troubles.Refused refusals.TooMany) o.whole_answer a e o.alike) (stays s)
     by (nowhere e s h) = nowhere (alike_err (troubles.Refused refusals.NoSegment) o.whole_answer a e o.alike) (stays s) tt
-    by (failed e s h) = failed (alike_err (troubles.Mapper faults.Opening) o.whole_answer a e o.alike) (stays s) h
+    by (failed e s h few) = failed (alike_err (troubles.Mapper faults.Opening) o.whole_answer a e o.alike) (stays s) h (omega (arith, few, many_whole))
     by (lacks e s) = lacks (alike_err troubles.Memory o.whole_answer a e o.alike) (stays s)

@@ -40,6 +40,7 @@ use Rattle.seg_manager.specs.declared.tables.Mapped.{Mapped}
 use Rattle.seg_manager.specs.declared.tables.Named.{Named}
 use Rattle.seg_manager.proofs.Calls.{able_after, call_is, made_after}
 use Rattle.seg_manager.proofs.Dropping.{any_parted, noted_then, noted_tied, room_then, segments_left, tied_noted}
+use Rattle.seg_manager.proofs.Live.{live_seen}
 use Rattle.seg_manager.proofs.Leaving.{as_many, credit_few, left_same, seen_actors, told_both}
 use Rattle.seg_manager.proofs.Releasing.{blank_told, seen_same}
 use Rattle.seg_manager.proofs.Stated.{state_over}
@@ -204,6 +205,7 @@ module _ {Manager X Chooser : Type 0} (M : GhostsOfMapper X) (G : GhostsOfGmi Ma
             step = step_by (state_of G old (M.held before)) (state_of G new (M.held after)) (commands.Plain (command_of l)) (Ok replies.Done) trims.rises next
                 (λ h. (0, (may_have l (references_seen m told cs) 0, done_row told m cs rs can.tied.regions l done.actors done.by h)))
                 (told_both told (segments_of (M.held after)) trims.denied (state_of G old (M.held before)) (state_of G mid (M.held before)) (state_of G new (M.held after)) next trims.seen seen_then);
+            live = live_seen M G new after trims.can;
             denied = trims.denied;
           };
         }
@@ -250,10 +252,13 @@ module _ {Manager X Chooser : Type 0} (M : GhostsOfMapper X) (G : GhostsOfGmi Ma
           segment_row l (references_seen m told cs) h 0
           ∙ ap (λ (x : Then). leaving_by (references_seen m told cs) (answered_so (references_seen m told cs).memory x)) (ap (actors_then l) (seen_actors told m cs) ∙ not_done.by)
 
+      refused_can : CanCall G (record old { gmi = gmi }) (M.held before) (M.page_bytes before)
+      refused_can = able_after M G old gmi before before (command_of l) (Err trouble) can (with_mapper (Err trouble) call) old (omega (arith, can.few, ap (λ (x : Machine). length x.caches) not_done.next))
+          (subst (λ (x : Machine). AreTied x told cs old.kept.items old.kept.room rs) (sym not_done.next) can.tied)
+
       refused_call : SegmentCall M G before old (commands.Plain (command_of l)) (Err trouble) before (record old { gmi = gmi })
       refused_call = subst (λ (t : Answer). SegmentCall M G before old (commands.Plain (command_of l)) t before (record old { gmi = gmi })) (sym not_done.answer) (record {
-        can = able_after M G old gmi before before (command_of l) (Err trouble) can (with_mapper (Err trouble) call) old (omega (arith, can.few, ap (λ (x : Machine). length x.caches) not_done.next))
-            (subst (λ (x : Machine). AreTied x told cs old.kept.items old.kept.room rs) (sym not_done.next) can.tied);
+        can = refused_can;
         made = omega (arith, made_after M G old gmi before before (command_of l) (Err trouble) can (with_mapper (Err trouble) call));
         limit = refl;
         one = omega (arith, ap (λ (x : Machine). length x.caches) not_done.next);
@@ -263,6 +268,7 @@ module _ {Manager X Chooser : Type 0} (M : GhostsOfMapper X) (G : GhostsOfGmi Ma
           step = step_by (state_of G old (M.held before)) (state_of G (record old { gmi = gmi }) (M.held before)) (commands.Plain (command_of l)) (Err (troubles.Refused not_done.refusal)) no_counts (references_seen m told cs)
               (λ h. (0, gives not_done.refusal (references_seen m told cs) h (refused_row h)))
               (subst (λ (x : Machine). IsSeen told (state_over told m cs) (state_over told x cs) (references_seen m told cs)) (sym not_done.next) (seen_same told m cs (blank_told (M.held before) m can.blank)));
+          live = live_seen M G (record old { gmi = gmi }) before refused_can;
           denied = refl;
         };
       })

@@ -33,6 +33,7 @@ use Rattle.seg_manager.specs.declared.tables.Named.{Named}
 use Rattle.seg_manager.proofs.Calls.{able_after, backed_next, call_is, denied_after, forest, m, made_after, n, told_after}
 use Rattle.seg_manager.proofs.Destroyed.{beside_told}
 use Rattle.seg_manager.proofs.Entries.{fun_same}
+use Rattle.seg_manager.proofs.Live.{live_seen}
 use Rattle.seg_manager.proofs.Going.{used_same}
 use Rattle.seg_manager.proofs.Lifting.{is_hidden, references}
 use Rattle.seg_manager.proofs.Passed.{IsAnswered, IsHiding, IsQuiet, SameRegions, copy_answered, copy_regions, outcome_answered, outcome_next, over, passed_answered, passed_regions, quiet_self, storing}
@@ -149,8 +150,7 @@ module _ {Manager X Chooser : Type 0} (M : GhostsOfMapper X) (G : GhostsOfGmi Ma
   pub answered_call : (later : SegManager Manager) → later.caches ≡ old.caches → later.limit ≡ old.limit
       → (segments_in y.caches ≡ segments_in x.caches → AreTied y (segments_of (M.held after)) old.caches.items later.kept.items later.kept.room later.regions.items) → SegmentCall M G before old (Plain command) a after (record later { gmi = gmi })
   answered_call later same limit tied = record {
-    can = able_after M G old gmi before after c a able call later (omega (arith, as_many, able.few))
-        (subst (λ (cs : List Named). AreTied y (segments_of (M.held after)) cs later.kept.items later.kept.room later.regions.items) (sym (ap (λ v. v.items) same)) (tied segments));
+    can = can_then;
     made = omega (arith, made_after M G old gmi before after c a able call);
     limit = limit;
     one = omega (arith, as_many);
@@ -160,9 +160,14 @@ module _ {Manager X Chooser : Type 0} (M : GhostsOfMapper X) (G : GhostsOfGmi Ma
       step = step_answered old.caches.items old.kept.items c command answered (segments_of (M.held before)) (segments_of (M.held after)) x y (forest M G old gmi before after c a able call) a
           (call_is M G old gmi before after c a able call).rises (told_after M G old gmi before after c a able call) able.tied.kept (call_is M G old gmi before after c a able call).is.outcome
           (state_of G old (M.held before)) (state_of G (record later { gmi = gmi }) (M.held after)) refl (ap (λ v. references_seen y (segments_of (M.held after)) v.items) same);
+      live = live_seen M G (record later { gmi = gmi }) after can_then;
       denied = denied_after M G old gmi before after c a able call;
     };
   }
+    where
+      can_then : CanCall G (record later { gmi = gmi }) (M.held after) (M.page_bytes after)
+      can_then = able_after M G old gmi before after c a able call later (omega (arith, as_many, able.few))
+          (subst (λ (cs : List Named). AreTied y (segments_of (M.held after)) cs later.kept.items later.kept.room later.regions.items) (sym (ap (λ v. v.items) same)) (tied segments))
 
   -- the regions are the same
   pub answered_same : ((x : Machine) → IsHiding (openings_in old.caches.items) x old.kept.items → (f : PageForest) (h : Segments) → SameRegions (openings_in old.caches.items) x (plain.answer_of x f c h).next)

@@ -41,10 +41,10 @@ module _ (m : Machine) (none : m.caches ≡ []) where
   backed_none None = tt
   backed_none (Some s) = backs_none s
 
-  tied_none : (told : Option Segments) (room : ℕ) → m.actors ≡ [] → AreTied m told [] [] room []
-  tied_none told room actors = record {
+  tied_none : (told : Option Segments) (room : ℕ) → noted_regions 1 m.actors ≡ [] → AreTied m told [] [] room []
+  tied_none told room bare = record {
     caches = ap (namings 1) (sym none);
-    regions = ap (noted_regions 1) (sym actors);
+    regions = sym bare;
     apart = λ i j seg e f. absurd (let wrong : None ≡ Some seg = sym (no_segment i) ∙ e in cc wrong);
     kept = λ n. sym (ap (λ (o : Option Cache). option_map_or (goes (whole_of m told []) n) o false) (no_cache n));
     named = tt;
@@ -83,7 +83,7 @@ module _ {Manager Mapper Chooser : Type 0} (G : GhostsOfGmi Manager Mapper Choos
     tied = subst (λ (cs : List Named). AreTied m (segments_of told) cs manager.kept.items manager.kept.room manager.regions.items) (sym caches)
         (subst (λ (ks : List Kept). AreTied m (segments_of told) [] ks manager.kept.room manager.regions.items) (sym kept)
         (subst (λ (rs : List Mapped). AreTied m (segments_of told) [] [] manager.kept.room rs) (sym regions)
-        (tied_none m bare.caches (segments_of told) manager.kept.room bare.actors)));
+        (tied_none m bare.caches (segments_of told) manager.kept.room bare.regions)));
     blank = blank_none m bare.caches told;
   }
 

@@ -24,6 +24,7 @@ use Rattle.seg_manager.specs.Thinning.{denied_by, machine_at, seen_with}
 use Rattle.seg_manager.specs.Tying.{CanCall}
 use Rattle.seg_manager.specs.declared.manager.SegManager.{SegManager}
 use Rattle.seg_manager.specs.declared.tables.Named.{Named}
+use Rattle.seg_manager.proofs.Live.{live_seen}
 use Rattle.seg_manager.proofs.Releasing.{blank_told}
 use Rattle.seg_manager.proofs.Steps.{AreSeen, alike_err, seen_blank, step_whole}
 
@@ -69,9 +70,10 @@ module _ {Manager X Chooser : Type 0} (M : GhostsOfMapper X) (G : GhostsOfGmi Ma
     pub seen : seen_with M G new after ≡ seen_with M G old before
     pub denied : denied_by M G after ≡ denied_by M G before
 
-  pub stays_call : (after : X) (new : SegManager Manager) (command : KeepCommand) (t : Trouble) (rises : MapperCounts) → Stays after new rises
-      → ((h : Segments) → keep.Outcome (seen_with M G old before) None command h 0 (Err t) (seen_with M G old before) rises) → SegmentCall M G before old command (Err t) after new
-  stays_call after new command t rises s outcome = record {
+  -- The answer is that of a machine, of which they are what is seen.
+  pub stays_by : (after : X) (new : SegManager Manager) (command : KeepCommand) (t : Trouble) (rises : MapperCounts) → Stays after new rises
+      → (whole : ReferenceMachine) → AreSeen (segments_of (M.held after)) (state_of G old (M.held before)) (state_of G new (M.held after)) whole whole → ((h : Segments) → keep.Outcome whole None command h 0 (Err t) whole rises) → SegmentCall M G before old command (Err t) after new
+  stays_by after new command t rises s whole seen outcome = record {
     can = s.can;
     made = s.made;
     limit = s.limit;
@@ -79,9 +81,16 @@ module _ {Manager X Chooser : Type 0} (M : GhostsOfMapper X) (G : GhostsOfGmi Ma
     rises = rises;
     rose = s.rose;
     is = record {
-      step = step_whole (state_of G old (M.held before)) (state_of G new (M.held after)) command (Err t) rises (seen_with M G old before) (seen_with M G old before) (λ h. (0, outcome h))
-          (same_seen (segments_of (M.held before)) (segments_of (M.held after)) s.denied (state_of G old (M.held before)) (state_of G new (M.held after)) (seen_with M G old before) refl s.seen
-          (blank_seen (segments_of (M.held before)) (machine_at M G old before) old.caches.items (blank_told (M.held before) (machine_at M G old before) able.blank)));
+      step = step_whole (state_of G old (M.held before)) (state_of G new (M.held after)) command (Err t) rises whole whole (λ h. (0, outcome h)) seen;
+      live = live_seen M G new after s.can;
       denied = s.denied;
     };
   }
+
+  pub stays_call : (after : X) (new : SegManager Manager) (command : KeepCommand) (t : Trouble) (rises : MapperCounts) → Stays after new rises
+      → ((h : Segments) → keep.Outcome (seen_with M G old before) None command h 0 (Err t) (seen_with M G old before) rises) → SegmentCall M G before old command (Err t) after new
+  stays_call after new command t rises s outcome =
+      stays_by after new command t rises s (seen_with M G old before)
+      (same_seen (segments_of (M.held before)) (segments_of (M.held after)) s.denied (state_of G old (M.held before)) (state_of G new (M.held after)) (seen_with M G old before) refl s.seen
+      (blank_seen (segments_of (M.held before)) (machine_at M G old before) old.caches.items (blank_told (M.held before) (machine_at M G old before) able.blank)))
+      outcome

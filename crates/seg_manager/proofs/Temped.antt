@@ -30,7 +30,7 @@ use Rattle.gmi_calls.specs.Managing.{meanings_of}
 use Rattle.gmi_calls.specs.declared.gmi.Gmi.{Ghosts as GhostsOfGmi}
 use Rattle.gmi_calls.proofs.Rising.{rise_then}
 use Rattle.seg_manager.specs.Answering.{make_temp_of, reply_cache}
-use Rattle.seg_manager.specs.Calling.{HasNoRoom, Serves}
+use Rattle.seg_manager.specs.Calling.{HasNoRoom, SegmentCall, Serves}
 use Rattle.seg_manager.specs.Keeping.{AreBehind}
 use Rattle.seg_manager.specs.Outcome.{IsWanted, Outcome}
 use Rattle.seg_manager.specs.ReferenceMachine.{ReferenceMachine, add_cache}
@@ -41,11 +41,13 @@ use Rattle.seg_manager.specs.declared.manager.SegManager.{SegManager}
 use Rattle.seg_manager.specs.declared.tables.Kept.{Kept}
 use Rattle.seg_manager.specs.declared.tables.Named.{Named}
 use Rattle.seg_manager.proofs.Calls.{able_after, backed_next, blank_twice, call_is, denied_after, forest, made_after, told_after}
+use Rattle.seg_manager.proofs.Lacking.{IsLacking, temp_lacks}
 use Rattle.seg_manager.proofs.Leaving.{credit_few, seen_length}
+use Rattle.seg_manager.proofs.Live.{live_seen}
 use Rattle.seg_manager.proofs.Opened.{appended, number_next}
 use Rattle.seg_manager.proofs.Pushed.{Told}
 use Rattle.seg_manager.proofs.Releasing.{blank_told}
-use Rattle.seg_manager.proofs.Staying.{Stays, refused_again, stays_call}
+use Rattle.seg_manager.proofs.Staying.{Stays, refused_again, stays_by, stays_call}
 use Rattle.seg_manager.proofs.Steps.{AreSeen, alike_err, step_whole}
 use Rattle.seg_manager.proofs.Temping.{temp_leaves}
 use Rattle.seg_manager.proofs.Temporary.{nameless, seen_temp, tied_temp}
@@ -204,20 +206,32 @@ module _ {Manager X Chooser : Type 0} (M : GhostsOfMapper X) (G : GhostsOfGmi Ma
         denied = denied_after M G by gmi middle after (MakeTemp pages) (Err t) thins.can call ∙ thins.denied;
       }
 
-      says : (h : Segments) → IsTempTrouble t → Outcome R None (commands.Plain (MakeTemp pages)) h 0 (Err t) R rises
-      says h (inl e) = subst (λ (x : Trouble). Outcome R None (commands.Plain (MakeTemp pages)) h 0 (Err x) R rises) (sym e) (inl (refl, tt))
-      says h (inr e) = subst (λ (x : Trouble). Outcome R None (commands.Plain (MakeTemp pages)) h 0 (Err x) R rises) (sym e) (refl, tt, lacks_row R pages 0)
+      asked_for : OutcomeAt (segments_of (M.held after)) m (forest M G by gmi middle after (MakeTemp pages) (Err t) thins.can call) (MakeTemp pages) (Err t) (machine_at M G left after) its_rises
+      asked_for = (call_is M G by gmi middle after (MakeTemp pages) (Err t) thins.can call).is.outcome
+
+      lacking : left.kept.items ≡ [] → t ≡ troubles.Refused refusals.TooMany → IsLacking (segments_of (M.held after)) (state_of G old (M.held before)) (state_of G left (M.held after)) (commands.Plain (MakeTemp pages))
+      lacking none e =
+          temp_lacks m by.caches.items by.kept.items by.kept.room by.regions.items none (forest M G by gmi middle after (MakeTemp pages) (Err t) thins.can call) (machine_at M G left after) its_rises (state_of G old (M.held before)) (state_of G left (M.held after))
+          told (segments_of (M.held after)) thins.can.tied (told_after M G by gmi middle after (MakeTemp pages) (Err t) thins.can call) (sym thins.seen) (seen_same M G by gmi middle after (MakeTemp pages) (Err t) thins.can call same) pages
+          (subst (λ (x : Trouble). OutcomeAt (segments_of (M.held after)) m (forest M G by gmi middle after (MakeTemp pages) (Err t) thins.can call) (MakeTemp pages) (Err x) (machine_at M G left after) its_rises) e asked_for)
+
+      says : (t ≡ troubles.Refused refusals.TooMany → left.kept.items ≡ []) → IsTempTrouble t → SegmentCall M G before old (commands.Plain (MakeTemp pages)) (Err t) after left
+      says none (inl e) =
+          let L = lacking (none e) e in
+          stays_by M G before old can after left (commands.Plain (MakeTemp pages)) t rises stays L.whole L.seen
+          (λ h. subst (λ (x : Trouble). Outcome L.whole None (commands.Plain (MakeTemp pages)) h 0 (Err x) L.whole rises) (sym e) (inl (refl, L.lacks)))
+      says none (inr e) =
+          stays_call M G before old can after left (commands.Plain (MakeTemp pages)) t rises stays
+          (λ h. subst (λ (x : Trouble). Outcome R None (commands.Plain (MakeTemp pages)) h 0 (Err x) R rises) (sym e) (refl, tt, lacks_row R pages 0))
 
       pub not_made : (t ≡ troubles.Refused refusals.TooMany → left.kept.items ≡ []) → Serves M G before old (MakeTemp pages) (Err t) after left
       not_made none = record {
-        call = stays_call M G before old can after left (commands.Plain (MakeTemp pages)) t rises stays
-            (λ h. says h (which_at (segments_of (M.held after)) m (machine_at M G left after) (forest M G by gmi middle after (MakeTemp pages) (Err t) thins.can call) pages t its_rises (call_is M G by gmi middle after (MakeTemp pages) (Err t) thins.can call).is.outcome));
+        call = says none (which_at (segments_of (M.held after)) m (machine_at M G left after) (forest M G by gmi middle after (MakeTemp pages) (Err t) thins.can call) pages t its_rises asked_for);
         kept = (
           kept_behind,
           (λ e. (let is : t ≡ troubles.Refused refusals.TooMany = cc e in (
             none is,
-            refused_again (segments_of (M.held after)) m (machine_at M G left after) (forest M G by gmi middle after (MakeTemp pages) (Err t) thins.can call) (G.forest gmi (M.held after)) (MakeTemp pages) (λ x f g h. refl) t its_rises same
-                (call_is M G by gmi middle after (MakeTemp pages) (Err t) thins.can call).is.outcome is,
+            refused_again (segments_of (M.held after)) m (machine_at M G left after) (forest M G by gmi middle after (MakeTemp pages) (Err t) thins.can call) (G.forest gmi (M.held after)) (MakeTemp pages) (λ x f g h. refl) t its_rises same asked_for is,
           ))),
         );
       }
@@ -306,7 +320,7 @@ module _ {Manager X Chooser : Type 0} (M : GhostsOfMapper X) (G : GhostsOfGmi Ma
       pub was_made : Serves M G before old (MakeTemp pages) (Ok (replies.Cache cache)) after final
       was_made = record {
         call = record {
-          can = able_after M G by gmi middle after (MakeTemp pages) (Ok (replies.Cache cache)) thins.can call by (omega (arith, one_more, made.few)) tied;
+          can = can_then;
           made = omega (arith, made_after M G by gmi middle after (MakeTemp pages) (Ok (replies.Cache cache)) thins.can call, thins.credit, credit_few M G old before can);
           limit = thins.limit;
           one = omega (arith, one_more, as_many);
@@ -319,6 +333,7 @@ module _ {Manager X Chooser : Type 0} (M : GhostsOfMapper X) (G : GhostsOfGmi Ma
                 (seen_temp m zeros told told_then n by.caches.items by.kept.items by.kept.room by.regions.items thins.can.tied
                 (told_after M G by gmi middle after (MakeTemp pages) (Ok (replies.Cache cache)) thins.can call) made.next (blank_told (M.held middle) m thins.can.blank)
                 (state_of G old (M.held before)) (state_of G final (M.held after)) (sym thins.seen) refl));
+            live = live_seen M G final after can_then;
             denied = denied_after M G by gmi middle after (MakeTemp pages) (Ok (replies.Cache cache)) thins.can call ∙ thins.denied;
           };
         };
@@ -333,6 +348,9 @@ module _ {Manager X Chooser : Type 0} (M : GhostsOfMapper X) (G : GhostsOfGmi Ma
               subst (λ (x : Machine). AreTied x told_then by.caches.items by.kept.items by.kept.room by.regions.items) (sym more.1)
               (tied_temp m more.0 told told_then by.caches.items by.kept.items by.kept.room by.regions.items thins.can.tied
               (subst (λ (x : Machine). IfSome told_then (λ t. AreBacked x.caches t)) more.1 (backed_next M G by gmi middle after (MakeTemp pages) (Ok (replies.Cache cache)) thins.can call)))
+
+          can_then : CanCall G final (M.held after) (M.page_bytes after)
+          can_then = able_after M G by gmi middle after (MakeTemp pages) (Ok (replies.Cache cache)) thins.can call by (omega (arith, one_more, made.few)) tied
 
   -- What the tries came to
   pub temp_served : (result : Result CacheId Trouble) (after : X) (new : SegManager Manager) → IsTried M G (MakeTemp pages) before old result after new → Serves M G before old (MakeTemp pages) (answer_by replies.Cache result) after new

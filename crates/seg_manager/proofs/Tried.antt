@@ -195,7 +195,7 @@ module _ {Manager X Chooser : Type 0} (M : GhostsOfMapper X) (G : GhostsOfGmi Ma
       by (made p) = absurd (let wrong : Err t ≡ Ok (replies.Cache (record { 0 = length (G.machine manager.gmi (M.held mapper)).caches + 1 })) = p.answer in cc wrong)
       by (many e s) = s
       by (nowhere e s h) = s
-      by (failed e s h) = s
+      by (failed e s h few) = s
       by (lacks e s) = s
 
   pub open_row : IsSameRow (vm_commands.OpenSegment seg) (G.machine manager.gmi (M.held mapper))

@@ -142,5 +142,5 @@ pub opened_of : (told : Option Segments) (m : Machine) (seg : ℕ) (cache : Cach
 opened_of told m seg cache n rises (made p) = p
 opened_of told m seg cache n rises (many e s) = absurd (cc e)
 opened_of told m seg cache n rises (nowhere e s h) = absurd (cc e)
-opened_of told m seg cache n rises (failed e s h) = absurd (cc e)
+opened_of told m seg cache n rises (failed e s h few) = absurd (cc e)
 opened_of told m seg cache n rises (lacks e s) = absurd (cc e)

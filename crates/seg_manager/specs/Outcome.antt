@@ -10,7 +10,7 @@ use Rattle.vm_ids.specs.declared.refusal.Refusal.TheVariants.{NoSegment, TooMany
 use Rattle.vm_ids.specs.declared.reply.FaultAt.{FaultAt}
 use Rattle.vm_ids.specs.declared.reply.FaultAt.TheVariants as faults
 use Rattle.vm_ids.specs.declared.reply.Trouble.TheVariants as troubles
-use Rattle.vm_model.specs.Answering.{Answer}
+use Rattle.vm_model.specs.Answering.{Answer, make_temp_of, open_of}
 use Rattle.vm_model.specs.Outcome as plain
 use Rattle.vm_model.specs.Outcome.{IsNotRefused, NotRefusedButFor}
 use Rattle.vm_model.specs.PageForest.{PageForest}
@@ -23,7 +23,8 @@ use Rattle.seg_manager.specs.ReferenceMachine.{ReferenceMachine, number_named}
 abbrev pub MayFault : ReferenceMachine → Option PageForest → KeepCommand → Segments → FaultAt
     → MapperCounts → Type 0
 MayFault m f (commands.Plain (OpenSegment seg)) h faults.Opening rises =
-    number_named m seg.0 ≡ None
+    (number_named m seg.0 ≡ None)
+    × plain.MayFault m.memory f (OpenSegment seg) h faults.Opening rises
 MayFault m f (commands.Plain (OpenSegment seg)) h (faults.Page p) rises =
     number_named m seg.0 ≡ None
 MayFault m f (commands.Plain (OpenSegment seg)) h (faults.Save done) rises =
@@ -51,11 +52,14 @@ IsWanted (commands.Plain (OpenSegment seg)) answer = Unit {0}
 IsWanted (commands.Plain (Map actor mapping)) answer = Unit {0}
 IsWanted command answer = IsNotRefused answer
 
--- the calls for which there may be too many caches or pages: those that make a cache
-abbrev pub MayExceed : ReferenceMachine → KeepCommand → Type 0
-MayExceed m (commands.Plain (OpenSegment seg)) = number_named m seg.0 ≡ None
-MayExceed m (commands.Plain (MakeTemp pages)) = Unit {0}
-MayExceed m command = ⊥
+-- There is no room for the cache that the call would make: a plain machine of these caches refuses
+-- it as too many.
+abbrev pub LacksRoom : ReferenceMachine → KeepCommand → Type 0
+LacksRoom m (commands.Plain (OpenSegment seg)) =
+    (open_of m.memory seg.0 (m.stored seg.0)).answer ≡ Err (troubles.Refused TooMany)
+LacksRoom m (commands.Plain (MakeTemp pages)) =
+    (make_temp_of m.memory pages).answer ≡ Err (troubles.Refused TooMany)
+LacksRoom m command = ⊥
 
 -- The machine answers so, and its next is this one. A new cache has this number.
 abbrev pub Gives : ReferenceMachine → KeepCommand → Segments → ℕ → Answer → ReferenceMachine
@@ -64,7 +68,8 @@ Gives m command h number answer next =
     answer_of m command h number ≡ record { answer = answer; next = next }
 
 -- The answer and the next machine are those of the machine; or it is a fault that has a cause, want
--- of memory or too many, and the machine stays.
+-- of memory or too many, and the machine stays. There are too many only where there is no room
+-- beside what is referred to alone.
 abbrev pub Outcome : ReferenceMachine → Option PageForest → KeepCommand → Segments → ℕ → Answer
     → ReferenceMachine → MapperCounts → Type 0
 Outcome m f command h number (Err (troubles.Mapper at)) next rises =
@@ -73,7 +78,7 @@ Outcome m f command h number (Err (troubles.Mapper at)) next rises =
 Outcome m f command h number (Err troubles.Memory) next rises =
     (next ≡ m) × MayLack command × IsWanted command (answer_of m command h number).answer
 Outcome m f command h number (Err (troubles.Refused TooMany)) next rises =
-    ((next ≡ m) × MayExceed m command)
+    ((next ≡ m) × LacksRoom m command)
     ⊎ Gives m command h number (Err (troubles.Refused TooMany)) next
 Outcome m f command h number (Err (troubles.Refused r)) next rises =
     Gives m command h number (Err (troubles.Refused r)) next

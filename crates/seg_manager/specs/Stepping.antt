@@ -1,11 +1,13 @@
 -- One answer after another of segments: what there is between two, and how one leads on.
-use Rattle.std.specs.Prelude.{◌≡◌, ℕ, Option, Some, None, option_map}
+use Rattle.std.specs.Prelude.{◌≡◌, ◌≤◌, ℕ, Option, Some, None, option_map}
 use Rattle.vm_ids.specs.Counting.{MapperCounts}
 use Rattle.vm_ids.specs.Held.{Segments}
 use Rattle.vm_ids.specs.declared.command.KeepCommand.{KeepCommand}
 use Rattle.vm_model.specs.Answering.{Answer}
+use Rattle.vm_model.specs.Machine.{live_pages}
 use Rattle.vm_model.specs.Outcome.{blank}
 use Rattle.vm_model.specs.PageForest.{PageForest}
+use Rattle.vm_model.specs.declared.limits.TheConstants.{LIVE_PAGES}
 use Rattle.gmi_calls.specs.Untold.{UntoldStep}
 use Rattle.seg_manager.specs.Outcome.{Outcome}
 use Rattle.seg_manager.specs.ReferenceMachine.{ReferenceMachine}
@@ -35,9 +37,11 @@ StepAt None before command answer rises after =
     UntoldStep forget (λ h whole a next. LeadsTo h whole command a rises next) before answer after
 StepAt (Some h) before command answer rises after = LeadsTo h before command answer rises after
 
--- One answer of the manager of segments. The mapper denies the same pages then.
+-- One answer of the manager of segments. No more pages are live behind it than may be, and the
+-- mapper denies the same pages then.
 pub record AnswerIs (before : State) (command : KeepCommand) (answer : Answer)
     (rises : MapperCounts) (after : State) : Type 0 where
   pub step : StepAt after.segments before command answer rises after
+  pub live : live_pages after.references.memory ≤ LIVE_PAGES
   pub denied : option_map (λ (h : Segments). h.denied) after.segments
       ≡ option_map (λ (h : Segments). h.denied) before.segments

@@ -94,11 +94,11 @@ pub record CanCall {Manager Mapper Chooser : Type 0} (G : GhostsOfGmi Manager Ma
       manager.kept.items manager.kept.room manager.regions.items
   pub blank : IsUntoldBlank told (G.machine manager.gmi told)
 
--- A manager without caches and actors whose room isn't limited.
+-- A manager without caches and regions whose room isn't limited.
 pub record IsBare {Manager Mapper Chooser : Type 0} (G : GhostsOfGmi Manager Mapper Chooser)
     (gmi : Manager) (told : Option Held) (page_bytes : Option ℕ) : Type 0 where
   pub valid : G.valid gmi told
   pub unlimited : G.room gmi ≡ None
   pub fits : Fits page_bytes (G.machine gmi told)
   pub caches : (G.machine gmi told).caches ≡ []
-  pub actors : (G.machine gmi told).actors ≡ []
+  pub regions : noted_regions 1 (G.machine gmi told).actors ≡ []

@@ -31,7 +31,7 @@ pub struct SegManager<G> {
 
 impl<G> SegManager<G> {
     /// No segment is open, and so many caches may be kept. The calls can be made where the manager
-    /// has no caches and actors, and its room isn't limited.
+    /// has no caches and regions, and its room isn't limited.
     pub fn new<M: Mapper, C: Chooser>(alloc: Global, gmi: G, limit: u32) -> SegManager<G>
     where
         G: Gmi<M, C>,

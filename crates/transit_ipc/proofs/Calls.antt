@@ -1,6 +1,7 @@
 -- After a call of the manager the ports can call it again.
 use Rattle.std.proofs.Common.{◌≡◌, ℕ, ◌+◌, ◌*◌, ◌≤◌, true, List, Option, Some, None, refl, sym, ap, subst, ◌∙◌, arith}
 use Rattle.std.specs.Prelude.{is_some, Ok, Err}
+use Rattle.vm_ids.specs.Counting.{MapperCounts}
 use Rattle.vm_ids.specs.Held.{Segments, segments_of}
 use Rattle.vm_ids.specs.declared.command.Command.{Command}
 use Rattle.vm_ids.specs.declared.command.Command.TheVariants.{Map}
@@ -9,6 +10,7 @@ use Rattle.vm_ids.specs.declared.command.PortCommand.TheVariants.{Plain}
 use Rattle.vm_ids.specs.declared.numbers.ActorId.{ActorId}
 use Rattle.vm_ids.specs.declared.reply.Trouble.TheVariants as troubles
 use Rattle.vm_model.specs.Answering.{Answer}
+use Rattle.vm_model.specs.Asking.{ReachesMapper}
 use Rattle.vm_model.specs.Machine.{Machine, live_pages}
 use Rattle.vm_model.specs.Outcome as plain
 use Rattle.vm_model.specs.Outcome.{OutcomeAt}
@@ -105,8 +107,8 @@ module _ {Manager X Chooser : Type 0} (M : GhostsOfMapper X) (G : GhostsOfGmi Ma
   abbrev ports : List Port
   ports = old.ports.items
 
-  pub call_passed : (command : Command) → ((x : Machine) → AreTied x ports → IsPassed ports x c command) → PortCall M G before old (Plain command) a after (record old { gmi = gmi })
-  call_passed command passed =
+  pub call_passed : (command : Command) → ((rises : MapperCounts) → ReachesMapper c rises → ReachesMapper command rises) → ((x : Machine) → AreTied x ports → IsPassed ports x c command) → PortCall M G before old (Plain command) a after (record old { gmi = gmi })
+  call_passed command reaches passed =
       let it = call_is M G old.gmi gmi before after c a ports can call in
       let f : Option PageForest = G.forest old.gmi (M.held before) in
       let tied : AreTied (G.machine gmi (M.held after)) ports = tied_after M G old.gmi gmi before after c a ports can call
@@ -117,6 +119,7 @@ module _ {Manager X Chooser : Type 0} (M : GhostsOfMapper X) (G : GhostsOfGmi Ma
         rises = it.rises;
         rose = it.rose;
         is = record {
+          reaches = reaches it.rises it.is.reaches;
           step = step_called (segments_of (M.held before)) (segments_of (M.held after)) (G.machine old.gmi (M.held before)) (G.machine gmi (M.held after)) ports ports can.tied f c a it.rises (Plain command)
               (λ x y tied h b o. outcome_passed ports x y c command f h b it.rises (passed x tied) o) it.is.outcome;
           segments = segments_after M G old.gmi gmi before after c a ports can call;
@@ -138,9 +141,9 @@ module _ {Manager X Chooser : Type 0} (M : GhostsOfMapper X) (G : GhostsOfGmi Ma
       (subst (λ (next : Ports Manager). PortCall M G before old (Plain (Map actor p)) a before next) (sym same)
       (call_passed M G old new.gmi before before (Map actor (mapping_shown old.ports.items p)) a can
       (without_mapper M (meanings_of G) before old.gmi can.valid (Map actor (mapping_shown old.ports.items p)) a new.gmi done)
-      (Map actor p) (λ x tied. map_passed old.ports.items x tied actor p)))
+      (Map actor p) (λ rises quiet. quiet) (λ x tied. map_passed old.ports.items x tied actor p)))
 
   pub other_called : (gmi : Manager) (after : X) (command : Command) (a : Answer) → IsServed command → ((actor : ActorId) (p : Mapping) → command ≡ Map actor p → ⊥)
       → MapperCall M (meanings_of G) before old.gmi command a after gmi → PortCall M G before old (Plain command) a after (record old { gmi = gmi })
   other_called gmi after command a served other call =
-      call_passed M G old gmi before after command a can call command (λ x tied. passed old.ports.items x tied command served (no_map command other))
+      call_passed M G old gmi before after command a can call command (λ rises quiet. quiet) (λ x tied. passed old.ports.items x tied command served (no_map command other))

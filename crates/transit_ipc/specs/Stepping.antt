@@ -1,9 +1,11 @@
 -- One answer after another of ports: what there is between two, and how one leads on.
 use Rattle.std.specs.Prelude.{◌≡◌, [], map, Option, Some, None}
-use Rattle.vm_ids.specs.Counting.{MapperCounts}
+use Rattle.vm_ids.specs.Counting.{MapperCounts, no_counts}
 use Rattle.vm_ids.specs.Held.{Segments}
 use Rattle.vm_ids.specs.declared.command.PortCommand.{PortCommand}
+use Rattle.vm_ids.specs.declared.command.PortCommand.TheVariants as commands
 use Rattle.vm_model.specs.Answering.{Answer}
+use Rattle.vm_model.specs.Asking.{ReachesMapper}
 use Rattle.vm_model.specs.Machine.{Page}
 use Rattle.vm_model.specs.Outcome.{blank}
 use Rattle.gmi_calls.specs.Untold.{UntoldStep}
@@ -41,8 +43,16 @@ StepAt None before command answer rises after =
 StepAt (Some h) before command answer rises after =
     Outcome before.ports command h answer after.ports rises
 
+-- No count of the mapper rises at the making of a port, or at a command of the manager that takes
+-- no mapper.
+abbrev pub Reaches : PortCommand → MapperCounts → Type 0
+Reaches (commands.Plain command) rises = ReachesMapper command rises
+Reaches (commands.Port depth) rises = rises ≡ no_counts
+Reaches command rises = Unit {0}
+
 -- One answer of the ports over a manager. No segment changes.
 pub record AnswerIs (before : State) (command : PortCommand) (answer : Answer)
     (rises : MapperCounts) (after : State) : Type 0 where
+  pub reaches : Reaches command rises
   pub step : StepAt after.segments before command answer rises after
   pub segments : after.segments ≡ before.segments
