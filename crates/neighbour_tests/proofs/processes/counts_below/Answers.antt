@@ -1,13 +1,16 @@
-use Rattle.std.proofs.Common.{refl, rules}
-use Rattle.replay.proofs.Promise.{bare_start, can_start}
-use Rattle.replay.proofs.tests.processes.counts_below.Goals as goal
+use Rattle.std.proofs.Common.{refl, sym, ap, ◌∙◌}
+use Rattle.vm_model.specs.Machine.{Machine}
+use Rattle.neighbour_tests.proofs.processes.counts_below.Goals as goal
 
-pub replay-ended-requires-clause-able : goal.replay-ended-requires-clause-able
-replay-ended-requires-clause-able g c =
-    can_start _ _ _ _ _ c.in_ok-waits.ensures
-    (c.new-mix.ensures.can _ _
-    (bare_start _ _ _ _ 8 4096 (c.in_ok-manager.ensures.valid _) refl c.in_ok-mapper.ensures refl (c.in_ok-manager.ensures.machine _)))
-    (search rules)
-
-pub replay-ended-requires-clause-none : goal.replay-ended-requires-clause-none
-replay-ended-requires-clause-none g c = c.in_ok-waits.ensures
+pub answer_lines-requires-clause-can : goal.answer_lines-requires-clause-can
+answer_lines-requires-clause-can g c =
+    let starts = c.in_ok-manager.ensures.machine _ in
+    c.new-processes.ensures.can _ _
+    (record {
+      valid = c.in_ok-manager.ensures.valid _;
+      unlimited = refl;
+      fits = c.in_ok-mapper.ensures ∙ sym (ap (λ (m : Machine). m.page_bytes) starts);
+      page = ap (λ (m : Machine). m.page_bytes) starts;
+      caches = ap (λ (m : Machine). m.caches) starts;
+      actors = ap (λ (m : Machine). m.actors) starts;
+    })
