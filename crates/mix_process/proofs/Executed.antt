@@ -25,7 +25,7 @@ use Rattle.mix_process.specs.Adding.{AreKept, fresh_page, put_at}
 use Rattle.mix_process.specs.Answering.{is_too_large, process_from, with_image}
 use Rattle.mix_process.specs.Calling.{MixCall}
 use Rattle.mix_process.specs.Loaded.{IsLoaded, MayLoad, loaded, usage_to_load}
-use Rattle.mix_process.specs.Outcome.{RaisedBy, Usage, usage_for, usage_of}
+use Rattle.mix_process.specs.Outcome.{RaisedBy, Usage, one_cache, usage_for, usage_of}
 use Rattle.mix_process.specs.ProcessMachine as model
 use Rattle.mix_process.specs.ProcessMachine.{ProcessMachine, image_of}
 use Rattle.mix_process.specs.Seen.{cache_pages, process_seen, processes_seen, state_of}
@@ -106,20 +106,20 @@ module _ {Manager X Chooser : Type 0} (M : GhostsOfMapper X) (G : GhostsOfGmi Ma
         zeros_is : filled_up next ≡ filled_up s
         zeros_is = ap (λ (y : ProcessMachine). filled_up y) is
 
-        pub unopened : (t : Trouble) → LacksImage m now seg.0 rises t → StepAt now (state_of G old (M.held before)) command (Err t) rises (state_of G new (M.held after))
-        unopened troubles.Memory why = lift (Err troubles.Memory)
+        pub unopened : RaisedBy one_cache u v → (t : Trouble) → LacksImage m now seg.0 rises t → StepAt now (state_of G old (M.held before)) command (Err t) rises (state_of G new (M.held after))
+        unopened one troubles.Memory why = lift (Err troubles.Memory)
             (λ h e. over h s s next (Err troubles.Memory) is (step_memory s seg text data_pages stack fits u v base now rises raise h (get h.pages seg.0) refl none))
             (λ e. let k = segments_for seg.0 None in (k.0, over k.0 (filled_up s) (filled_up s) (filled_up next) (Err troubles.Memory) zeros_is (step_memory (filled_up s) seg text data_pages stack fits u v base now rises raise k.0 None k.1 none_zeros))) now refl
-        unopened (troubles.Refused refusals.TooMany) why = lift (Err (troubles.Refused refusals.TooMany))
+        unopened one (troubles.Refused refusals.TooMany) why = lift (Err (troubles.Refused refusals.TooMany))
             (λ h e. over h s s next (Err (troubles.Refused refusals.TooMany)) is (step_many s seg text data_pages stack fits u v base now rises raise h why.0 (subst (λ (o : Option Segments). HoldsIn o seg.0 why.0) e why.1) none why.2))
             (λ e. let k = segments_for seg.0 why.0 in (k.0, over k.0 (filled_up s) (filled_up s) (filled_up next) (Err (troubles.Refused refusals.TooMany)) zeros_is (step_many (filled_up s) seg text data_pages stack fits u v base now rises raise k.0 why.0 k.1 none_zeros why.2))) now refl
-        unopened (troubles.Refused refusals.NoSegment) why = lift (Err (troubles.Refused refusals.NoSegment))
-            (λ h e. over h s s next (Err (troubles.Refused refusals.NoSegment)) is (step_nothing s seg text data_pages stack fits u v base now rises raise h None (subst (λ (o : Option Segments). HoldsIn o seg.0 None) e why) none refl))
-            (λ e. let k = segments_for seg.0 None in (k.0, over k.0 (filled_up s) (filled_up s) (filled_up next) (Err (troubles.Refused refusals.NoSegment)) zeros_is (step_nothing (filled_up s) seg text data_pages stack fits u v base now rises raise k.0 None k.1 none_zeros refl))) now refl
-        unopened (troubles.Mapper faults.Opening) why = lift (Err (troubles.Mapper faults.Opening))
-            (λ h e. over h s s next (Err (troubles.Mapper faults.Opening)) is (step_fault s seg text data_pages stack fits u v base now rises raise h (get h.pages seg.0) refl none why))
-            (λ e. let k = segments_for seg.0 None in (k.0, over k.0 (filled_up s) (filled_up s) (filled_up next) (Err (troubles.Mapper faults.Opening)) zeros_is (step_fault (filled_up s) seg text data_pages stack fits u v base now rises raise k.0 None k.1 none_zeros why))) now refl
-        unopened t why = absurd why
+        unopened one (troubles.Refused refusals.NoSegment) why = lift (Err (troubles.Refused refusals.NoSegment))
+            (λ h e. over h s s next (Err (troubles.Refused refusals.NoSegment)) is (step_nothing s seg text data_pages stack fits u v base now rises raise h None (subst (λ (o : Option Segments). HoldsIn o seg.0 None) e why) none one refl))
+            (λ e. let k = segments_for seg.0 None in (k.0, over k.0 (filled_up s) (filled_up s) (filled_up next) (Err (troubles.Refused refusals.NoSegment)) zeros_is (step_nothing (filled_up s) seg text data_pages stack fits u v base now rises raise k.0 None k.1 none_zeros one refl))) now refl
+        unopened one (troubles.Mapper faults.Opening) why = lift (Err (troubles.Mapper faults.Opening))
+            (λ h e. over h s s next (Err (troubles.Mapper faults.Opening)) is (step_fault s seg text data_pages stack fits u v base now rises raise h (get h.pages seg.0) refl none why.0 why.1))
+            (λ e. let k = segments_for seg.0 None in (k.0, over k.0 (filled_up s) (filled_up s) (filled_up next) (Err (troubles.Mapper faults.Opening)) zeros_is (step_fault (filled_up s) seg text data_pages stack fits u v base now rises raise k.0 None k.1 none_zeros why.0 why.1))) now refl
+        unopened one t why = absurd why
 
       -- The image has these pages
 
@@ -139,13 +139,13 @@ module _ {Manager X Chooser : Type 0} (M : GhostsOfMapper X) (G : GhostsOfGmi Ma
         many_zeros : length filled ≡ length pages
         many_zeros = length-map pages zeros
 
-        pub bad : next ≡ y → length pages < text + data_pages → StepAt now (state_of G old (M.held before)) command (Err (troubles.Refused refusals.BadImage)) rises (state_of G new (M.held after))
-        bad is less = lift (Err (troubles.Refused refusals.BadImage))
-            (λ h e. over h s y next (Err (troubles.Refused refusals.BadImage)) is (step_bad s seg text data_pages stack fits u v base now rises raise h pages (held_by h e) has less))
+        pub bad : RaisedBy one_cache u v → next ≡ y → length pages < text + data_pages → StepAt now (state_of G old (M.held before)) command (Err (troubles.Refused refusals.BadImage)) rises (state_of G new (M.held after))
+        bad one is less = lift (Err (troubles.Refused refusals.BadImage))
+            (λ h e. over h s y next (Err (troubles.Refused refusals.BadImage)) is (step_bad s seg text data_pages stack fits u v base now rises raise h pages (held_by h e) has one less))
             (λ e. let k = segments_for seg.0 (Some filled) in (
               k.0,
               over k.0 (filled_up s) (with_image (filled_up s) seg.0 (Some filled)) (filled_up next) (Err (troubles.Refused refusals.BadImage)) (ap (λ (x : ProcessMachine). filled_up x) is ∙ with_image_filled s seg.0 pages)
-                  (step_bad (filled_up s) seg text data_pages stack fits u v base now rises raise k.0 filled k.1 has_zeros (omega (arith, less, many_zeros))),
+                  (step_bad (filled_up s) seg text data_pages stack fits u v base now rises raise k.0 filled k.1 has_zeros one (omega (arith, less, many_zeros))),
             )) now refl
 
         pub lacks : (t : Trouble) → next ≡ y → IsLack u (usage_for 3 (length pages + data_pages + stack)) t → StepAt now (state_of G old (M.held before)) command (Err t) rises (state_of G new (M.held after))
@@ -187,8 +187,8 @@ module _ {Manager X Chooser : Type 0} (M : GhostsOfMapper X) (G : GhostsOfGmi Ma
 
     -- The calls
 
-    opened_raise : (x w : Usage) → x ≡ w → RaisedBy (usage_for 3 0) w x
-    opened_raise x w e = subst (λ (z : Usage). RaisedBy (usage_for 3 0) z x) e (record { actors = omega arith; caches = omega arith; regions = omega arith })
+    opened_raise : (more x w : Usage) → x ≡ w → RaisedBy more w x
+    opened_raise more x w e = subst (λ (z : Usage). RaisedBy more z x) e (record { actors = omega arith; caches = omega arith; regions = omega arith })
 
     pub not_opened : (t : Trouble) (new : Mix Manager) (after : X) → IsOpened M G before old seg (Err t) after new → MixCall M G before old command (Err t) after new
     not_opened t new after op = record {
@@ -197,9 +197,9 @@ module _ {Manager X Chooser : Type 0} (M : GhostsOfMapper X) (G : GhostsOfGmi Ma
       rises = op.rises;
       rose = op.rose;
       is = record {
-        step = unopened new after op.rises op.can op.segments (opened_raise (usage_of (G.machine new.gmi (M.held after))) u (ap usage_of op.opens.machine))
+        step = unopened new after op.rises op.can op.segments (opened_raise (usage_for 3 0) (usage_of (G.machine new.gmi (M.held after))) u (ap usage_of op.opens.machine))
             (image_seen_for m old.images.items seg.0 ∙ ap (option_map (λ (i : Image). cache_pages m i.cache.0)) op.opens.none)
-            (λ i. processes_seen (op.opens.machine i) (op.processes i).items (op.opens.images i)) t op.opens.why;
+            (λ i. processes_seen (op.opens.machine i) (op.processes i).items (op.opens.images i)) (opened_raise one_cache (usage_of (G.machine new.gmi (M.held after))) u (ap usage_of op.opens.machine)) t op.opens.why;
         segments = op.segments;
       };
     }
@@ -236,6 +236,9 @@ module _ {Manager X Chooser : Type 0} (M : GhostsOfMapper X) (G : GhostsOfGmi Ma
       pub pages_is : pages ≡ image_cache.0.pages
       pages_is = pages_there n cache.0 image_cache.0 image_cache.1
 
+      mid_one : RaisedBy one_cache u (usage_of n)
+      mid_one = let w = op.opens.used in record { actors = omega (arith, w.actors); caches = omega (arith, w.caches); regions = omega (arith, w.regions) }
+
       mid_raise : RaisedBy (usage_for 3 0) u (usage_of n)
       mid_raise = let w = op.opens.used in record { actors = omega (arith, w.actors); caches = omega (arith, w.caches); regions = omega (arith, w.regions) }
 
@@ -253,7 +256,7 @@ module _ {Manager X Chooser : Type 0} (M : GhostsOfMapper X) (G : GhostsOfGmi Ma
         made = omega (arith, op.made);
         rises = op.rises;
         rose = op.rose;
-        is = record { step = bad mid after op.rises op.can op.segments mid_raise pages holds has seen_mid (omega (arith, h, ap (λ (xs : List Page). length xs) pages_is)); segments = op.segments };
+        is = record { step = bad mid after op.rises op.can op.segments mid_raise pages holds has mid_one seen_mid (omega (arith, h, ap (λ (xs : List Page). length xs) pages_is)); segments = op.segments };
       }
       not_checked t h = absurd h
 

@@ -17,10 +17,11 @@ use Rattle.vm_ids.specs.declared.reply.FaultAt.TheVariants as faults
 use Rattle.vm_ids.specs.declared.reply.Reply.TheVariants as replies
 use Rattle.vm_ids.specs.declared.reply.Trouble.{Trouble}
 use Rattle.vm_ids.specs.declared.reply.Trouble.TheVariants as troubles
+use Rattle.vm_model.specs.declared.limits.TheConstants.{MOST_MADE}
 use Rattle.vm_model.specs.Machine.{Page}
 use Rattle.mix_process.specs.Answering as mix
 use Rattle.mix_process.specs.Answering.{imaged, is_too_large, process_from, with_image}
-use Rattle.mix_process.specs.Outcome.{Outcome, RaisedBy, Usage, makes, usage_for, would_pass}
+use Rattle.mix_process.specs.Outcome.{RaisedBy, Usage, makes, one_cache, usage_for, would_pass}
 use Rattle.mix_process.specs.ProcessMachine.{ProcessMachine, image_in, image_of}
 use Rattle.mix_process.specs.Starting.{usage_to_open}
 use Rattle.mix_process.specs.Stepping.{StepOver, each_in, each_of}
@@ -122,8 +123,8 @@ module _ (x : ProcessMachine) (seg : SegId) (text data_pages stack : ℕ) where
         unfolding mix.unless
         row_good less = row_some ∙ ap (λ (b : Bool). mix.unless b refusals.BadImage y (mix.add_process y (process_from x.page_bytes pages text data_pages stack))) (not_past (length pages) (text + data_pages) less)
 
-        pub step_bad : length pages < text + data_pages → Steps h (troubles.Refused refusals.BadImage) y
-        step_bad less = record { outcome = row_bad less; raised = raised }
+        pub step_bad : RaisedBy one_cache u v → length pages < text + data_pages → Steps h (troubles.Refused refusals.BadImage) y
+        step_bad one less = record { outcome = row_bad less; raised = one }
 
         pub step_good : text + data_pages ≤ length pages → StepOver h (record { processes = x; usage = u; segments = told }) (commands.Exec seg text data_pages stack) (Ok (replies.Process (record { 0 = length y.processes + 1 }))) rises
             (record { processes = record y { processes = y.processes ++ Some (process_from x.page_bytes pages text data_pages stack) ∷ [] }; usage = v; segments = now })
@@ -133,12 +134,12 @@ module _ (x : ProcessMachine) (seg : SegId) (text data_pages stack : ℕ) where
         stays = inr (ap (with_image x seg.0) (sym holds))
 
         pub step_lacks : (t : Trouble) → IsLack u (usage_for 3 (length pages + data_pages + stack)) t → Steps h t y
-        step_lacks t lack = record { outcome = by t lack; raised = raised }
-          where
-            by : (t : Trouble) → IsLack u (usage_for 3 (length pages + data_pages + stack)) t → Outcome x u (commands.Exec seg text data_pages stack) h (Err t) y rises
-            by troubles.Memory lack = (stays, tt, fits)
-            by (troubles.Refused refusals.TooMany) lack = (stays, tt, fits, subst (λ (more : Usage). IsLack u more (troubles.Refused refusals.TooMany)) (sym makes_is) lack)
-            by t lack = absurd lack
+        step_lacks troubles.Memory lack = record { outcome = (stays, tt, fits); raised = raised }
+        step_lacks (troubles.Refused refusals.TooMany) lack = record {
+          outcome = (stays, tt, fits, subst (λ (more : Usage). IsLack u more (troubles.Refused refusals.TooMany)) (sym makes_is) lack);
+          raised = raised;
+        }
+        step_lacks t lack = absurd lack
 
       -- without one
 
@@ -153,8 +154,8 @@ module _ (x : ProcessMachine) (seg : SegId) (text data_pages stack : ℕ) where
         pub step_memory : Steps h troubles.Memory x
         step_memory = record { outcome = (inl refl, tt, fits); raised = raised_none }
 
-        pub step_fault : 0 < rises.faults → Steps h (troubles.Mapper faults.Opening) x
-        step_fault faulted = record { outcome = (refl, faulted, none, fits); raised = raised_none }
+        pub step_fault : 0 < rises.faults → u.caches < MOST_MADE → Steps h (troubles.Mapper faults.Opening) x
+        step_fault faulted few = record { outcome = (refl, faulted, (none, few), fits); raised = raised_none }
 
         more : IsWithin (usage_sum u (usage_to_open held)) (usage_sum u (usage_for 3 (option_map_or length held 0 + data_pages + stack)))
         more = record { living = omega arith; actors = omega arith; caches = omega arith; regions = omega arith; pages = omega arith }
@@ -169,8 +170,8 @@ module _ (x : ProcessMachine) (seg : SegId) (text data_pages stack : ℕ) where
         unfolding mix.with_some
         row_nothing nothing = ap (mix.exec_of x seg.0 text data_pages stack) (holds ∙ nothing) ∙ row None ∙ ap (λ (o : Option (List Page)). ends (imaged x seg.0 o None) (image_of (imaged x seg.0 o None) seg.0)) none ∙ ap (ends x) none
 
-        pub step_nothing : held ≡ None → Steps h (troubles.Refused refusals.NoSegment) x
-        step_nothing nothing = record { outcome = row_nothing nothing; raised = raised_none }
+        pub step_nothing : RaisedBy one_cache u v → held ≡ None → Steps h (troubles.Refused refusals.NoSegment) x
+        step_nothing one nothing = record { outcome = row_nothing nothing; raised = one }
 
 -- The process, filled with zeros
 

@@ -132,7 +132,7 @@ opening_outcome : (told : Option Segments) (m : Machine) (f : Option PageForest)
     → (a : Answer) (next : Machine) (rises : MapperCounts) → Outcome m f (vm_commands.OpenSegment seg) h a next rises → Opening told m seg.0 rises a next
 opening_outcome told m f h seg holds free (Ok r) next rises o = opened_row told m seg.0 (get h.pages seg.0) rises holds free (Ok r) next o
 opening_outcome told m f h seg holds free (Err (troubles.Refused r)) next rises o = opened_row told m seg.0 (get h.pages seg.0) rises holds free (Err (troubles.Refused r)) next o
-opening_outcome told m f h seg holds free (Err (troubles.Mapper faults.Opening)) next rises o = inr (record { trouble = troubles.Mapper faults.Opening; answer_is = refl; next_is = o.0; why = o.1 })
+opening_outcome told m f h seg holds free (Err (troubles.Mapper faults.Opening)) next rises o = inr (record { trouble = troubles.Mapper faults.Opening; answer_is = refl; next_is = o.0; why = (o.1, o.2) })
 opening_outcome told m f h seg holds free (Err (troubles.Mapper at)) next rises o = absurd o.2
 opening_outcome told m f h seg holds free (Err troubles.Memory) next rises o = inr (record { trouble = troubles.Memory; answer_is = refl; next_is = o.0; why = tt })
 
@@ -163,7 +163,7 @@ lacks_blank : (w : Machine) (seg : ℕ) (rises : MapperCounts) (t : Trouble) →
 lacks_blank w seg rises troubles.Memory h = tt
 lacks_blank w seg rises (troubles.Refused refusals.TooMany) h = (h.0, tt, subst (λ u. IsTrue (would_pass u (usage_to_open h.0))) (sym (usage_blank w)) h.2)
 lacks_blank w seg rises (troubles.Refused refusals.NoSegment) h = tt
-lacks_blank w seg rises (troubles.Mapper faults.Opening) h = h
+lacks_blank w seg rises (troubles.Mapper faults.Opening) h = (h.0, omega (arith, h.1, length-map w.caches (option_map blank_cache)))
 lacks_blank w seg rises t h = absurd h
 
 opening_blank : (w whole_next : Machine) (seg : ℕ) (rises : MapperCounts) (whole a : Answer) → IsAlike whole a → Opening None w seg rises whole whole_next → Opening None (blank w) seg rises a (blank whole_next)

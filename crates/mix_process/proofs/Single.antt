@@ -38,7 +38,7 @@ use Rattle.mix_process.specs.ProcessMachine.{ProcessMachine, place_of, process_o
 use Rattle.mix_process.specs.Calling.{MixCall, call_budget}
 use Rattle.mix_process.specs.Stepping.{StepAt}
 use Rattle.mix_process.specs.Outcome as mix_outcome
-use Rattle.mix_process.specs.Outcome.{RaisedBy, Usage, makes, usage_of}
+use Rattle.mix_process.specs.Outcome.{RaisedBy, Usage, makes_by, usage_of}
 use Rattle.mix_process.specs.Seen.{cache_pages, process_seen, processes_seen, state_of}
 use Rattle.mix_process.specs.Tying.{AreSynchronised, AreTied, CanCall, none_spare}
 use Rattle.mix_process.specs.declared.mix.Image.{Image}
@@ -146,7 +146,7 @@ module _ {Manager X Chooser : Type 0} (M : GhostsOfMapper X) (G : GhostsOfGmi Ma
       → ((i : ℕ) (image : Image) → slice_get old.images.items i ≡ Some image → cache_pages n image.cache.0 ≡ cache_pages m image.cache.0)
       → ((x y : Machine) → HasShape m x → (h : Segments) (b : Answer) → Outcome x (G.forest old.gmi (M.held before)) c h b y call_is.rises
       → mix_outcome.Outcome (processes_seen x table images) (usage_of x) command h b (processes_seen y table images) call_is.rises
-      × RaisedBy (makes (processes_seen x table images) command h) (usage_of x) (usage_of y))
+      × RaisedBy (makes_by (processes_seen x table images) command h b) (usage_of x) (usage_of y))
       → MixCall M G before old command a after with_manager
   called command one shape alike step = record {
     can = can_after shape alike;
@@ -174,7 +174,7 @@ module _ {Manager X Chooser : Type 0} (M : GhostsOfMapper X) (G : GhostsOfGmi Ma
       called command one (subst (HasShape m) (sym same) (shape_self m)) (λ i image e. ap (λ (x : Machine). cache_pages x image.cache.0) same)
       (λ x y shape h b o. (let still : y ≡ x = outcome_steady c steady x (G.forest old.gmi (M.held before)) h b y call_is.rises o in (
         subst (λ (z : Machine). mix_outcome.Outcome (processes_seen x table images) (usage_of x) command h b (processes_seen z table images) call_is.rises) (sym still) (outcome x y shape h b o),
-        subst (λ (z : Machine). RaisedBy (makes (processes_seen x table images) command h) (usage_of x) (usage_of z)) (sym still) (raised_none _ (usage_of x)),
+        subst (λ (z : Machine). RaisedBy (makes_by (processes_seen x table images) command h b) (usage_of x) (usage_of z)) (sym still) (raised_none _ (usage_of x)),
       )))
 
 -- The calls
@@ -211,8 +211,8 @@ module _ {Manager X Chooser : Type 0} (M : GhostsOfMapper X) (G : GhostsOfGmi Ma
       go None e =
           let blank_is = seen_filled (G.machine old.gmi (M.held before)) old.processes.items old.images.items (as_untold (M.held before) e can.blank) in
           step_filled (segments_of (M.held before)) (segments_of (M.held before)) s s u u command answer no_counts blank_is blank_is
-          (λ h. record { outcome = outcome (filled_up s) (like_filled s) h; raised = raised_none (makes (filled_up s) command h) u })
-      go (Some h) e = record { outcome = outcome s (like_self s) h; raised = raised_none (makes s command h) u }
+          (λ h. record { outcome = outcome (filled_up s) (like_filled s) h; raised = raised_none (makes_by (filled_up s) command h answer) u })
+      go (Some h) e = record { outcome = outcome s (like_self s) h; raised = raised_none (makes_by s command h answer) u }
 
   module _ (gmi : Manager) (after : X) where
     pub page_out_called : (count : ℕ) (a : Answer) → MapperCall M (meanings_of G) before old.gmi (vm_commands.PageOut count) a after gmi → MixCall M G before old (commands.PageOut count) a after (record old { gmi = gmi })

@@ -68,6 +68,17 @@ makes m (commands.Fork process) h = option_map_or usage_to_fork (process_of m pr
 makes m (commands.Grow process pages) h = usage_to_grow pages
 makes m command h = no_usage
 
+abbrev pub one_cache : Usage
+one_cache = record { living = 0; actors = 0; caches = 1; regions = 0; pages = 0 }
+
+-- The same of a call that is answered so: an exec that is refused has made the cache of its segment
+-- at most, but for one of which there would be too many, as it may learn on the way.
+abbrev pub makes_by : ProcessMachine → MixCommand → Segments → Answer → Usage
+makes_by m (commands.Exec seg text data_pages stack) h (Err (troubles.Refused TooMany)) =
+    makes m (commands.Exec seg text data_pages stack) h
+makes_by m (commands.Exec seg text data_pages stack) h (Err (troubles.Refused r)) = one_cache
+makes_by m command h answer = makes m command h
+
 -- with so much more, a limit would be passed
 abbrev pub would_pass : Usage → Usage → Bool
 would_pass u more =
@@ -95,18 +106,18 @@ MayMiss m process address length p rises =
     × (0 < rises.pulls)
 
 -- Which faults a call may answer, at which page, and which of the mapper's counts rose with it
--- beside its faults. A segment is opened once.
-abbrev pub MayFault : ProcessMachine → MixCommand → FaultAt → MapperCounts → Type 0
-MayFault m (commands.Exec seg text data_pages stack) faults.Opening rises =
-    image_of m seg.0 ≡ None
-MayFault m (commands.Load process address bytes) (faults.Page p) rises =
+-- beside its faults. A segment is opened once, and only where its cache may still be made.
+abbrev pub MayFault : ProcessMachine → Usage → MixCommand → FaultAt → MapperCounts → Type 0
+MayFault m u (commands.Exec seg text data_pages stack) faults.Opening rises =
+    (image_of m seg.0 ≡ None) × (u.caches < MOST_MADE)
+MayFault m u (commands.Load process address bytes) (faults.Page p) rises =
     MayMiss m process.0 address bytes p.0 rises
-MayFault m (commands.Load process address bytes) faults.Victim rises = 0 < rises.pushes
-MayFault m (commands.Store process address piece) (faults.Page p) rises =
+MayFault m u (commands.Load process address bytes) faults.Victim rises = 0 < rises.pushes
+MayFault m u (commands.Store process address piece) (faults.Page p) rises =
     MayMiss m process.0 address (length piece) p.0 rises
-MayFault m (commands.Store process address piece) faults.Victim rises = 0 < rises.pushes
-MayFault m (commands.PageOut count) faults.Victim rises = 0 < rises.pushes
-MayFault m command at rises = ⊥
+MayFault m u (commands.Store process address piece) faults.Victim rises = 0 < rises.pushes
+MayFault m u (commands.PageOut count) faults.Victim rises = 0 < rises.pushes
+MayFault m u command at rises = ⊥
 
 -- the calls that take memory, and of which the manager may have too many
 abbrev pub MayLack : MixCommand → Type 0
@@ -132,7 +143,7 @@ Stays m command h next = next ≡ m
 abbrev pub Outcome : ProcessMachine → Usage → MixCommand → Segments → Answer → ProcessMachine
     → MapperCounts → Type 0
 Outcome m u command h (Err (troubles.Mapper at)) next rises =
-    (next ≡ m) × (0 < rises.faults) × MayFault m command at rises × GoesOn m command h
+    (next ≡ m) × (0 < rises.faults) × MayFault m u command at rises × GoesOn m command h
 Outcome m u command h (Err troubles.Memory) next rises =
     Stays m command h next × MayLack command × GoesOn m command h
 Outcome m u command h (Err (troubles.Refused TooMany)) next rises =

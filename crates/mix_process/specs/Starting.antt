@@ -13,7 +13,7 @@ use Rattle.vm_ids.specs.declared.reply.FaultAt.TheVariants.{Opening}
 use Rattle.vm_ids.specs.declared.reply.Trouble.{Trouble}
 use Rattle.vm_ids.specs.declared.reply.Trouble.TheVariants.{Mapper, Memory, Refused}
 use Rattle.vm_model.specs.Machine.{Machine, Page}
-use Rattle.vm_model.specs.declared.limits.TheConstants.{LIVE_PAGES}
+use Rattle.vm_model.specs.declared.limits.TheConstants.{LIVE_PAGES, MOST_MADE}
 use Rattle.vm_port.specs.declared.traits.mapper.Mapper.{Ghosts as GhostsOfMapper}
 use Rattle.gmi_calls.specs.declared.gmi.Gmi.{Ghosts as GhostsOfGmi}
 use Rattle.mix_process.specs.Answering.{with_image}
@@ -64,7 +64,8 @@ LacksImage m told seg rises Memory = Unit {0}
 LacksImage m told seg rises (Refused TooMany) = (held : Option (List Page))
     × HoldsIn told seg held × IsTrue (would_pass (usage_of m) (usage_to_open held))
 LacksImage m told seg rises (Refused NoSegment) = HoldsIn told seg None
-LacksImage m told seg rises (Mapper Opening) = 0 < rises.faults
+LacksImage m told seg rises (Mapper Opening) =
+    (0 < rises.faults) × (length m.caches < MOST_MADE)
 LacksImage m told seg rises trouble = ⊥
 
 -- All stays, for want of an image.

@@ -6,7 +6,7 @@ use Rattle.vm_ids.specs.declared.command.MixCommand.{MixCommand}
 use Rattle.vm_model.specs.Answering.{Answer}
 use Rattle.vm_model.specs.Machine.{Page}
 use Rattle.gmi_calls.specs.Untold.{UntoldStep}
-use Rattle.mix_process.specs.Outcome.{Outcome, RaisedBy, Usage, makes}
+use Rattle.mix_process.specs.Outcome.{Outcome, RaisedBy, Usage, makes_by}
 use Rattle.mix_process.specs.ProcessMachine.{Process, ProcessMachine}
 
 -- What there is between two answers: the processes, what the manager has, and the mapper's segments
@@ -21,7 +21,7 @@ pub record State : Type 0 where
 pub record StepOver (h : Segments) (before : State) (command : MixCommand) (answer : Answer)
     (rises : MapperCounts) (after : State) : Type 0 where
   pub outcome : Outcome before.processes before.usage command h answer after.processes rises
-  pub raised : RaisedBy (makes before.processes command h) before.usage after.usage
+  pub raised : RaisedBy (makes_by before.processes command h answer) before.usage after.usage
 
 -- the process with each page changed so
 abbrev pub each_of : (Page → Page) → Process → Process

@@ -1,7 +1,7 @@
 -- Where no cache is kept, what is referred to is all there is below: there is no room beside it
 -- where the manager below has none.
 use Rattle.std.proofs.Common.{arith, ◌≡◌, suc, ◌-◌, ℕ, ◌+◌, false, cond, List, [], ◌∷◌, Option, Some, None, refl, sym, ap, subst, ◌∙◌}
-use Rattle.std.specs.Prelude.{IfSome, Err, option_and_then, slice_get}
+use Rattle.std.specs.Prelude.{Err, option_and_then, slice_get}
 use Rattle.std.specs.FinMap.{get}
 use Rattle.std.specs.List.{position_from}
 use Rattle.std.specs.Option.{option_map_or}
