@@ -12,10 +12,10 @@ mod calls_of_many;
 #[cfg(test)]
 mod calls_of_one;
 #[cfg(test)]
-mod in_runs;
-#[cfg(test)]
 mod comparing;
 #[cfg(test)]
 mod drawn;
+#[cfg(test)]
+mod in_runs;
 #[cfg(test)]
 mod slow;

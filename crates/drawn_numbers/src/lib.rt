@@ -1,6 +1,7 @@
 //! Numbers that look like chance, the same each time: what tests draw from. It has no tests of its
 //! own and no program stands on it.
 #![tactic(auto)]
+
 ghost use Rattle.std.specs.Prelude.{◌<◌, ◌^◌};
 
 /// A linear congruential generator of 64 bits, whose upper bits are given.

@@ -7,16 +7,16 @@ use crate::following::Follower;
 use plain_machine::Plain;
 use played_scripts::{one_segment, said, text, written};
 use replay::Status;
-use worked_scripts::segments::{
-    A_SAVE_FAILS, A_SAVE_FAILS_REPLIES, HOSTILE, HOSTILE_REPLIES, SAVES, SAVES_REPLIES,
-    TEXT_SHARED_AND_DATA_FORKED, TEXT_SHARED_AND_DATA_FORKED_REPLIES,
-};
-use worked_scripts::{copies, frames};
 use std::alloc::Global;
 use std::process::Abort;
 use std::test::Fail;
 use vm_ids::{NoMemory, PAGE, PageNo, SegId};
 use vm_port::{CallKind, CallNo, MemoryMapper, MemorySink};
+use worked_scripts::segments::{
+    A_SAVE_FAILS, A_SAVE_FAILS_REPLIES, HOSTILE, HOSTILE_REPLIES, SAVES, SAVES_REPLIES,
+    TEXT_SHARED_AND_DATA_FORKED, TEXT_SHARED_AND_DATA_FORKED_REPLIES,
+};
+use worked_scripts::{copies, frames};
 
 // What a run writes for a script at three, four or five page frames.
 fn written_at(
@@ -302,12 +302,7 @@ fn each_pair_fails(
 }
 
 // Each pull fails with each push.
-fn pairs_fail(
-    rt: &impl Abort,
-    alloc: Global,
-    frames: u32,
-    faults: &Faults,
-) -> Result<(), Fail> {
+fn pairs_fail(rt: &impl Abort, alloc: Global, frames: u32, faults: &Faults) -> Result<(), Fail> {
     let push_out = (CallKind::PushOut, faults.push_out.as_slice());
     let swap_out = (CallKind::SwapOut, faults.swap_out.as_slice());
     for pull in [
