@@ -29,7 +29,7 @@ use Rattle.transit_ipc.specs.Calling.{IsServed, PortCall}
 use Rattle.transit_ipc.specs.Inner.{mapping_shown}
 use Rattle.transit_ipc.specs.Tying.{AreAble, AreTied, CanCall}
 use Rattle.transit_ipc.specs.declared.port.Port.{Port}
-use Rattle.transit_ipc.specs.declared.ports.Ports.{Ports}
+use Rattle.transit_ipc.specs.declared.table.Ports.{Ports}
 use Rattle.transit_ipc.proofs.Emptying.{blank_after}
 use Rattle.transit_ipc.proofs.Followed.{IsFollowed, tied_blank, tied_followed, tied_whole}
 use Rattle.transit_ipc.proofs.Passed.{IsNoMap, IsPassed, map_passed, outcome_follows, outcome_passed, passed}

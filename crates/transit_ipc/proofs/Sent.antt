@@ -31,11 +31,12 @@ use Rattle.transit_ipc.specs.Calling.{PortCall}
 use Rattle.transit_ipc.specs.Inner.{sent_span}
 use Rattle.transit_ipc.specs.Outcome.{Outcome}
 use Rattle.transit_ipc.specs.PortMachine.{PortMachine, put_port, take_number}
-use Rattle.transit_ipc.specs.Seen.{is_transit, memory_seen, port_seen, ports_seen}
+use Rattle.transit_ipc.specs.Seen.{memory_seen, port_seen, ports_seen}
+use Rattle.transit_ipc.specs.Transit.{is_transit}
 use Rattle.transit_ipc.specs.Tying.{AreTied, CanCall}
 use Rattle.transit_ipc.specs.declared.port.Message.{Message}
 use Rattle.transit_ipc.specs.declared.port.Port.{Port}
-use Rattle.transit_ipc.specs.declared.ports.Ports.{Ports}
+use Rattle.transit_ipc.specs.declared.table.Ports.{Ports}
 use Rattle.transit_ipc.proofs.Appending.{appended, at_last, last_replaced, next_of, seen_sent, seen_taken, still_there, temporary_appended, tied_sent, tied_taken}
 use Rattle.transit_ipc.proofs.Calls.{call_is}
 use Rattle.transit_ipc.proofs.Copying.{copied_at}

@@ -6,9 +6,9 @@ use Rattle.vm_ids.specs.declared.reply.Trouble.TheVariants.{Refused}
 use Rattle.gmi_calls.specs.Calling.{done_by}
 use Rattle.transit_ipc.specs.declared.port.Message.{Message}
 use Rattle.transit_ipc.specs.declared.port.Port.{Port}
-use Rattle.transit_ipc.specs.declared.ports.Ports.{Ports}
+use Rattle.transit_ipc.specs.declared.table.Ports.{Ports}
 use Rattle.transit_ipc.proofs.Sent.{failed_few, failed_fits, fits_still, found_at, has_room, made_few, send_done, send_failed, send_full, send_lacks, send_nobody}
-use Rattle.transit_ipc.proofs.ports.Ports.send.Goals as goal
+use Rattle.transit_ipc.proofs.table.Ports.send.Goals as goal
 
 pub returns-in_err-place : goal.returns-in_err-place
 returns-in_err-place g c =

@@ -4,10 +4,10 @@ use Rattle.gmi_calls.specs.Calling.{Fits, MapperCall, done_by}
 use Rattle.gmi_calls.specs.Managing.{meanings_of}
 use Rattle.vm_ids.specs.declared.command.Command.TheVariants as vm_commands
 use Rattle.vm_ids.specs.declared.reply.Trouble.TheVariants.{Refused}
-use Rattle.transit_ipc.specs.declared.ports.Ports.{Ports}
+use Rattle.transit_ipc.specs.declared.table.Ports.{Ports}
 use Rattle.transit_ipc.proofs.Received.{moved_few, moved_fits, receive_done, receive_empty, receive_failed, receive_nobody, some_pages}
 use Rattle.transit_ipc.proofs.Sent.{found_at}
-use Rattle.transit_ipc.proofs.ports.Ports.receive.Goals as goal
+use Rattle.transit_ipc.proofs.table.Ports.receive.Goals as goal
 
 pub returns-in_err-place : goal.returns-in_err-place
 returns-in_err-place g c =

@@ -2,7 +2,7 @@ use Rattle.std.proofs.Common.{◌≡◌, drop, refl, ap, ◌∙◌}
 use Rattle.std.specs.VecDeque.{deque_capacity}
 use Rattle.std.proofs.lemmas.Option.{get_or_from_slice_get}
 use Rattle.transit_ipc.specs.declared.port.Port.{Port}
-use Rattle.transit_ipc.proofs.ports.Ports.take_first.Goals as goal
+use Rattle.transit_ipc.proofs.table.Ports.take_first.Goals as goal
 
 pub returns-clause-taken : goal.returns-clause-taken
 returns-clause-taken g c = λ p e.
