@@ -56,10 +56,17 @@ table_more ports table fresh bare t many = record {
   covers = λ some. many;
 }
 
-module _ (ports : List Port) (table : List Bool) (t : IsTable ports table) (place : ℕ) (p q : Port) (there : slice_get ports place ≡ Some p) (x : Message) where
+module _ (ports : List Port) (table : List Bool) (t : IsTable ports table) (place : ℕ) (p q : Port) (there : slice_get ports place ≡ Some p) where
+  -- the messages stay
+  pub table_same : q.messages.items ≡ p.messages.items → IsTable (set ports place q) table
+  table_same same = record {
+    tells = λ n. t.tells n ∙ sym (hidden_as ports place p q there n (ap (λ (ms : List Message). list_any (has_number n) ms) same));
+    covers = λ some. t.covers (omega (arith, some, length-set ports place q));
+  }
+
   -- a message comes
-  pub table_sent : q.messages.items ≡ p.messages.items ++ x ∷ [] → x.cache.0 < length table → IsTable (set ports place q) (set table x.cache.0 true)
-  table_sent pushed within = record {
+  pub table_sent : (x : Message) → q.messages.items ≡ p.messages.items ++ x ∷ [] → x.cache.0 < length table → IsTable (set ports place q) (set table x.cache.0 true)
+  table_sent x pushed within = record {
     tells = λ n. elim (cases_eq n x.cache.0) [
       | inl e ↦ ap (is_marked (set table x.cache.0 true)) e ∙ marked_at table x.cache.0 true within ∙ sym (hidden_by ports place p q there n (waits_now n ∙ last n (sym e)))
       | inr apart ↦ marked_other table x.cache.0 n true apart ∙ t.tells n ∙ sym (hidden_as ports place p q there n (waits_now n ∙ other n apart))
@@ -80,7 +87,7 @@ module _ (ports : List Port) (table : List Bool) (t : IsTable ports table) (plac
       other : (n : ℕ) → n ≢ x.cache.0 → (waits_in n p || ((x.cache.0 == n) || false)) ≡ waits_in n p
       other n apart = ap (λ (b : Bool). waits_in n p || (b || false)) (let e : (x.cache.0 == n) ≡ false = grind (arith, nat_tests) in e) ∙ or_false (waits_in n p) false refl
 
-  module _ (first : slice_get p.messages.items 0 ≡ Some x) where
+  module _ (x : Message) (first : slice_get p.messages.items 0 ≡ Some x) where
     -- the first message is in the table
     pub first_within : x.cache.0 < length table
     first_within = marked_within table x.cache.0 (t.tells x.cache.0 ∙ waiting_hides ports place 0 x (record { port = p; there = there; has = first }))
