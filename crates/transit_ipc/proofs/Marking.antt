@@ -20,7 +20,6 @@ use Rattle.transit_ipc.proofs.Taking.{hidden_still, none_left}
 
 -- Marks
 
-
 blank : (k n : ℕ) → is_marked (replicate k false) n ≡ false
 blank zero n = refl
 blank (suc k) zero = refl

@@ -13,8 +13,8 @@ ghost use Rattle.transit_ipc.specs.Seen.{state_of};
 ghost use Rattle.transit_ipc.specs.Transit.{is_marked, is_transit};
 ghost use Rattle.transit_ipc.specs.Tying.{AreApart, CanCall, IsBare};
 
-use crate::limits::MOST_PORTS;
 use crate::Ports;
+use crate::limits::MOST_PORTS;
 use crate::port::{Message, Port};
 use gmi_calls::Gmi;
 use std::alloc::Global;
