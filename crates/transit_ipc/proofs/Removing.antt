@@ -1,5 +1,5 @@
 -- A message is received: its cache is gone, and another that is seen has its pages.
-use Rattle.std.proofs.Common.{◌≡◌, ◌≢◌, inl, inr, ℕ, suc, ◌+◌, ◌-◌, ◌≤◌, false, List, length, map, set, drop, Some, None, refl, sym, ap, subst, ◌∙◌, arith, Option, [], ◌∷◌, Bool}
+use Rattle.std.proofs.Common.{◌≡◌, ◌≢◌, inl, inr, ℕ, suc, ◌+◌, ◌-◌, ◌≤◌, false, List, length, map, set, drop, Some, None, refl, sym, ap, subst, ◌∙◌, arith, Option}
 use Rattle.std.specs.Prelude.{IsSome, slice_get}
 use Rattle.std.specs.VecDeque.{deque_capacity}
 use Rattle.std.proofs.lemmas.Bool.{cases_eq}

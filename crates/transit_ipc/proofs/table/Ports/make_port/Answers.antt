@@ -2,7 +2,6 @@ use Rattle.std.proofs.Common.{List, [], ◌∷◌, ◌++◌, refl, ap, ◌∙◌
 use Rattle.std.proofs.lemmas.Result.{err_from_is_err_and}
 use Rattle.transit_ipc.specs.declared.port.Port.{Port}
 use Rattle.transit_ipc.proofs.Making.{made_port, no_memory, refused_port}
-use Rattle.transit_ipc.proofs.Marking.{table_longer, table_more}
 use Rattle.transit_ipc.proofs.table.Ports.make_port.Goals as goal
 
 pub returns-then-made : goal.returns-then-made
