@@ -10,7 +10,7 @@ use Rattle.gmi_calls.proofs.Rising.{rise_none}
 use Rattle.transit_ipc.specs.Calling.{IsMade, PortCall}
 use Rattle.transit_ipc.specs.Stepping.{StepAt}
 use Rattle.transit_ipc.specs.Tying.{AreAble, CanCall}
-use Rattle.transit_ipc.specs.declared.ports.Ports.{Ports}
+use Rattle.transit_ipc.specs.declared.table.Ports.{Ports}
 use Rattle.transit_ipc.proofs.Emptying.{over, step_over}
 
 pub made_call : {Manager X Chooser : Type 0} (M : GhostsOfMapper X) (G : GhostsOfGmi Manager X Chooser) (mapper : X) (old new : Ports Manager) (depth : ℕ) (a : Answer) → CanCall G old (M.held mapper) (M.page_bytes mapper) → IsMade old depth a new

@@ -13,7 +13,8 @@ use Rattle.vm_model.proofs.Parts.ListParts.{numbered_past, numbered_push, number
 use Rattle.vm_model.proofs.Parts.Lists.{is_there}
 use Rattle.transit_ipc.specs.Answering.{put_last}
 use Rattle.transit_ipc.specs.PortMachine.{PortMachine, put_port, take_number}
-use Rattle.transit_ipc.specs.Seen.{but_for, is_transit, memory_seen, message_seen, port_seen, ports_seen, waits_in}
+use Rattle.transit_ipc.specs.Seen.{but_for, memory_seen, message_seen, port_seen, ports_seen}
+use Rattle.transit_ipc.specs.Transit.{is_transit, waits_in}
 use Rattle.transit_ipc.specs.Tying.{AreTied, IsMessage, Waits}
 use Rattle.transit_ipc.specs.declared.port.Message.{Message}
 use Rattle.transit_ipc.specs.declared.port.Port.{Port}

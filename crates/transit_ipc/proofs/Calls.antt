@@ -27,10 +27,11 @@ use Rattle.gmi_calls.specs.declared.gmi.Gmi.{Ghosts as GhostsOfGmi}
 use Rattle.gmi_calls.proofs.Still.{without_mapper}
 use Rattle.transit_ipc.specs.Calling.{IsServed, PortCall}
 use Rattle.transit_ipc.specs.Inner.{mapping_shown}
+use Rattle.transit_ipc.specs.Stepping.{StepAt}
 use Rattle.transit_ipc.specs.Tying.{AreAble, AreTied, CanCall}
 use Rattle.transit_ipc.specs.declared.port.Port.{Port}
-use Rattle.transit_ipc.specs.declared.ports.Ports.{Ports}
-use Rattle.transit_ipc.proofs.Emptying.{blank_after}
+use Rattle.transit_ipc.specs.declared.table.Ports.{Ports}
+use Rattle.transit_ipc.proofs.Emptying.{blank_after, over}
 use Rattle.transit_ipc.proofs.Followed.{IsFollowed, tied_blank, tied_followed, tied_whole}
 use Rattle.transit_ipc.proofs.Passed.{IsNoMap, IsPassed, map_passed, outcome_follows, outcome_passed, passed}
 use Rattle.transit_ipc.proofs.Untold.{segments_stay, step_called}
@@ -102,26 +103,30 @@ module _ {Manager X Chooser : Type 0} (M : GhostsOfMapper X) (G : GhostsOfGmi Ma
       go (Some h) o = then_tied m n can.tied h a o
 
 -- A command is passed on to the manager.
-module _ {Manager X Chooser : Type 0} (M : GhostsOfMapper X) (G : GhostsOfGmi Manager X Chooser) (old : Ports Manager) (gmi : Manager) (before after : X) (c : Command) (a : Answer)
-    (can : CanCall G old (M.held before) (M.page_bytes before)) (call : MapperCall M (meanings_of G) before old.gmi c a after gmi) where
+module _ {Manager X Chooser : Type 0} (M : GhostsOfMapper X) (G : GhostsOfGmi Manager X Chooser) (old new : Ports Manager) (before after : X) (c : Command) (a : Answer)
+    (can : CanCall G old (M.held before) (M.page_bytes before)) (same : new.ports.items ≡ old.ports.items) (call : MapperCall M (meanings_of G) before old.gmi c a after new.gmi) where
+  abbrev gmi : Manager
+  gmi = new.gmi
+
   abbrev ports : List Port
   ports = old.ports.items
 
-  pub call_passed : (command : Command) → ((rises : MapperCounts) → ReachesMapper c rises → ReachesMapper command rises) → ((x : Machine) → AreTied x ports → IsPassed ports x c command) → PortCall M G before old (Plain command) a after (record old { gmi = gmi })
+  pub call_passed : (command : Command) → ((rises : MapperCounts) → ReachesMapper c rises → ReachesMapper command rises) → ((x : Machine) → AreTied x ports → IsPassed ports x c command) → PortCall M G before old (Plain command) a after new
   call_passed command reaches passed =
       let it = call_is M G old.gmi gmi before after c a ports can call in
       let f : Option PageForest = G.forest old.gmi (M.held before) in
       let tied : AreTied (G.machine gmi (M.held after)) ports = tied_after M G old.gmi gmi before after c a ports can call
       (λ x y tied h b o. outcome_follows ports x y tied c command f h b it.rises (passed x tied) o) in
       record {
-        can = able_after M G old.gmi gmi before after c a ports can call ports tied;
+        can = subst (AreAble G gmi (M.held after) (M.page_bytes after)) (sym same) (able_after M G old.gmi gmi before after c a ports can call ports tied);
         made = omega (arith, made_after M G old.gmi gmi before after c a ports can call);
         rises = it.rises;
         rose = it.rose;
         is = record {
           reaches = reaches it.rises it.is.reaches;
-          step = step_called (segments_of (M.held before)) (segments_of (M.held after)) (G.machine old.gmi (M.held before)) (G.machine gmi (M.held after)) ports ports can.tied f c a it.rises (Plain command)
-              (λ x y tied h b o. outcome_passed ports x y c command f h b it.rises (passed x tied) o) it.is.outcome;
+          step = subst (λ (ps : List Port). StepAt (segments_of (M.held after)) (over (segments_of (M.held before)) (G.machine old.gmi (M.held before)) ports) (Plain command) a it.rises (over (segments_of (M.held after)) (G.machine gmi (M.held after)) ps)) (sym same)
+              (step_called (segments_of (M.held before)) (segments_of (M.held after)) (G.machine old.gmi (M.held before)) (G.machine gmi (M.held after)) ports ports can.tied f c a it.rises (Plain command)
+              (λ x y tied h b o. outcome_passed ports x y c command f h b it.rises (passed x tied) o) it.is.outcome);
           segments = segments_after M G old.gmi gmi before after c a ports can call;
         };
       }
@@ -138,12 +143,11 @@ module _ {Manager X Chooser : Type 0} (M : GhostsOfMapper X) (G : GhostsOfGmi Ma
       → CallDone (meanings_of G) old.gmi (Map actor (mapping_shown old.ports.items p)) a new.gmi → new ≡ record old { gmi = new.gmi } → PortCall M G before old (Plain command) a before new
   map_called new command actor p a is done same =
       subst (λ (c : Command). PortCall M G before old (Plain c) a before new) (sym is)
-      (subst (λ (next : Ports Manager). PortCall M G before old (Plain (Map actor p)) a before next) (sym same)
-      (call_passed M G old new.gmi before before (Map actor (mapping_shown old.ports.items p)) a can
+      (call_passed M G old new before before (Map actor (mapping_shown old.ports.items p)) a can (ap (λ (s : Ports Manager). s.ports.items) same)
       (without_mapper M (meanings_of G) before old.gmi can.valid (Map actor (mapping_shown old.ports.items p)) a new.gmi done)
-      (Map actor p) (λ rises quiet. quiet) (λ x tied. map_passed old.ports.items x tied actor p)))
+      (Map actor p) (λ rises quiet. quiet) (λ x tied. map_passed old.ports.items x tied actor p))
 
-  pub other_called : (gmi : Manager) (after : X) (command : Command) (a : Answer) → IsServed command → ((actor : ActorId) (p : Mapping) → command ≡ Map actor p → ⊥)
-      → MapperCall M (meanings_of G) before old.gmi command a after gmi → PortCall M G before old (Plain command) a after (record old { gmi = gmi })
-  other_called gmi after command a served other call =
-      call_passed M G old gmi before after command a can call command (λ rises quiet. quiet) (λ x tied. passed old.ports.items x tied command served (no_map command other))
+  pub other_called : (new : Ports Manager) → new.ports.items ≡ old.ports.items → (after : X) (command : Command) (a : Answer) → IsServed command → ((actor : ActorId) (p : Mapping) → command ≡ Map actor p → ⊥)
+      → MapperCall M (meanings_of G) before old.gmi command a after new.gmi → PortCall M G before old (Plain command) a after new
+  other_called new same after command a served other call =
+      call_passed M G old new before after command a can same call command (λ rises quiet. quiet) (λ x tied. passed old.ports.items x tied command served (no_map command other))

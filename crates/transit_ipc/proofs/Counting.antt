@@ -11,7 +11,8 @@ use Rattle.vm_model.proofs.Parts.ListParts.{at_some}
 use Rattle.vm_model.proofs.Parts.Lists.{numbered_place}
 use Rattle.transit_ipc.specs.Answering.{lacks_room}
 use Rattle.transit_ipc.specs.PortMachine.{pages_at, waiting_pages}
-use Rattle.transit_ipc.specs.Seen.{but_for, is_transit, memory_seen, message_seen, port_seen, ports_seen}
+use Rattle.transit_ipc.specs.Seen.{but_for, memory_seen, message_seen, port_seen, ports_seen}
+use Rattle.transit_ipc.specs.Transit.{is_transit}
 use Rattle.transit_ipc.specs.Tying.{AreTied, Waits}
 use Rattle.transit_ipc.specs.declared.port.Message.{Message}
 use Rattle.transit_ipc.specs.declared.port.Port.{Port}

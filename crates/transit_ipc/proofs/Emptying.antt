@@ -18,8 +18,9 @@ use Rattle.vm_model.specs.PageForest.{PageForest}
 use Rattle.vm_model.proofs.Parts.Lists.{numbered-map}
 use Rattle.gmi_calls.specs.Calling.{done_by}
 use Rattle.transit_ipc.specs.Outcome.{Outcome}
-use Rattle.transit_ipc.specs.Seen.{is_transit, message_seen, port_seen, ports_seen}
+use Rattle.transit_ipc.specs.Seen.{message_seen, port_seen, ports_seen}
 use Rattle.transit_ipc.specs.Stepping.{State, StepAt, blank_message, blank_port, blank_ports}
+use Rattle.transit_ipc.specs.Transit.{is_transit}
 use Rattle.transit_ipc.specs.Tying.{IsUntoldBlank}
 use Rattle.transit_ipc.specs.declared.port.Message.{Message}
 use Rattle.transit_ipc.specs.declared.port.Port.{Port}

@@ -14,7 +14,8 @@ use Rattle.vm_model.specs.Outcome.{blank}
 use Rattle.vm_model.specs.Place.{Place}
 use Rattle.vm_model.proofs.Parts.Lists.{get_set_other, get_set_same, numbered_place}
 use Rattle.vm_model.proofs.Parts.ListParts.{numbered_push, numbered_pushed, numbered_set, numbered_set_other}
-use Rattle.transit_ipc.specs.Seen.{is_transit, memory_seen}
+use Rattle.transit_ipc.specs.Seen.{memory_seen}
+use Rattle.transit_ipc.specs.Transit.{is_transit}
 use Rattle.transit_ipc.specs.Tying.{AreTied, IsMessage, Waits}
 use Rattle.transit_ipc.specs.declared.port.Message.{Message}
 use Rattle.transit_ipc.specs.declared.port.Port.{Port}

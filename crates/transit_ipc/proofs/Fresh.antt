@@ -12,7 +12,8 @@ use Rattle.vm_model.specs.declared.limits.TheConstants.{LIVE_PAGES, MOST_MADE}
 use Rattle.vm_model.proofs.Parts.ListParts.{numbered_push}
 use Rattle.transit_ipc.specs.Answering.{Answered, lacks_room, plain_of, reply, within}
 use Rattle.transit_ipc.specs.PortMachine.{PortMachine}
-use Rattle.transit_ipc.specs.Seen.{but_for, is_transit, memory_seen, ports_seen}
+use Rattle.transit_ipc.specs.Seen.{but_for, memory_seen, ports_seen}
+use Rattle.transit_ipc.specs.Transit.{is_transit}
 use Rattle.transit_ipc.specs.Tying.{AreTied, Waits}
 use Rattle.transit_ipc.specs.declared.port.Message.{Message}
 use Rattle.transit_ipc.specs.declared.port.Port.{Port}

@@ -15,11 +15,12 @@ use Rattle.gmi_calls.specs.declared.gmi.Gmi.{Ghosts as GhostsOfGmi}
 use Rattle.gmi_calls.proofs.Rising.{rise_none, rise_then}
 use Rattle.transit_ipc.specs.Calling.{PortCall}
 use Rattle.transit_ipc.specs.Outcome.{Outcome}
-use Rattle.transit_ipc.specs.Seen.{is_transit, ports_seen}
+use Rattle.transit_ipc.specs.Seen.{ports_seen}
 use Rattle.transit_ipc.specs.Stepping.{Reaches}
+use Rattle.transit_ipc.specs.Transit.{is_transit}
 use Rattle.transit_ipc.specs.Tying.{AreAble, AreTied, CanCall}
 use Rattle.transit_ipc.specs.declared.port.Port.{Port}
-use Rattle.transit_ipc.specs.declared.ports.Ports.{Ports}
+use Rattle.transit_ipc.specs.declared.table.Ports.{Ports}
 use Rattle.transit_ipc.proofs.Calls.{able_after, call_is, made_after, one_call, segments_after}
 use Rattle.transit_ipc.proofs.Emptying.{step_over}
 use Rattle.transit_ipc.proofs.Hiding.{numbered_seen}

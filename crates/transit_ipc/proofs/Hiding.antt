@@ -4,7 +4,8 @@ use Rattle.std.specs.Prelude.{option_and_then, option_map, slice_get}
 use Rattle.vm_model.specs.Machine.{Cache, Machine, cache_of, numbered}
 use Rattle.vm_model.specs.Outcome.{blank_cache}
 use Rattle.vm_model.proofs.Parts.ListParts.{at_some, at_zero, zero_or}
-use Rattle.transit_ipc.specs.Seen.{but_for, is_transit, memory_seen}
+use Rattle.transit_ipc.specs.Seen.{but_for, memory_seen}
+use Rattle.transit_ipc.specs.Transit.{is_transit}
 use Rattle.transit_ipc.specs.declared.port.Port.{Port}
 
 -- a cache, unless it is hidden

@@ -21,6 +21,8 @@ pub mod Moving
 pub mod Sending
 pub mod Temporary
 pub mod Going
+pub mod Taking
+pub mod Marking
 pub mod Removing
 pub mod Sent
 pub mod Receiving

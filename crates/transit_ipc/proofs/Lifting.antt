@@ -17,7 +17,8 @@ use Rattle.vm_model.specs.Place.{Place, holds, place, place_in, place_of_actor, 
 use Rattle.vm_model.specs.declared.limits.TheConstants.{MOST_MADE}
 use Rattle.vm_model.proofs.Parts.Lists.{numbered_place}
 use Rattle.transit_ipc.specs.Inner.{mapping_shown}
-use Rattle.transit_ipc.specs.Seen.{is_transit, memory_seen}
+use Rattle.transit_ipc.specs.Seen.{memory_seen}
+use Rattle.transit_ipc.specs.Transit.{is_transit}
 use Rattle.transit_ipc.specs.Tying.{AreTied}
 use Rattle.transit_ipc.specs.declared.port.Port.{Port}
 use Rattle.transit_ipc.proofs.Hiding.{hidden_cache, seen_cache, set_seen}

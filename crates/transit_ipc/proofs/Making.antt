@@ -15,12 +15,13 @@ use Rattle.vm_model.specs.Outcome.{IsNotRefused}
 use Rattle.transit_ipc.specs.Answering.{Answered, empty_port, make_port_of, refuse, unless}
 use Rattle.transit_ipc.specs.Calling.{IsMade}
 use Rattle.transit_ipc.specs.PortMachine.{PortMachine}
-use Rattle.transit_ipc.specs.Seen.{but_for, is_transit, memory_seen, message_seen, port_seen, ports_seen, waits_in}
+use Rattle.transit_ipc.specs.Seen.{but_for, memory_seen, message_seen, port_seen, ports_seen}
+use Rattle.transit_ipc.specs.Transit.{is_transit, waits_in}
 use Rattle.transit_ipc.specs.Tying.{AreTied, Waits}
 use Rattle.transit_ipc.specs.declared.limits.TheConstants.{MOST_PORTS}
 use Rattle.transit_ipc.specs.declared.port.Message.{Message}
 use Rattle.transit_ipc.specs.declared.port.Port.{Port}
-use Rattle.transit_ipc.specs.declared.ports.Ports.{Ports}
+use Rattle.transit_ipc.specs.declared.table.Ports.{Ports}
 
 -- One more at the end of a list
 
@@ -71,7 +72,7 @@ no_memory old new depth room gmi same = record {
 
 -- One more
 
-module _ (ports : List Port) (fresh : Port) (bare : fresh.messages.items ≡ []) (roomy : fresh.depth ≤ deque_capacity fresh.messages) where
+module _ (ports : List Port) (fresh : Port) (bare : fresh.messages.items ≡ []) where
   abbrev more : List Port
   more = ports ++ fresh ∷ []
 
@@ -82,7 +83,7 @@ module _ (ports : List Port) (fresh : Port) (bare : fresh.messages.items ≡ [])
   or_false true c e = refl
   or_false false c e = e
 
-  transit_same : is_transit more ≡ is_transit ports
+  pub transit_same : is_transit more ≡ is_transit ports
   transit_same = λ i n. (list_any-append (waits_in n) ports (fresh ∷ []) ∙ or_false (is_transit ports n) (waits_in n fresh || false) (none_waits n)) i
 
   memory_same : (m : Machine) → memory_seen m more ≡ memory_seen m ports
@@ -104,38 +105,39 @@ module _ (ports : List Port) (fresh : Port) (bare : fresh.messages.items ≡ [])
   before : (i j : ℕ) (x : Message) → Waits more i j x → Waits ports i j x
   before i j x w = waits_at i j x w (cases_eq i (length ports))
 
-  deep_at : (m : Machine) → AreTied m ports → (i : ℕ) (p : Port) → slice_get more i ≡ Some p → (i ≡ length ports) ⊎ (i ≢ length ports) → length p.messages.items ≤ p.depth
-  deep_at m tied i p e (inl last) =
-      let both : Some p ≡ Some fresh = sym e ∙ ap (slice_get more) last ∙ pushed ports fresh in
-      let same : p ≡ fresh = cc both in
-      omega (arith, ap (λ (q : Port). length q.messages.items) same, ap (λ (xs : List Message). length xs) bare)
-  deep_at m tied i p e (inr apart) = tied.deep i p (sym (push_other ports fresh i apart) ∙ e)
+  module _ (roomy : fresh.depth ≤ deque_capacity fresh.messages) where
+    deep_at : (m : Machine) → AreTied m ports → (i : ℕ) (p : Port) → slice_get more i ≡ Some p → (i ≡ length ports) ⊎ (i ≢ length ports) → length p.messages.items ≤ p.depth
+    deep_at m tied i p e (inl last) =
+        let both : Some p ≡ Some fresh = sym e ∙ ap (slice_get more) last ∙ pushed ports fresh in
+        let same : p ≡ fresh = cc both in
+        omega (arith, ap (λ (q : Port). length q.messages.items) same, ap (λ (xs : List Message). length xs) bare)
+    deep_at m tied i p e (inr apart) = tied.deep i p (sym (push_other ports fresh i apart) ∙ e)
 
-  roomy_at : (m : Machine) → AreTied m ports → (i : ℕ) (p : Port) → slice_get more i ≡ Some p → (i ≡ length ports) ⊎ (i ≢ length ports) → p.depth ≤ deque_capacity p.messages
-  roomy_at m tied i p e (inl last) =
-      let both : Some fresh ≡ Some p = sym (pushed ports fresh) ∙ ap (slice_get more) (sym last) ∙ e in
-      let same : fresh ≡ p = cc both in
-      subst (λ (q : Port). q.depth ≤ deque_capacity q.messages) same roomy
-  roomy_at m tied i p e (inr apart) = tied.roomy i p (sym (push_other ports fresh i apart) ∙ e)
+    roomy_at : (m : Machine) → AreTied m ports → (i : ℕ) (p : Port) → slice_get more i ≡ Some p → (i ≡ length ports) ⊎ (i ≢ length ports) → p.depth ≤ deque_capacity p.messages
+    roomy_at m tied i p e (inl last) =
+        let both : Some fresh ≡ Some p = sym (pushed ports fresh) ∙ ap (slice_get more) (sym last) ∙ e in
+        let same : fresh ≡ p = cc both in
+        subst (λ (q : Port). q.depth ≤ deque_capacity q.messages) same roomy
+    roomy_at m tied i p e (inr apart) = tied.roomy i p (sym (push_other ports fresh i apart) ∙ e)
 
-  tied_more : (m : Machine) → length ports < MOST_PORTS → AreTied m ports → AreTied m more
-  tied_more m room tied = record {
-    messages = λ i j x w. tied.messages i j x (before i j x w);
-    apart = λ i j k l x y v w. tied.apart i j k l x y (before i j x v) (before k l y w);
-    mapped = λ cache is. subst (λ (seen : Machine). IsSome (cache_of seen cache)) (sym (memory_same m)) (tied.mapped cache is);
-    temporary = tied.temporary;
-    deep = λ i p e. deep_at m tied i p e (cases_eq i (length ports));
-    roomy = λ i p e. roomy_at m tied i p e (cases_eq i (length ports));
-    few = omega (arith, room, length-append ports (fresh ∷ []));
-  }
+    tied_more : (m : Machine) → length ports < MOST_PORTS → AreTied m ports → AreTied m more
+    tied_more m room tied = record {
+      messages = λ i j x w. tied.messages i j x (before i j x w);
+      apart = λ i j k l x y v w. tied.apart i j k l x y (before i j x v) (before k l y w);
+      mapped = λ cache is. subst (λ (seen : Machine). IsSome (cache_of seen cache)) (sym (memory_same m)) (tied.mapped cache is);
+      temporary = tied.temporary;
+      deep = λ i p e. deep_at m tied i p e (cases_eq i (length ports));
+      roomy = λ i p e. roomy_at m tied i p e (cases_eq i (length ports));
+      few = omega (arith, room, length-append ports (fresh ∷ []));
+    }
 
-  pub made_port : {Manager : Type 0} (old new : Ports Manager) (n : ℕ) → n ≡ length ports → length ports < MOST_PORTS → old.ports.items ≡ ports → new.gmi ≡ old.gmi → new.ports.items ≡ more
-      → IsMade old fresh.depth (Ok (replies.Port (record { 0 = n + 1 }))) new
-  made_port old new n many room was gmi is = record {
-    gmi = gmi;
-    tied = λ m tied. subst (AreTied m) (sym is) (tied_more m room (subst (AreTied m) was tied));
-    outcome = λ m h.
-        ap (λ (ps : List Port). make_port_of (ports_seen m ps) fresh.depth) was
-        ∙ free_at (ports_seen m ports) fresh.depth (is_free m ports room)
-        ∙ (λ i. record { answer = Ok (replies.Port (record { 0 = (length-map ports (port_seen m) ∙ sym many) i + 1 })); next = (sym (seen m) ∙ ap (ports_seen m) (sym is)) i });
-  }
+    pub made_port : {Manager : Type 0} (old new : Ports Manager) (n : ℕ) → n ≡ length ports → length ports < MOST_PORTS → old.ports.items ≡ ports → new.gmi ≡ old.gmi → new.ports.items ≡ more
+        → IsMade old fresh.depth (Ok (replies.Port (record { 0 = n + 1 }))) new
+    made_port old new n many room was gmi is = record {
+      gmi = gmi;
+      tied = λ m tied. subst (AreTied m) (sym is) (tied_more m room (subst (AreTied m) was tied));
+      outcome = λ m h.
+          ap (λ (ps : List Port). make_port_of (ports_seen m ps) fresh.depth) was
+          ∙ free_at (ports_seen m ports) fresh.depth (is_free m ports room)
+          ∙ (λ i. record { answer = Ok (replies.Port (record { 0 = (length-map ports (port_seen m) ∙ sym many) i + 1 })); next = (sym (seen m) ∙ ap (ports_seen m) (sym is)) i });
+    }

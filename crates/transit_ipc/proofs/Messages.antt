@@ -9,7 +9,8 @@ use Rattle.vm_model.specs.Machine.{Cache, Machine, cache_of}
 use Rattle.vm_model.proofs.Parts.ListParts.{numbered_past}
 use Rattle.transit_ipc.specs.Inner.{shown}
 use Rattle.transit_ipc.specs.PortMachine as model
-use Rattle.transit_ipc.specs.Seen.{is_transit, message_seen, port_seen, waits_in}
+use Rattle.transit_ipc.specs.Seen.{message_seen, port_seen}
+use Rattle.transit_ipc.specs.Transit.{is_transit, waits_in}
 use Rattle.transit_ipc.specs.Tying.{AreTied, IsMessage, Waits}
 use Rattle.transit_ipc.specs.declared.port.Message.{Message}
 use Rattle.transit_ipc.specs.declared.port.Port.{Port}

@@ -28,7 +28,8 @@ use Rattle.transit_ipc.specs.Answering.{Answered, plain_of, unless, within}
 use Rattle.transit_ipc.specs.Calling.{IsServed}
 use Rattle.transit_ipc.specs.Inner.{mapping_shown}
 use Rattle.transit_ipc.specs.Outcome.{Outcome}
-use Rattle.transit_ipc.specs.Seen.{is_transit, memory_seen, port_seen, ports_seen}
+use Rattle.transit_ipc.specs.Seen.{memory_seen, port_seen, ports_seen}
+use Rattle.transit_ipc.specs.Transit.{is_transit}
 use Rattle.transit_ipc.specs.Tying.{AreTied, Waits}
 use Rattle.transit_ipc.specs.declared.port.Message.{Message}
 use Rattle.transit_ipc.specs.declared.port.Port.{Port}

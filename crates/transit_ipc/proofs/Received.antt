@@ -30,7 +30,7 @@ use Rattle.transit_ipc.specs.Seen.{memory_seen, port_seen, ports_seen}
 use Rattle.transit_ipc.specs.Tying.{AreTied, CanCall}
 use Rattle.transit_ipc.specs.declared.port.Message.{Message}
 use Rattle.transit_ipc.specs.declared.port.Port.{Port}
-use Rattle.transit_ipc.specs.declared.ports.Ports.{Ports}
+use Rattle.transit_ipc.specs.declared.table.Ports.{Ports}
 use Rattle.transit_ipc.proofs.Calls.{call_is}
 use Rattle.transit_ipc.proofs.Copying.{RowIs}
 use Rattle.transit_ipc.proofs.Emptying.{without}

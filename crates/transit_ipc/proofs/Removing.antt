@@ -1,34 +1,26 @@
 -- A message is received: its cache is gone, and another that is seen has its pages.
-use Rattle.std.proofs.Common.{◌≡◌, ◌≢◌, ◌⊎◌, inl, inr, ◌==◌, ℕ, suc, ◌+◌, ◌-◌, ◌≤◌, Bool, false, List, [], ◌∷◌, length, map, set, drop, Option, Some, None, refl, sym, ap, subst, ◌∙◌, arith}
-use Rattle.std.specs.List.{list_any}
-use Rattle.std.specs.Prelude.{◌||◌, IsSome, slice_get}
+use Rattle.std.proofs.Common.{◌≡◌, ◌≢◌, inl, inr, ℕ, suc, ◌+◌, ◌-◌, ◌≤◌, false, List, length, map, set, drop, Some, None, refl, sym, ap, subst, ◌∙◌, arith, Option}
+use Rattle.std.specs.Prelude.{IsSome, slice_get}
 use Rattle.std.specs.VecDeque.{deque_capacity}
 use Rattle.std.proofs.lemmas.Bool.{cases_eq}
-use Rattle.std.proofs.lemmas.Bool.Decides.{nat_tests}
 use Rattle.std.proofs.lemmas.List.{drop-map, length-drop, length-set, map-set}
 use Rattle.vm_model.specs.Answering.{put_cache}
 use Rattle.vm_model.specs.Machine.{Cache, Machine, cache_of}
-use Rattle.vm_model.proofs.Parts.ListParts.{get_drop, numbered_set, numbered_set_other}
+use Rattle.vm_model.proofs.Parts.ListParts.{numbered_set, numbered_set_other}
 use Rattle.vm_model.proofs.Parts.Lists.{numbered_place}
 use Rattle.transit_ipc.specs.Answering.{without_first}
 use Rattle.transit_ipc.specs.PortMachine.{put_port}
-use Rattle.transit_ipc.specs.Seen.{is_transit, memory_seen, message_seen, port_seen, ports_seen}
+use Rattle.transit_ipc.specs.Seen.{memory_seen, message_seen, port_seen, ports_seen}
+use Rattle.transit_ipc.specs.Transit.{is_transit}
 use Rattle.transit_ipc.specs.Tying.{AreTied, IsMessage, Waits}
 use Rattle.transit_ipc.specs.declared.port.Message.{Message}
 use Rattle.transit_ipc.specs.declared.port.Port.{Port}
 use Rattle.transit_ipc.proofs.Emptying.{without}
 use Rattle.transit_ipc.proofs.Hiding.{seen_cache}
 use Rattle.transit_ipc.proofs.Lifting.{put_seen}
-use Rattle.transit_ipc.proofs.Messages.{has_number, ports_same, seen_apart, waiting_hides}
-use Rattle.transit_ipc.proofs.Replacing.{gone_hidden, hidden_as, port_or, waits_or}
-
--- without its first message a list has the same others
-any_rest : (n : ℕ) (x : Message) (ms : List Message) → slice_get ms 0 ≡ Some x → (x.cache.0 == n) ≡ false → list_any (has_number n) (drop 1 ms) ≡ list_any (has_number n) ms
-any_rest n x [] first other = refl
-any_rest n x (y ∷ ms) first other = let same : y ≡ x = cc first in ap (λ (b : Bool). b || list_any (has_number n) ms) (sym (ap (has_number n) same ∙ other))
-
-other_number : (n k : ℕ) → k ≢ n → (n == k) ≡ false
-other_number n k apart = grind (arith, nat_tests)
+use Rattle.transit_ipc.proofs.Messages.{ports_same, seen_apart, waiting_hides}
+use Rattle.transit_ipc.proofs.Replacing.{gone_hidden, port_or}
+use Rattle.transit_ipc.proofs.Taking.{Left, another, hidden_still, left}
 
 module _ (m : Machine) (ports : List Port) (t : AreTied m ports) (place : ℕ) (p q : Port) (there : slice_get ports place ≡ Some p)
     (depth : q.depth ≡ p.depth) (room : deque_capacity q.messages ≡ deque_capacity p.messages) (x : Message)
@@ -74,35 +66,14 @@ module _ (m : Machine) (ports : List Port) (t : AreTied m ports) (place : ℕ) (
 
   -- The messages that are left
 
-  -- where it waited before
-  abbrev Left : ℕ → ℕ → Message → Type 0
-  Left i j y = ((i ≡ place) × Waits ports place (suc j) y) ⊎ ((i ≢ place) × Waits ports i j y)
-
-  left : (i j : ℕ) (y : Message) → Waits later i j y → Left i j y
-  left i j y w = elim (waits_or ports place p q there i j y w) [
-    | inl h ↦ inl (
-      h.0,
-      record {
-        port = p;
-        there = there;
-        has = sym (get_drop 1 p.messages.items j (suc j) (omega arith)) ∙ ap (λ (ms : List Message). slice_get ms j) (sym rest) ∙ h.1;
-      },
-    )
-    | inr h ↦ inr h
-  ]
-
-  another : (i j : ℕ) (y : Message) → Left i j y → y.cache.0 ≢ e
-  another i j y (inl h) same = let wrong : suc j ≡ 0 = (t.apart place (suc j) place 0 y x h.1 waits same).1 in absurd (omega (arith, wrong))
-  another i j y (inr h) same = h.0 (t.apart i j place 0 y x h.1 waits same).0
-
-  had_cache : (i j : ℕ) (y : Message) → Left i j y → (y.cache.0 ≢ k) × IsMessage m y
+  had_cache : (i j : ℕ) (y : Message) → Left ports place p q there x first rest i j y → (y.cache.0 ≢ k) × IsMessage m y
   had_cache i j y (inl h) = (seen_apart ports place (suc j) k y h.1 visible, t.messages place (suc j) y h.1)
   had_cache i j y (inr h) = (seen_apart ports i j k y h.1 visible, t.messages i j y h.1)
 
   message_kept : (i j : ℕ) (y : Message) → Waits later i j y → cache_of n y.cache.0 ≡ cache_of m y.cache.0
-  message_kept i j y w = kept_cache y.cache.0 (another i j y (left i j y w)) (had_cache i j y (left i j y w)).0
+  message_kept i j y w = kept_cache y.cache.0 (another ports place p q there x first rest t.apart i j y (left ports place p q there x first rest i j y w)) (had_cache i j y (left ports place p q there x first rest i j y w)).0
 
-  same_turn : (i j f l : ℕ) (y z : Message) → Left i j y → Left f l z → y.cache.0 ≡ z.cache.0 → (i ≡ f) × (j ≡ l)
+  same_turn : (i j f l : ℕ) (y z : Message) → Left ports place p q there x first rest i j y → Left ports place p q there x first rest f l z → y.cache.0 ≡ z.cache.0 → (i ≡ f) × (j ≡ l)
   same_turn i j f l y z (inl v) (inl w) same = (v.0 ∙ sym w.0, (let s : suc j ≡ suc l = (t.apart place (suc j) place (suc l) y z v.1 w.1 same).1 in omega (arith, s)))
   same_turn i j f l y z (inl v) (inr w) same = absurd (w.0 (sym (t.apart place (suc j) f l y z v.1 w.1 same).0))
   same_turn i j f l y z (inr v) (inl w) same = absurd (v.0 (t.apart i j place (suc l) y z v.1 w.1 same).0)
@@ -110,14 +81,11 @@ module _ (m : Machine) (ports : List Port) (t : AreTied m ports) (place : ℕ) (
 
   -- What is seen
 
-  hidden_still : (l : ℕ) → l ≢ e → is_transit later l ≡ is_transit ports l
-  hidden_still l a = hidden_as ports place p q there l (ap (λ (ms : List Message). list_any (has_number l) ms) rest ∙ any_rest l x p.messages.items first (other_number e l a))
-
   pub memory_received : memory_seen n later ≡ put_cache (memory_seen m ports) k d
   memory_received =
       let at : 1 + (e - 1) ≡ e = omega (arith, some_e) in
       ap (λ (caches : List (Option Cache)). record m { caches = caches })
-      (gone_hidden (is_transit ports) (is_transit later) 1 (e - 1) (set m.caches (k - 1) (Some d)) (ap (is_transit ports) at ∙ waiting_hides ports place 0 x waits) (λ l a. hidden_still l (λ s. a (s ∙ sym at))))
+      (gone_hidden (is_transit ports) (is_transit later) 1 (e - 1) (set m.caches (k - 1) (Some d)) (ap (is_transit ports) at ∙ waiting_hides ports place 0 x waits) (λ l a. hidden_still ports place p q there x first rest l (λ s. a (s ∙ sym at))))
       ∙ put_seen ports m k c d found visible
 
   first_gone : port_seen m q ≡ without_first (port_seen m p)
@@ -153,8 +121,8 @@ module _ (m : Machine) (ports : List Port) (t : AreTied m ports) (place : ℕ) (
 
   pub tied_received : AreTied n later
   tied_received = record {
-    messages = λ i j y w. (let was = (had_cache i j y (left i j y w)).1 in record { cache = was.cache; there = message_kept i j y w ∙ was.there; some = was.some; many = was.many });
-    apart = λ i j f l y z v w same. same_turn i j f l y z (left i j y v) (left f l z w) same;
+    messages = λ i j y w. (let was = (had_cache i j y (left ports place p q there x first rest i j y w)).1 in record { cache = was.cache; there = message_kept i j y w ∙ was.there; some = was.some; many = was.many });
+    apart = λ i j f l y z v w same. same_turn i j f l y z (left ports place p q there x first rest i j y v) (left ports place p q there x first rest f l z w) same;
     mapped = λ l is. still_seen l (t.mapped l is);
     temporary = no_segment;
     deep = λ i r at. elim (port_or ports place p q there i r at) [

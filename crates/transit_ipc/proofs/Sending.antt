@@ -27,7 +27,8 @@ use Rattle.transit_ipc.specs.Inner.{sent_span}
 use Rattle.transit_ipc.specs.Outcome.{GoesOn, Outcome}
 use Rattle.transit_ipc.specs.PortMachine as model
 use Rattle.transit_ipc.specs.PortMachine.{PortMachine, port_in, port_of, put_port, take_number}
-use Rattle.transit_ipc.specs.Seen.{is_transit, memory_seen, message_seen, port_seen, ports_seen}
+use Rattle.transit_ipc.specs.Seen.{memory_seen, message_seen, port_seen, ports_seen}
+use Rattle.transit_ipc.specs.Transit.{is_transit}
 use Rattle.transit_ipc.specs.Tying.{AreTied}
 use Rattle.transit_ipc.specs.declared.port.Message.{Message}
 use Rattle.transit_ipc.specs.declared.port.Port.{Port}

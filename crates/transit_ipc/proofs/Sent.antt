@@ -1,9 +1,10 @@
 -- A send is answered: refused at once, or by what its calls of the manager came to.
-use Rattle.std.proofs.Common.{◌≡◌, ◌⊎◌, ◌==◌, ℕ, zero, suc, ◌^◌, ◌<◌, ◌≤◌, true, false, List, [], ◌∷◌, ◌++◌, length, set, Option, Some, None, refl, sym, ap, subst, ◌∙◌, arith}
-use Rattle.std.specs.Prelude.{Ok, Err, IsSome, Result, slice_get}
+use Rattle.std.proofs.Common.{◌≡◌, ◌⊎◌, ◌==◌, ℕ, zero, suc, ◌^◌, ◌<◌, ◌≤◌, true, false, List, [], ◌∷◌, ◌++◌, length, set, Option, Some, None, refl, sym, ap, subst, ◌∙◌, arith, Bool}
+use Rattle.std.specs.Prelude.{Ok, Err, IsSome, Result, slice_get, ◌||◌, nat_le}
 use Rattle.std.specs.Bool.{IsTrue}
 use Rattle.std.specs.VecDeque.{deque_capacity}
 use Rattle.std.proofs.lemmas.Bool.Decides.{nat_tests}
+use Rattle.std.proofs.lemmas.Option.{slice_get_within}
 use Rattle.vm_ids.specs.Counting.{MapperCounts}
 use Rattle.vm_ids.specs.Held.{Segments, segments_of}
 use Rattle.vm_ids.specs.declared.command.Command.TheVariants as vm_commands
@@ -19,6 +20,7 @@ use Rattle.vm_ids.specs.declared.reply.Trouble.TheVariants as troubles
 use Rattle.vm_model.specs.Answering.{Answer, is_mapped}
 use Rattle.vm_model.specs.Machine.{Cache, Machine, cache_of}
 use Rattle.vm_model.specs.Outcome.{OutcomeAt}
+use Rattle.vm_model.specs.declared.limits.TheConstants.{MOST_MADE}
 use Rattle.vm_model.proofs.Parts.Lists.{is_there}
 use Rattle.vm_model.proofs.Parts.ListParts.{numbered_past}
 use Rattle.vm_port.specs.declared.traits.mapper.Mapper.{Ghosts as GhostsOfMapper}
@@ -31,11 +33,12 @@ use Rattle.transit_ipc.specs.Calling.{PortCall}
 use Rattle.transit_ipc.specs.Inner.{sent_span}
 use Rattle.transit_ipc.specs.Outcome.{Outcome}
 use Rattle.transit_ipc.specs.PortMachine.{PortMachine, put_port, take_number}
-use Rattle.transit_ipc.specs.Seen.{is_transit, memory_seen, port_seen, ports_seen}
+use Rattle.transit_ipc.specs.Seen.{memory_seen, port_seen, ports_seen}
+use Rattle.transit_ipc.specs.Transit.{IsTable, is_transit}
 use Rattle.transit_ipc.specs.Tying.{AreTied, CanCall}
 use Rattle.transit_ipc.specs.declared.port.Message.{Message}
 use Rattle.transit_ipc.specs.declared.port.Port.{Port}
-use Rattle.transit_ipc.specs.declared.ports.Ports.{Ports}
+use Rattle.transit_ipc.specs.declared.table.Ports.{Ports}
 use Rattle.transit_ipc.proofs.Appending.{appended, at_last, last_replaced, next_of, seen_sent, seen_taken, still_there, temporary_appended, tied_sent, tied_taken}
 use Rattle.transit_ipc.proofs.Calls.{call_is}
 use Rattle.transit_ipc.proofs.Copying.{copied_at}
@@ -91,16 +94,19 @@ module _ {Manager X Chooser : Type 0} (M : GhostsOfMapper X) (G : GhostsOfGmi Ma
       made_call gmi a = CallDone (meanings_of G) old.gmi (vm_commands.MakeTemp e.pages) a gmi
 
       -- no cache was made
-      pub send_lacks : (gmi : Manager) (trouble : Trouble) → made_call gmi (Err trouble) → PortCall M G before old command (Err trouble) before (record old { gmi = gmi })
-      send_lacks gmi trouble done =
-          let call = without_mapper M (meanings_of G) before old.gmi can.valid (vm_commands.MakeTemp e.pages) (Err trouble) gmi done in
+      pub send_lacks : (new : Ports Manager) → new.ports.items ≡ ports → (trouble : Trouble) → made_call new.gmi (Err trouble) → PortCall M G before old command (Err trouble) before new
+      send_lacks new items trouble done =
+          let call = without_mapper M (meanings_of G) before old.gmi can.valid (vm_commands.MakeTemp e.pages) (Err trouble) new.gmi done in
           let g0 = goes_none M G old before can in
-          let it = call_is M G old.gmi gmi before before (vm_commands.MakeTemp e.pages) (Err trouble) [] g0.able call in
-          let was = temp_at (segments_of (M.held before)) m (G.machine gmi (M.held before)) (G.forest old.gmi (M.held before)) e.pages (Err trouble) it.rises it.is.outcome in
-          let tied : AreTied (G.machine gmi (M.held before)) ports = subst (λ (x : Machine). AreTied x ports) (sym was.0) t in
-          let g1 = goes_on M G old before can before before old.gmi gmi 0 g0 (vm_commands.MakeTemp e.pages) (Err trouble) call (tied_none (G.machine gmi (M.held before)) ports tied) in
-          port_call M G old before can before (record old { gmi = gmi }) 1 (omega arith) g1 tied command (Err trouble) (λ rises. tt)
-          (λ h rises. subst (λ (x : Machine). Outcome seen command h (Err trouble) (ports_seen x ports) rises) (sym was.0) (lacks trouble was.1 h rises))
+          let it = call_is M G old.gmi new.gmi before before (vm_commands.MakeTemp e.pages) (Err trouble) [] g0.able call in
+          let later : Machine = G.machine new.gmi (M.held before) in
+          let was = temp_at (segments_of (M.held before)) m later (G.forest old.gmi (M.held before)) e.pages (Err trouble) it.rises it.is.outcome in
+          let tied : AreTied later ports = subst (λ (x : Machine). AreTied x ports) (sym was.0) t in
+          let tied_now : AreTied later new.ports.items = subst (λ (ps : List Port). AreTied later ps) (sym items) tied in
+          let same : ports_seen later new.ports.items ≡ seen = λ i. ports_seen (was.0 i) (items i) in
+          let g1 = goes_on M G old before can before before old.gmi new.gmi 0 g0 (vm_commands.MakeTemp e.pages) (Err trouble) call (tied_none later ports tied) in
+          port_call M G old before can before new 1 (omega arith) g1 tied_now command (Err trouble) (λ rises. tt)
+          (λ h rises. subst (λ (y : PortMachine). Outcome seen command h (Err trouble) y rises) (sym same) (lacks trouble was.1 h rises))
 
       module _ (gmi : Manager) (cache : CacheId) (done : made_call gmi (Ok (replies.Cache cache))) where
         abbrev call : MapperCall M (meanings_of G) before old.gmi (vm_commands.MakeTemp e.pages) (Ok (replies.Cache cache)) before gmi
@@ -110,6 +116,18 @@ module _ {Manager X Chooser : Type 0} (M : GhostsOfMapper X) (G : GhostsOfGmi Ma
         made =
             let it = call_is M G old.gmi gmi before before (vm_commands.MakeTemp e.pages) (Ok (replies.Cache cache)) [] ((goes_none M G old before can).able) call in
             temp_at (segments_of (M.held before)) m (G.machine gmi (M.held before)) (G.forest old.gmi (M.held before)) e.pages (Ok cache) it.rises it.is.outcome
+
+        -- the table has a place for its number
+        pub has_place : (ps : List Port) (table : List Bool) → ps ≡ ports → IsTable ps table → cache.0 < length table
+        has_place ps table same t =
+            omega (arith, made.number, either_false (nat_le MOST_MADE (length m.caches)) _ made.room few, t.covers (omega (arith, ap (λ (xs : List Port). length xs) same, slice_get_within ports place p there)))
+          where
+            few : nat_le MOST_MADE (length m.caches) ≡ false → length m.caches < MOST_MADE
+            few is = grind (arith, nat_tests)
+
+            either_false : {P : Type 0} (a b : Bool) → (a || b) ≡ false → (a ≡ false → P) → P
+            either_false true b is then = absurd (cc is)
+            either_false false b is then = then refl
 
         abbrev with_cache : Machine
         with_cache = appended m (Some made.fresh)

@@ -10,7 +10,8 @@ use Rattle.vm_model.specs.Answering.{maps_in, put_cache}
 use Rattle.vm_model.specs.Machine.{Actor, Cache, Machine, Page, cache_of, live_pages, numbered, pages_in}
 use Rattle.vm_model.specs.Outcome.{blank, blank_cache}
 use Rattle.vm_model.proofs.Parts.Lists.{is_there, numbered-map, numbered_place}
-use Rattle.transit_ipc.specs.Seen.{is_transit, memory_seen}
+use Rattle.transit_ipc.specs.Seen.{memory_seen}
+use Rattle.transit_ipc.specs.Transit.{is_transit}
 use Rattle.transit_ipc.specs.Tying.{AreTied, IsMessage}
 use Rattle.transit_ipc.specs.declared.port.Message.{Message}
 use Rattle.transit_ipc.specs.declared.port.Port.{Port}

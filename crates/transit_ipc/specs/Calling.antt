@@ -14,7 +14,7 @@ use Rattle.transit_ipc.specs.Outcome.{Outcome}
 use Rattle.transit_ipc.specs.Seen.{ports_seen, state_of}
 use Rattle.transit_ipc.specs.Stepping.{AnswerIs, State}
 use Rattle.transit_ipc.specs.Tying.{AreTied, CanCall}
-use Rattle.transit_ipc.specs.declared.ports.Ports.{Ports}
+use Rattle.transit_ipc.specs.declared.table.Ports.{Ports}
 
 -- the commands of the manager that a script of ports has
 abbrev pub IsServed : Command → Type 0

@@ -3,6 +3,7 @@ pub mod Answering
 pub mod Outcome
 pub mod Stepping
 pub mod Seen
+pub mod Transit
 pub mod Tying
 pub mod Inner
 pub mod Calling

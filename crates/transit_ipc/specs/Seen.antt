@@ -1,6 +1,5 @@
 -- The machine of ports for which the ports over a manager stand.
-use Rattle.std.specs.Prelude.{◌==◌, ℕ, ◌+◌, Bool, List, [], ◌∷◌, map, Option, None, if◌then◌else◌}
-use Rattle.std.specs.List.{list_any}
+use Rattle.std.specs.Prelude.{ℕ, ◌+◌, Bool, List, [], ◌∷◌, map, Option, None, if◌then◌else◌}
 use Rattle.std.specs.Option.{option_map_or}
 use Rattle.vm_ids.specs.Held.{Held, segments_of}
 use Rattle.vm_model.specs.Machine.{Cache, Machine, cache_of}
@@ -8,17 +7,10 @@ use Rattle.gmi_calls.specs.declared.gmi.Gmi.{Ghosts as GhostsOfGmi}
 use Rattle.transit_ipc.specs.PortMachine as model
 use Rattle.transit_ipc.specs.PortMachine.{PortMachine}
 use Rattle.transit_ipc.specs.Stepping.{State}
+use Rattle.transit_ipc.specs.Transit.{is_transit}
 use Rattle.transit_ipc.specs.declared.port.Message.{Message}
 use Rattle.transit_ipc.specs.declared.port.Port.{Port}
-use Rattle.transit_ipc.specs.declared.ports.Ports.{Ports}
-
--- a message of the port waits in the cache with this number
-abbrev pub waits_in : ℕ → Port → Bool
-waits_in cache p = list_any (λ (x : Message). x.cache.0 == cache) p.messages.items
-
--- a message waits in the cache with this number
-abbrev pub is_transit : List Port → ℕ → Bool
-is_transit ports cache = list_any (waits_in cache) ports
+use Rattle.transit_ipc.specs.declared.table.Ports.{Ports}
 
 -- these caches, the first of which has this number, but for those that are hidden
 abbrev pub but_for : (ℕ → Bool) → ℕ → List (Option Cache) → List (Option Cache)

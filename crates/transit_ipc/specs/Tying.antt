@@ -13,7 +13,7 @@ use Rattle.transit_ipc.specs.Seen.{memory_seen}
 use Rattle.transit_ipc.specs.declared.limits.TheConstants.{MOST_PORTS}
 use Rattle.transit_ipc.specs.declared.port.Message.{Message}
 use Rattle.transit_ipc.specs.declared.port.Port.{Port}
-use Rattle.transit_ipc.specs.declared.ports.Ports.{Ports}
+use Rattle.transit_ipc.specs.declared.table.Ports.{Ports}
 
 -- This message waits here: at this place of the port at that place.
 pub record Waits (ports : List Port) (i j : ℕ) (message : Message) : Type 0 where
@@ -28,12 +28,17 @@ pub record IsMessage (m : Machine) (message : Message) : Type 0 where
   pub some : 1 ≤ message.pages
   pub many : length cache.pages ≡ message.pages
 
+-- no two messages wait in one cache
+abbrev pub AreApart : List Port → Type 0
+AreApart ports =
+    (i j k l : ℕ) (x y : Message) → Waits ports i j x → Waits ports k l y
+    → x.cache.0 ≡ y.cache.0 → (i ≡ k) × (j ≡ l)
+
 -- Each message that waits has a cache for itself. What regions map are other caches; no segment
 -- names a cache, and each port has room for as many messages as may wait, and no more of them.
 pub record AreTied (m : Machine) (ports : List Port) : Type 0 where
   pub messages : (i j : ℕ) (x : Message) → Waits ports i j x → IsMessage m x
-  pub apart : (i j k l : ℕ) (x y : Message) → Waits ports i j x → Waits ports k l y
-      → x.cache.0 ≡ y.cache.0 → (i ≡ k) × (j ≡ l)
+  pub apart : AreApart ports
   pub mapped : (cache : ℕ) → IsTrue (is_mapped m cache)
       → IsSome (cache_of (memory_seen m ports) cache)
   pub temporary : (cache : ℕ) (c : Cache) → cache_of m cache ≡ Some c → c.segment ≡ None

@@ -13,6 +13,7 @@ pub mod laws;
 mod limits;
 mod port;
 mod ports;
+mod table;
 
 pub use limits::MOST_PORTS;
-pub use ports::Ports;
+pub use table::Ports;

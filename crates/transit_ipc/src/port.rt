@@ -1,7 +1,4 @@
 // A port, and the caches in which its messages wait.
-ghost use Rattle.std.specs.Prelude.{◌≡◌};
-ghost use Rattle.transit_ipc.specs.Seen.{waits_in};
-
 use std::collections::VecDeque;
 use vm_ids::CacheId;
 
@@ -17,20 +14,4 @@ pub(crate) struct Message {
 pub(crate) struct Port {
     pub(crate) depth: u32,
     pub(crate) messages: VecDeque<Message>,
-}
-
-impl Port {
-    // Whether a message waits in this cache.
-    pub(crate) fn waits_in(&self, cache: CacheId) -> bool
-        ensures { result ≡ waits_in cache.0 self.now }
-    {
-        let mut next = 0;
-        while let Some(message) = self.messages.get(next) {
-            if message.cache == cache {
-                return true;
-            }
-            next += 1;
-        }
-        false
-    }
 }

@@ -1,39 +1,36 @@
-// The ports, and the calls of them.
+// The calls of the ports.
 ghost use Rattle.std.specs.Prelude.{◌≡◌, ◌==◌, ◌⊎◌, ℕ, Option, Some, ◌≤◌, ◌<◌, ◌+◌, ◌^◌, length, slice_get, IfErr, IfOk, OnErr};
 ghost use Rattle.vm_ids.specs.declared.refusal.Refusal.TheVariants.{NoPort};
 ghost use Rattle.vm_ids.specs.Held.{Held, segments_of};
 ghost use Rattle.vm_model.specs.Answering.{answer_by};
 ghost use Rattle.vm_model.specs.Asking.{IsWellFormed};
+ghost use Rattle.vm_model.specs.declared.limits.TheConstants.{MOST_MADE};
 ghost use Rattle.gmi_calls.specs.Calling.{CallDone, Fits, MapperCall, done_by};
 ghost use Rattle.gmi_calls.specs.Managing.{meanings_of};
 ghost use Rattle.transit_ipc.specs.Calling.{IsMade, IsServed, PortCall, beginning, made_by};
 ghost use Rattle.transit_ipc.specs.Inner.{IsFirst, IsTaken, mapping_shown, received_span, sent_span, shown};
-ghost use Rattle.transit_ipc.specs.Seen.{is_transit, state_of};
-ghost use Rattle.transit_ipc.specs.Tying.{CanCall, IsBare};
+ghost use Rattle.transit_ipc.specs.Seen.{state_of};
+ghost use Rattle.transit_ipc.specs.Transit.{is_marked, is_transit};
+ghost use Rattle.transit_ipc.specs.Tying.{AreApart, CanCall, IsBare};
 
+use crate::Ports;
 use crate::limits::MOST_PORTS;
 use crate::port::{Message, Port};
 use gmi_calls::Gmi;
 use std::alloc::Global;
 use std::collections::VecDeque;
 use vm_ids::{
-    ActorId, Answer, CacheId, Command, Extent, Mapping, PageNo, PortCommand, PortId, Refusal,
-    RegionId, Reply, Span, Trouble,
+    ActorId, Answer, CacheId, Command, Extent, Mapping, NoMemory, PageNo, PortCommand, PortId,
+    Refusal, RegionId, Reply, Span, Trouble,
 };
+use vm_model::MOST_MADE;
 use vm_port::{Chooser, Mapper};
 
 // No cache has this number.
 const NO_CACHE: CacheId = CacheId(0);
 
-/// Message ports over a memory manager. A message that waits has a temporary cache of its own: it
-/// is copied there when it is sent, and moved out when it is received; the manager defers both.
-#[derive(Drop)]
-pub struct Ports<G> {
-    alloc: Global,
-    gmi: G,
-    // Ports stand at their number less 1.
-    ports: Vec<Port>,
-}
+// The numbers that a cache may have, and that of none.
+const CACHE_NUMBERS: usize = MOST_MADE as usize + 1;
 
 impl<G> Ports<G> {
     /// No ports. They can be called where the manager has no caches and no regions, and its room
@@ -51,6 +48,7 @@ impl<G> Ports<G> {
             alloc,
             gmi,
             ports: Vec::new(alloc),
+            transit: Vec::new(alloc),
         }
     }
 
@@ -58,7 +56,10 @@ impl<G> Ports<G> {
     pub fn hidden(&self, cache: CacheId) -> bool
         ensures { result ≡ is_transit self.now.ports.items cache.0 }
     {
-        is_transit(&self.ports, cache)
+        match self.transit.get(cache.0 as usize) {
+            Some(waits) => *waits,
+            None => false,
+        }
     }
 
     /// Makes a port at which so many messages may wait, and takes the room for them. Refused as
@@ -70,6 +71,7 @@ impl<G> Ports<G> {
         if made >= MOST_PORTS as usize {
             return Err(Trouble::Refused(Refusal::TooMany));
         }
+        lengthen(&mut self.transit)?;
         let messages = VecDeque::with_capacity(self.alloc, depth as usize)?;
         self.ports.reserve(1)?;
         self.ports.push_reserved(Port { depth, messages });
@@ -104,6 +106,7 @@ impl<G> Ports<G> {
         };
         match self.fill(message, extent, mapper, chooser) {
             Ok(()) => {
+                self.transit[cache.0 as usize] = true;
                 self.ports[place].messages.push_back_reserved(message);
                 Ok(())
             }
@@ -302,12 +305,15 @@ impl<G> Ports<G> {
 
     // The first message of a port is gone.
     fn take_first(&mut self, place: usize)
-        requires { place < length self.old.ports.items }
+        requires place { place < length self.old.ports.items }
+        requires apart { AreApart self.old.ports.items }
         ensures taken { (p : Port) → slice_get self.old.ports.items place ≡ Some p
             → IsTaken self.old.ports.items place p self.new.ports.items }
-        ensures same { self.new ≡ record self.old { ports = self.new.ports } }
+        ensures gmi { self.new.gmi ≡ self.old.gmi }
     {
-        let _ = self.ports[place].messages.pop_front();
+        if let Some(message) = self.ports[place].messages.pop_front() {
+            self.transit[message.cache.0 as usize] = false;
+        }
     }
 
     // Whether as many messages wait at a port as may.
@@ -321,14 +327,14 @@ impl<G> Ports<G> {
     }
 }
 
-// Whether a message waits in this cache.
-fn is_transit(ports: &[Port], cache: CacheId) -> bool
-    ensures { result ≡ is_transit ports.now cache.0 }
+// Gives the table a place for each number of a cache. No place is marked by it.
+fn lengthen(transit: &mut Vec<bool>) -> Result<(), NoMemory>
+    ensures marks { (n : ℕ) → is_marked transit.new.items n ≡ is_marked transit.old.items n }
+    ensures longer { length transit.old.items ≤ length transit.new.items }
+    ensures covered { IfOk result (λ done. MOST_MADE < length transit.new.items) }
 {
-    for port in ports {
-        if port.waits_in(cache) {
-            return true;
-        }
+    if transit.len() < CACHE_NUMBERS {
+        transit.resize(CACHE_NUMBERS, false)?;
     }
-    false
+    Ok(())
 }

@@ -4,7 +4,7 @@ use Rattle.vm_ids.specs.Held.{segments_of}
 use Rattle.vm_model.specs.Machine.{Machine}
 use Rattle.transit_ipc.proofs.Beginning.{able_bare}
 use Rattle.transit_ipc.proofs.Making.{all_seen}
-use Rattle.transit_ipc.proofs.ports.Ports.new.Goals as goal
+use Rattle.transit_ipc.proofs.table.Ports.new.Goals as goal
 
 pub returns-clause-begins : goal.returns-clause-begins
 returns-clause-begins g c = λ told.

@@ -1,6 +1,6 @@
 use Rattle.std.proofs.result.Match.{err_is}
 use Rattle.transit_ipc.proofs.Answered.{made_call}
-use Rattle.transit_ipc.proofs.ports.Ports.call.Goals as goal
+use Rattle.transit_ipc.proofs.table.Ports.call.Goals as goal
 
 pub returns-in_ok-port-in-Port : goal.returns-in_ok-port-in-Port
 returns-in_ok-port-in-Port g c = rw c.in-Port.is (made_call g.M.Mapper g.G.Gmi c.args.mapper.now c.args.self.now _ _ _ c.requires.can c.in_ok-port-in-Port.ensures)

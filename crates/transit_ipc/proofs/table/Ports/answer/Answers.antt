@@ -1,6 +1,7 @@
+use Rattle.std.proofs.Common.{refl}
 use Rattle.std.proofs.result.Match.{err_is}
 use Rattle.transit_ipc.proofs.Calls.{map_called, other_called}
-use Rattle.transit_ipc.proofs.ports.Ports.answer.Goals as goal
+use Rattle.transit_ipc.proofs.table.Ports.answer.Goals as goal
 
 pub returns-in_ok-region-in-Map : goal.returns-in_ok-region-in-Map
 returns-in_ok-region-in-Map g c =
@@ -12,4 +13,4 @@ returns-in_err-region-in-Map g c =
     (map_called g.M.Mapper g.G.Gmi c.args.self.now c.args.mapper.now c.requires.can c.map.new.self c.args.command.now c.in-Map.actor c.in-Map.mapping _ c.in-Map.is c.in_err-region-in-Map.ensures.call c.in_err-region-in-Map.ensures.same)
 
 pub returns-in_default : goal.returns-in_default
-returns-in_default g c = other_called g.M.Mapper g.G.Gmi c.args.self.now c.args.mapper.now c.requires.can c.answer.new.gmi c.answer.new.mapper c.args.command.now _ c.requires.served c.in_default.not-Map c.answer.ensures.call
+returns-in_default g c = other_called g.M.Mapper g.G.Gmi c.args.self.now c.args.mapper.now c.requires.can _ refl c.answer.new.mapper c.args.command.now _ c.requires.served c.in_default.not-Map c.answer.ensures.call

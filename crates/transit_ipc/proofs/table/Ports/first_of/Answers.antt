@@ -4,7 +4,7 @@ use Rattle.std.proofs.lemmas.Option.{get_or_from_slice_get}
 use Rattle.vm_model.proofs.Parts.ListParts.{zero_or}
 use Rattle.transit_ipc.specs.declared.port.Message.{Message}
 use Rattle.transit_ipc.specs.declared.port.Port.{Port}
-use Rattle.transit_ipc.proofs.ports.Ports.first_of.Goals as goal
+use Rattle.transit_ipc.proofs.table.Ports.first_of.Goals as goal
 
 no_length : (xs : List Message) → length xs ≡ 0 → xs ≡ []
 no_length [] e = refl
