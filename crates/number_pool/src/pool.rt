@@ -9,20 +9,21 @@ use vm_ids::NoMemory;
 /// The numbers below a bound, each free or taken.
 #[derive(Drop)]
 pub struct NumberPool {
+    bound: u32,
+    // Of each number that was taken before whether it is taken now. The numbers behind these were
+    // never taken. There is room for each number below the bound.
     taken: Vec<bool>,
     // The free numbers that were taken before, and room for each number below the bound.
     returned: Vec<u32>,
-    // The numbers from here on were never taken.
-    fresh: u32,
 }
 
 impl Model for NumberPool {
     ghost use Rattle.std.specs.Prelude.{Bool, List};
-    ghost use Rattle.number_pool.specs.Layout.{IsSound};
+    ghost use Rattle.number_pool.specs.Layout.{numbers_seen, IsSound};
 
     ghost Value = { List Bool };
 
-    ghost view = { λ p. p.taken.items };
+    ghost view = { numbers_seen };
 
     ghost invariant = { IsSound };
 }
@@ -33,9 +34,9 @@ impl NumberPool {
         ensures { result ≡ [] }
     {
         NumberPool {
+            bound: 0,
             taken: Vec::new(alloc),
             returned: Vec::new(alloc),
-            fresh: 0,
         }
     }
 
@@ -43,14 +44,14 @@ impl NumberPool {
     pub fn bound(&self) -> u32
         ensures { result ≡ length self.now }
     {
-        self.taken.len() as u32
+        self.bound
     }
 
     /// How many numbers are taken.
     pub fn taken(&self) -> u32
         ensures { result ≡ taken_count self.now }
     {
-        self.fresh - self.returned.len() as u32
+        (self.taken.len() - self.returned.len()) as u32
     }
 
     /// Whether a number is taken.
@@ -58,7 +59,8 @@ impl NumberPool {
         requires { number < length self.now }
         ensures { result ≡ is_taken self.now number }
     {
-        self.taken[number as usize]
+        let at = number as usize;
+        at < self.taken.len() && self.taken[at]
     }
 
     /// Makes the bound at least `total`. The numbers that were there stay as they are, and the new
@@ -70,12 +72,12 @@ impl NumberPool {
         ensures err { OnErr result (self.new ≡ self.old) }
         ensures enough { total ≤ length self.old → IsOk result }
     {
-        let total = total as usize;
-        if total <= self.taken.len() {
+        if total <= self.bound {
             return Ok(());
         }
-        self.returned.reserve(total - self.returned.len())?;
-        self.taken.resize(total, false)?;
+        self.taken.reserve(total as usize - self.taken.len())?;
+        self.returned.reserve(total as usize - self.returned.len())?;
+        self.bound = total;
         Ok(())
     }
 
@@ -90,12 +92,11 @@ impl NumberPool {
             self.taken[number as usize] = true;
             return Some(number);
         }
-        if self.fresh as usize == self.taken.len() {
+        let number = self.taken.len() as u32;
+        if number == self.bound {
             return None;
         }
-        let number = self.fresh;
-        self.fresh += 1;
-        self.taken[number as usize] = true;
+        self.taken.push_reserved(true);
         Some(number)
     }
 

@@ -1,5 +1,5 @@
 // The machine that copies at once, over a mapper of its own.
-ghost use Rattle.std.specs.Prelude.{◌≡◌, ◌≤◌, Some};
+ghost use Rattle.std.specs.Prelude.{◌≡◌, ◌≤◌, ◌^◌, Some};
 ghost use Rattle.vm_model.specs.declared.limits.TheConstants.{LIVE_PAGES};
 ghost use Rattle.vm_model.specs.Asking.{IsWellFormed};
 ghost use Rattle.vm_model.specs.Machine.{Machine, live_pages};
@@ -34,9 +34,11 @@ impl Model for Plain {
 }
 
 impl Plain {
-    /// The machine that begins, over this mapper. It locks pages as so many page frames allow.
+    /// The machine that begins, over this mapper, whose pages have as many bytes as its own, at
+    /// most 65,536. It locks pages as so many page frames allow.
     pub fn new(alloc: Global, frames: u32, page_bytes: u32, mapper: MemoryMapper) -> Plain
-        requires { mapper.page_bytes ≡ page_bytes }
+        requires most { page_bytes ≤ 2 ^ 16 }
+        requires same { mapper.page_bytes ≡ page_bytes }
     {
         Plain {
             machine: EagerMachine::new(alloc, frames, page_bytes),

@@ -1,14 +1,13 @@
 // Calls of a mapper that fail one after the other.
 ghost use Rattle.std.specs.Prelude.{◌≡◌, map};
-ghost use Rattle.vm_ids.specs.declared.TheConstants.{PAGE};
 ghost use Rattle.replay.specs.Commanding.{page_size_of};
 
 use crate::mappers::images;
 use crate::order::said;
-use crate::written::{text, written};
+use crate::writing::{text, written};
 use replay::Status;
 use std::alloc::Global;
-use vm_ids::NoMemory;
+use vm_ids::{NoMemory, PAGE};
 use vm_port::{CallKind, CallNo, MemorySink};
 
 // The line that tells a fault, counted from 0.

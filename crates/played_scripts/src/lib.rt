@@ -1,7 +1,7 @@
 //! Scripts that the program's one call plays over mappers in memory: what the tests of `replay`
 //! have in common. It has no tests of its own and no program stands on it.
 //!
-//! The mappers (`mappers`), what a run of a script writes (`written`), the order in which it was
+//! The mappers (`mappers`), what a run of a script writes (`writing`), the order in which it was
 //! answered (`order`), drawn scripts of three actors (`drawn`), and calls of a mapper that fail one
 //! after the other (`faults`).
 #![tactic(auto)]
@@ -10,10 +10,10 @@ mod drawn;
 mod faults;
 mod mappers;
 mod order;
-mod written;
+mod writing;
 
 pub use drawn::{Touched, drawn_script};
 pub use faults::are_answered_beside_faults;
 pub use mappers::{images, one_segment, swap_area, two_pages};
 pub use order::{as_answered, number_of, said};
-pub use written::{run_cut, run_source, text, written, written_by};
+pub use writing::{run_cut, run_source, text, written, written_by};

@@ -1,4 +1,4 @@
--- Regions in order: which one holds an address, and where a new one goes.
+-- Regions in order: which one holds an address, where a new one goes, and whether it fits.
 use Rattle.std.proofs.Common.{◌≡◌, ◌≢◌, ℕ, zero, suc, ◌+◌, ◌-◌, ◌*◌, ◌%◌, ◌==◌, ◌<◌, ◌≤◌, Bool, true, false, cond, not, filter, List, [], ◌∷◌, ◌++◌, length, get_or, map, Option, Some, None, refl, sym, ap, ◌∙◌, subst, arith, rules}
 use Rattle.std.specs.Prelude.{nat_lt, insert, ◌||◌}
 use Rattle.std.specs.List.{list_any}
@@ -117,7 +117,7 @@ stop b r x xs e = ap (λ (c : Bool). cond c (r ∷ x ∷ xs) (x ∷ insert_regio
 less : (x y : ℕ) → x < y → nat_lt x y ≡ true
 less x y h = grind (arith, nat_tests)
 
-not_less : (x y : ℕ) → y ≤ x → nat_lt x y ≡ false
+pub not_less : (x y : ℕ) → y ≤ x → nat_lt x y ≡ false
 not_less x y h = grind (arith, nat_tests)
 
 pub goes_there : (r : Region) (rs : List Region) (k : ℕ) → IsCountUpTo (region_seen r).start rs k → insert_region (region_seen r) (map region_seen rs) ≡ map region_seen (insert rs k r)
@@ -175,6 +175,81 @@ pub created : (b : ℕ) (r : Region) (x : model.Region) (rs : List Region) (k : 
     → AreInOrder b 0 (map region_seen (insert rs k r))
 created b r x rs k one is count formed fits o =
     subst (AreInOrder b 0) (sym (put_there r x rs k is count)) (insert_keeps b 0 x (map region_seen rs) one (omega arith) formed fits o)
+
+-- Which ones share an address with so many pages
+
+is_before : (b a p : ℕ) (r : model.Region) → end_of b r ≤ a → overlaps b a p r ≡ false
+is_before b a p r above = grind (arith, nat_tests)
+
+is_behind : (b a p : ℕ) (r : model.Region) → a + b * p ≤ r.start → overlaps b a p r ≡ false
+is_behind b a p r far = grind (arith, nat_tests)
+
+any_behind : (x y : Bool) → y ≡ true → (x || y) ≡ true
+any_behind true y e = refl
+any_behind false y e = e
+
+pub any_at : (p : model.Region → Bool) (rs : List Region) (k : ℕ) (d : Region) → k < length rs → p (region_seen (get_or rs k d)) ≡ true → list_any p (map region_seen rs) ≡ true
+any_at p [] k d within e = absurd (omega (arith, within))
+any_at p (r ∷ rs) zero d within e = ap (λ (x : Bool). x || list_any p (map region_seen rs)) e
+any_at p (r ∷ rs) (suc k) d within e =
+    any_behind (p (region_seen r)) (list_any p (map region_seen rs)) (any_at p rs k d (omega (arith, within)) e)
+
+goes_by : (p : model.Region → Bool) (r : model.Region) (rs : model.Actor) → p r ≡ false → list_any p (r ∷ rs) ≡ list_any p rs
+goes_by p r rs e = ap (λ (x : Bool). x || list_any p rs) e
+
+none_far : (b a p from : ℕ) (rs : model.Actor) → AreInOrder b from rs → a + b * p ≤ from → list_any (overlaps b a p) rs ≡ false
+none_far b a p from [] o far = refl
+none_far b a p from (r ∷ rs) o far =
+    let low = o.0 in
+    goes_by (overlaps b a p) r rs (is_behind b a p r (omega (arith, low, far)))
+    ∙ none_far b a p (end_of b r) rs o.2 (omega (arith, low, far))
+
+-- where each starts behind the address and the first doesn't, none does
+none_behind : (b a p from : ℕ) (rs : List Region) (d : Region) → AreInOrder b from (map region_seen rs) → IsCountUpTo a rs 0
+    → (0 < length rs → overlaps b a p (region_seen (get_or rs 0 d)) ≡ false) → list_any (overlaps b a p) (map region_seen rs) ≡ false
+none_behind b a p from [] d o c first = refl
+none_behind b a p from (r ∷ rs) d o c first =
+    let x = region_seen r in
+    let apart : overlaps b a p x ≡ false = first (omega arith) in
+    let far : a + b * p ≤ x.start = before_it a (b * p) x.start (b * x.pages) apart (c.behind 0 r (omega arith) (omega arith)) in
+    goes_by (overlaps b a p) x (map region_seen rs) apart
+    ∙ none_far b a p (end_of b x) (map region_seen rs) o.2 (omega (arith, far))
+
+none_around : (b a p from : ℕ) (rs : List Region) (k : ℕ) (d : Region) → AreInOrder b from (map region_seen rs) → IsCountUpTo a rs (suc k)
+    → overlaps b a p (region_seen (get_or rs k d)) ≡ false → (suc k < length rs → overlaps b a p (region_seen (get_or rs (suc k) d)) ≡ false)
+    → list_any (overlaps b a p) (map region_seen rs) ≡ false
+none_around b a p from [] k d o c last next = absurd (omega (arith, c.within))
+none_around b a p from (r ∷ rs) zero d o c last next =
+    goes_by (overlaps b a p) (region_seen r) (map region_seen rs) last
+    ∙ none_behind b a p (end_of b (region_seen r)) rs d o.2 (tail_count a r rs 0 c) (λ w. next (omega (arith, w)))
+none_around b a p from (r ∷ []) (suc k) d o c last next = absurd (omega (arith, c.within))
+none_around b a p from (r ∷ s ∷ rs) (suc k) d o c last next =
+    let behind : end_of b (region_seen r) ≤ (region_seen s).start = o.2.0 in
+    let before : (region_seen s).start ≤ a = c.before 1 s (omega arith) in
+    goes_by (overlaps b a p) (region_seen r) (map region_seen (s ∷ rs)) (is_before b a p (region_seen r) (omega (arith, behind, before)))
+    ∙ none_around b a p (end_of b (region_seen r)) (s ∷ rs) k d o.2 (tail_count a r (s ∷ rs) (suc k) c) last (λ w. next (omega (arith, w)))
+
+-- where neither the last that starts up to the address nor the first behind it does, none does
+pub none_overlaps : (b a p : ℕ) (rs : List Region) (n : ℕ) (d : Region) → AreInOrder b 0 (map region_seen rs) → IsCountUpTo a rs n
+    → (n ≢ 0 → overlaps b a p (region_seen (get_or rs (n - 1) d)) ≡ false) → (n < length rs → overlaps b a p (region_seen (get_or rs n d)) ≡ false)
+    → list_any (overlaps b a p) (map region_seen rs) ≡ false
+none_overlaps b a p rs zero d o c last next = none_behind b a p 0 rs d o c next
+none_overlaps b a p rs (suc k) d o c last next =
+    let one_less : suc k - 1 ≡ k = omega arith in
+    let apart = subst (λ (j : ℕ). overlaps b a p (region_seen (get_or rs j d)) ≡ false) one_less (last (omega arith)) in
+    none_around b a p 0 rs k d o c apart next
+
+as_one : (x y : Bool) → (x ≡ true → y ≡ true) → (x ≡ false → y ≡ false) → x ≡ y
+as_one true y hit miss = sym (hit refl)
+as_one false y hit miss = sym (miss refl)
+
+-- where the last that starts up to the address doesn't, the first behind it decides
+pub next_decides : (b a p : ℕ) (rs : List Region) (n : ℕ) (d : Region) → AreInOrder b 0 (map region_seen rs) → IsCountUpTo a rs n
+    → (n ≢ 0 → overlaps b a p (region_seen (get_or rs (n - 1) d)) ≡ false) → n < length rs
+    → overlaps b a p (region_seen (get_or rs n d)) ≡ list_any (overlaps b a p) (map region_seen rs)
+next_decides b a p rs n d o c last within =
+    as_one (overlaps b a p (region_seen (get_or rs n d))) (list_any (overlaps b a p) (map region_seen rs))
+    (any_at (overlaps b a p) rs n d within) (λ apart. none_overlaps b a p rs n d o c last (λ w. apart))
 
 -- What goes, and what becomes something else
 

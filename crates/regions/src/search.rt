@@ -39,18 +39,18 @@ pub(crate) fn region_holding(regions: &[Region], page_bytes: u64, address: u64) 
     }
 }
 
-// Whether a region shares an address with so many pages at this one.
+// Whether a region shares an address with so many pages at this one. Of those that start at it or
+// before, only the last can, and of those behind, the first does where any does.
 pub(crate) fn overlaps_any(regions: &[Region], page_bytes: u64, address: u64, pages: u32) -> bool
     requires page { page_bytes ≤ 2 ^ 16 }
     requires order { AreInOrder page_bytes 0 (map region_seen regions.now) }
     ensures { result ≡ list_any (overlaps page_bytes address pages) (map region_seen regions.now) }
 {
-    for region in regions {
-        if region.overlaps(page_bytes, address, pages) {
-            return true;
-        }
+    let count = count_up_to(regions, page_bytes, address);
+    if count != 0 && regions[count - 1].overlaps(page_bytes, address, pages) {
+        return true;
     }
-    false
+    count < regions.len() && regions[count].overlaps(page_bytes, address, pages)
 }
 
 // Whether a region maps the cache.
