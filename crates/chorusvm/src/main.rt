@@ -3,31 +3,20 @@
 //!
 //! It is the top of the layers, and has no model of its own: what it answers is said by the
 //! contract of the one call that it makes, `replay::run`. It makes it where standard output is
-//! open. Here stand only the adapters over the real streams and over the files of a folder, and the
-//! messages on standard error. The words name the folder, which is the working folder where they
-//! don't, and the size of a page. In the folder the file `seg.N` is segment N, and the swap area is
-//! made there.
+//! open. Here stand only the words that are given, the stack that is taken, and what is told of a run
+//! that isn't done; the streams and the files of a folder are put under the call by their adapters
+//! (`host_adapters`). The words name the folder, which is the working folder where they don't, and
+//! the size of a page. In the folder the file `seg.N` is segment N, and the swap area is made there.
 #![tactic(auto)]
 
 mod fault;
-mod file_mapper;
-mod folder;
-mod message;
-mod opened;
-mod sink;
-mod source;
 mod stack;
-mod swap_area;
 #[cfg(test)]
 mod tests;
-mod waiting;
 
 use fault::Fault;
-use file_mapper::FileMapper;
-use message::tell;
+use host_adapters::{FileMapper, StreamSink, StreamSource, tell};
 use replay::{Status, folder, page_size, run};
-use sink::StreamSink;
-use source::StreamSource;
 use stack::take_stack;
 use std::env;
 use std::io::ErrorKind;

@@ -1,8 +1,8 @@
 // A push that a full disk cuts off in the middle of a page.
 ghost use Rattle.std.specs.Prelude.{Some, None};
 
-use super::folders::{new_folder, path_in};
-use crate::file_mapper::FileMapper;
+use crate::folders::{new_folder, path_in};
+use host_adapters::FileMapper;
 use replay::{Status, run};
 use std::{fs, io};
 use vm_ids::{PAGE, PageNo, SegId, SlotId};

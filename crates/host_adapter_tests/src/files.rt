@@ -1,6 +1,6 @@
 // Segments and a swap area in files.
-use super::folders::{mapper_over, new_folder, path_in};
-use crate::file_mapper::FileMapper;
+use crate::folders::{mapper_over, new_folder, path_in};
+use host_adapters::FileMapper;
 use replay::{Status, run};
 use std::os::unix::fs::symlink;
 use std::{fs, io};

@@ -1,10 +1,7 @@
-// The adapters over streams, and the messages.
+// The adapters over streams.
 ghost use Rattle.std.specs.Prelude.{◌≤◌, IfOk};
 
-use crate::fault::Fault;
-use crate::sink::StreamSink;
-use crate::source::StreamSource;
-use replay::Status;
+use host_adapters::{StreamSink, StreamSource};
 use std::io;
 use std::io::{ErrorKind, Read, Write};
 use vm_port::{Failed, Sink, Source};
@@ -71,32 +68,5 @@ fn streams_are_sources_and_sinks(rt: HostRuntime) -> io::Result<()> {
     assert_eq!(&rt; full.write(b"o"), Err(Failed));
     let mut slow = StreamSink::new(Slow { calls: 0 }, &rt);
     assert_eq!(&rt; slow.write(b"hello"), Ok(5));
-    Ok(())
-}
-
-#[test]
-fn faults_have_a_message(rt: HostRuntime) -> Result<(), std::alloc::AllocError> {
-    for (status, code, message) in [
-        (
-            Status::Usage,
-            1,
-            "usage: chorusvm run --frames F [--page B] [--segments DIR] | generate N L | trial N L --frames F [--segments DIR] | mix --frames F [--segments DIR] | ipc --frames F [--segments DIR] | keep --limit K --frames F [--segments DIR] | flat --frames F [--segments DIR]",
-        ),
-        (Status::SourceFault, 2, "source fault"),
-        (Status::SinkFault, 3, "sink fault"),
-        (Status::NoMemory, 4, "no memory"),
-        (Status::TooLong, 5, "script too long"),
-    ] {
-        assert_eq!(&rt; status.code(), code);
-        match Fault::of(status) {
-            Some(fault) => {
-                let text = format!(in rt.alloc(); "{fault}")?;
-                assert_eq!(&rt; text.as_str(), message);
-            }
-            None => panic!(&rt; "no message"),
-        }
-    }
-    assert_eq!(&rt; Status::Done.code(), 0);
-    assert!(&rt; Fault::of(Status::Done).is_none());
     Ok(())
 }

@@ -1,12 +1,12 @@
 // Folders for the files of one test.
 ghost use Rattle.std.specs.Prelude.{◌≡◌, IfOk};
 
-use crate::file_mapper::FileMapper;
+use host_adapters::FileMapper;
 use std::io::ErrorKind;
 use std::{env, fs, io, process};
 
 // A new folder for the files of one test of this process.
-pub(super) fn new_folder(rt: &HostRuntime, test: &str) -> io::Result<String> {
+pub(crate) fn new_folder(rt: &HostRuntime, test: &str) -> io::Result<String> {
     let name = format!(in rt.alloc(); "chorusvm_{test}_{}", process::id(rt.process()))?;
     let folder = env::temp_dir(rt)?
         .join(rt.alloc(), name.as_str())?
@@ -15,12 +15,12 @@ pub(super) fn new_folder(rt: &HostRuntime, test: &str) -> io::Result<String> {
     Ok(folder)
 }
 
-pub(super) fn path_in(rt: &HostRuntime, folder: &str, name: &str) -> io::Result<String> {
+pub(crate) fn path_in(rt: &HostRuntime, folder: &str, name: &str) -> io::Result<String> {
     Ok(format!(in rt.alloc(); "{folder}/{name}")?)
 }
 
 // A mapper over the files of a folder, with pages of 512 bytes.
-pub(super) fn mapper_over<'a>(rt: &'a HostRuntime, folder: &str) -> io::Result<FileMapper<'a>>
+pub(crate) fn mapper_over<'a>(rt: &'a HostRuntime, folder: &str) -> io::Result<FileMapper<'a>>
     ensures { IfOk result (λ m. m.page_bytes ≡ 512) }
 {
     match FileMapper::new(rt, rt.alloc(), folder, 512) {

@@ -1,0 +1,13 @@
+//! Tests of the adapters to the host, by values from outside: streams that fail or have to wait
+//! (`streams`), a mapper over real files (`files`), and a push that a full disk cuts off
+//! (`filling`), in folders of their own (`folders`).
+#![tactic(auto)]
+
+#[cfg(test)]
+mod files;
+#[cfg(test)]
+mod filling;
+#[cfg(test)]
+mod folders;
+#[cfg(test)]
+mod streams;
