@@ -11,8 +11,9 @@ ghost use Rattle.vm_model.specs.Place.{place_of_actor};
 ghost use Rattle.contexts.specs.Actors.{has_region, holder_of, is_full, next_region, region_count, split_refusal, times_made, with_region, with_split};
 ghost use Rattle.contexts.specs.Layout.{owner_of, times_listed};
 
+use crate::counts::Counts;
 use crate::spaces::{
-    add_region, lock_region, maps_any, protect_region, remove_region, split_region,
+    add_region, forget_regions, lock_region, protect_region, remove_region, split_region,
 };
 use regions::{Place, RegionMap};
 use std::alloc::Global;
@@ -63,6 +64,8 @@ pub struct Contexts {
     living: Vec<ActorId>,
     // The actor of region n stands at place n less 1, also when the region is gone.
     owners: Vec<ActorId>,
+    // How many regions of living actors map each cache.
+    mapped: Counts,
 }
 
 impl Model for Contexts {
@@ -92,6 +95,7 @@ impl Contexts {
             actors: Vec::new(alloc),
             living: Vec::new(alloc),
             owners: Vec::new(alloc),
+            mapped: Counts::new(alloc),
         }
     }
 
@@ -164,6 +168,7 @@ impl Contexts {
           actors = slice_set self.old.actors (actor.0 - 1) None;
         } }
     {
+        forget_regions(&mut self.mapped, &self.actors, actor);
         self.actors[actor.0 as usize - 1] = None;
         strike(&mut self.living, actor);
     }
@@ -182,7 +187,9 @@ impl Contexts {
     {
         let region = self.next_region();
         self.owners.reserve(1)?;
+        self.mapped.reserve(mapping.extent.cache)?;
         add_region(&mut self.actors, actor, region, mapping)?;
+        self.mapped.add(mapping.extent.cache);
         self.owners.push_reserved(actor);
         Ok(region)
     }
@@ -231,6 +238,7 @@ impl Contexts {
         let fresh = self.next_region();
         self.owners.reserve(1)?;
         split_region(&mut self.actors, status.actor, region, pages, fresh)?;
+        self.mapped.add(status.mapping.extent.cache);
         self.owners.push_reserved(status.actor);
         Ok(fresh)
     }
@@ -277,10 +285,11 @@ impl Contexts {
         } }
         ensures none { result ≡ false → self.new ≡ self.old }
     {
-        let Some(actor) = self.actor_of(region) else {
+        let Some(status) = self.status(region) else {
             return false;
         };
-        remove_region(&mut self.actors, actor, region);
+        self.mapped.take(status.mapping.extent.cache);
+        remove_region(&mut self.actors, status.actor, region);
         true
     }
 
@@ -330,7 +339,7 @@ impl Contexts {
     pub fn maps(&self, cache: CacheId) -> bool
         ensures { result ≡ list_any (maps_in cache.0) self.now.actors }
     {
-        maps_any(&self.actors, &self.living, cache)
+        self.mapped.has(cache)
     }
 
     /// The place of an access of `length` bytes of an actor. `NoActor` where it isn't alive, else

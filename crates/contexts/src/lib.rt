@@ -2,7 +2,8 @@
 //!
 //! Actors are numbered from 1 in the order of making, and so are regions; no number comes again. A
 //! list from the numbers of regions to their actors finds the actor of a region without a search
-//! among the actors. Only `make`, `map` and `split` take memory, for one actor or one region more,
+//! among the actors, and a list from the numbers of caches to how many regions map each says whether
+//! one is mapped. Only `make`, `map` and `split` take memory, for one actor or one region more,
 //! and where there is none everything stays as it was.
 //!
 //! The model is what the plain machine (`vm_model`) has of actors: the regions of each, or none
@@ -13,6 +14,7 @@
 #![tactic(auto)]
 
 mod contexts;
+mod counts;
 mod maps;
 mod spaces;
 
