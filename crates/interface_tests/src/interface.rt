@@ -1,23 +1,21 @@
-// Calls through the interface on their happy path, and refusals in their order: the commands of the
-// tests, and what they come to.
-ghost use Rattle.std.specs.Prelude.{◌≡◌, ◌≤◌, ◌+◌, ◌*◌, ◌^◌, IfOk};
+// Calls through the interface, made of the machine that copies at once: the row of the least success,
+// and accesses as they are issued and delivered.
+ghost use Rattle.std.specs.Prelude.{◌≤◌, ◌+◌, ◌*◌, ◌^◌, IfOk};
 ghost use Rattle.vm_ids.specs.Accessing.{command_for};
 ghost use Rattle.vm_model.specs.declared.limits.TheConstants.{LIVE_PAGES};
 ghost use Rattle.vm_model.specs.Asking.{IsWellFormed};
 ghost use Rattle.vm_model.specs.Machine.{live_pages};
 ghost use Rattle.gmi_calls.specs.Calling.{Fits};
 
-mod accesses;
-mod mapped;
-mod segments;
-
 use gmi_calls::{Gmi, answer};
+use std::process::Abort;
 use std::test::Fail;
 use vm_ids::{
-    Access, ActorId, Answer, CacheId, Command, Counts, Extent, FaultAt, Mapping, PageNo, Piece,
-    Prot, Refusal, RegionId, RegionStatus, Reply, Span, Trouble,
+    Access, ActorId, Answer, CacheId, Command, Extent, Mapping, PageNo, Piece, Prot, Refusal,
+    RegionId, Reply, Span, Trouble,
 };
-use vm_port::{Chooser, Mapper};
+use vm_model::EagerMachine;
+use vm_port::{Chooser, Fifo, Mapper, MemoryMapper};
 
 // What an answer comes to.
 #[derive(Clone, Copy, Debug, PartialEq, Eq)]
@@ -27,12 +25,7 @@ enum Shown {
     Cache(u32),
     Region(u32),
     Two(u8, u8),
-    Status(RegionStatus),
-    // How many nodes a chain has.
-    Chain(usize),
-    Stat(Counts),
     Refused(Refusal),
-    Fault(FaultAt),
     Other,
 }
 
@@ -43,11 +36,7 @@ fn seen(answer: Answer) -> Shown {
         Ok(Reply::Cache(CacheId(n))) => Shown::Cache(n),
         Ok(Reply::Region(RegionId(n))) => Shown::Region(n),
         Ok(Reply::Bytes(piece)) => two(piece.as_slice()),
-        Ok(Reply::Status(status)) => Shown::Status(status),
         Err(Trouble::Refused(refusal)) => Shown::Refused(refusal),
-        Err(Trouble::Mapper(at)) => Shown::Fault(at),
-        Ok(Reply::Chain(chain)) => Shown::Chain(chain.as_slice().len()),
-        Ok(Reply::Stat(counts)) => Shown::Stat(counts),
         _ => Shown::Other,
     }
 }
@@ -60,49 +49,34 @@ fn two(bytes: &[u8]) -> Shown {
     }
 }
 
-// Some pages of a cache, from page 0 on.
-fn extent(cache: u32, pages: u32) -> Extent
-    requires { 1 ≤ pages }
-    ensures { 1 ≤ result.pages }
-{
-    Extent {
-        cache: CacheId(cache),
-        first: PageNo(0),
-        pages,
-    }
-}
-
-// A copy from page 0 on.
-fn copy(from: u32, to: u32, to_page: u32, pages: u32) -> Command
-    requires { 1 ≤ pages }
+// A copy of the page of cache 1 to cache 2.
+fn copy() -> Command
     ensures { IsWellFormed result }
 {
     Command::Copy(Span {
-        from: CacheId(from),
+        from: CacheId(1),
         from_page: PageNo(0),
-        to: CacheId(to),
-        to_page: PageNo(to_page),
-        pages,
+        to: CacheId(2),
+        to_page: PageNo(0),
+        pages: 1,
     })
 }
 
-// A mapping of one page of cache 1 into actor 1, for reading alone or for writing too.
-fn map(first: u32, address: u64, write: bool) -> Command
+// The page of cache 1 mapped into actor 1, for writing.
+fn map() -> Command
     ensures { IsWellFormed result }
 {
     let extent = Extent {
         cache: CacheId(1),
-        first: PageNo(first),
+        first: PageNo(0),
         pages: 1,
     };
-    Command::Map(
-        ActorId(1),
-        Mapping {
-            extent,
-            address,
-            prot: Prot { write },
-        },
-    )
+    let mapping = Mapping {
+        extent,
+        address: 0x10000,
+        prot: Prot { write: true },
+    };
+    Command::Map(ActorId(1), mapping)
 }
 
 // Two bytes at an address of an actor.
@@ -177,4 +151,94 @@ fn deliver<G: Gmi<M, C>, M: Mapper, C: Chooser>(
 {
     let delivered = gmi.deliver(actor, access, mapper, chooser);
     (seen(delivered.answer), delivered.came)
+}
+
+// The row of the least success, through the bound.
+fn least_success<G: Gmi<M, C>, M: Mapper, C: Chooser>(
+    rt: &impl Abort,
+    gmi: &mut G,
+    mapper: &mut M,
+    chooser: &mut C,
+) -> Result<(), Fail>
+    requires valid { G.valid gmi.old (M.held mapper.old) }
+    requires made { G.made gmi.old ≤ 2 ^ 61 }
+    requires fits { Fits (M.page_bytes mapper.old) (G.machine gmi.old (M.held mapper.old)) }
+    requires live { live_pages (G.machine gmi.old (M.held mapper.old)) ≤ LIVE_PAGES }
+{
+    assert_eq!(rt;
+        ask(gmi, &Command::MakeActor, mapper, chooser),
+        Shown::Actor(1)
+    );
+    assert_eq!(rt;
+        ask(gmi, &Command::MakeTemp(1), mapper, chooser),
+        Shown::Cache(1)
+    );
+    assert_eq!(rt;
+        ask(gmi, &map(), mapper, chooser),
+        Shown::Region(1)
+    );
+    assert_eq!(rt; ask(gmi, &store(0x10000)?, mapper, chooser), Shown::Done);
+    assert_eq!(rt;
+        ask(gmi, &load(1, 0x10000), mapper, chooser),
+        Shown::Two(0x0a, 0x0b)
+    );
+    assert_eq!(rt;
+        ask(gmi, &Command::MakeTemp(1), mapper, chooser),
+        Shown::Cache(2)
+    );
+    assert_eq!(rt; ask(gmi, &copy(), mapper, chooser), Shown::Done);
+    Ok(())
+}
+
+#[test]
+fn the_plain_program_succeeds(rt: HostRuntime) -> Result<(), Fail> {
+    let mut gmi = EagerMachine::new(rt.alloc(), 3, 4096);
+    let mut mapper = MemoryMapper::new(rt.alloc(), &[], &[], 0, &[], 4096)?;
+    least_success(&rt, &mut gmi, &mut mapper, &mut Fifo::new())
+}
+
+// Each access of the plain program is answered at once, and its page is always there.
+#[test]
+fn accesses_are_issued_and_delivered(rt: HostRuntime) -> Result<(), Fail> {
+    let mut gmi = EagerMachine::new(rt.alloc(), 3, 4096);
+    let mut mapper = MemoryMapper::new(rt.alloc(), &[], &[], 0, &[], 4096)?;
+    let (gmi, mapper, chooser) = (&mut gmi, &mut mapper, &mut Fifo::new());
+    assert_eq!(rt;
+        ask(gmi, &Command::MakeActor, mapper, chooser),
+        Shown::Actor(1)
+    );
+    assert_eq!(rt;
+        ask(gmi, &Command::MakeTemp(1), mapper, chooser),
+        Shown::Cache(1)
+    );
+    assert_eq!(rt;
+        ask(gmi, &map(), mapper, chooser),
+        Shown::Region(1)
+    );
+    let piece = Piece::new(&[0x0a, 0x0b]).ok_or("no piece")?;
+    let store = Access::Store {
+        address: 0x10000,
+        piece,
+    };
+    let load = Access::Load {
+        address: 0x10000,
+        length: 2,
+    };
+    let beside = Access::Load {
+        address: 0x20000,
+        length: 2,
+    };
+    assert_eq!(rt;
+        issue(gmi, ActorId(1), &store, mapper, chooser),
+        Some(Shown::Done)
+    );
+    assert_eq!(rt;
+        deliver(gmi, ActorId(1), &load, mapper, chooser),
+        (Shown::Two(0x0a, 0x0b), true)
+    );
+    assert_eq!(rt;
+        issue(gmi, ActorId(1), &beside, mapper, chooser),
+        Some(Shown::Refused(Refusal::BadAddress))
+    );
+    Ok(())
 }

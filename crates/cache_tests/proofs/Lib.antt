@@ -1,2 +1,0 @@
--- What is known of some nodes and of some pages.
-pub mod Known

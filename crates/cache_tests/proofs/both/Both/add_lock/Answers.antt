@@ -1,5 +1,0 @@
-use Rattle.cache_tests.proofs.Known.Same.{known-locks}
-use Rattle.cache_tests.proofs.both.Both.add_lock.Goals as goal
-
-pub compare-requires : goal.compare-requires
-compare-requires g c = known-locks _ _ _ _ c.requires _ _ _ c.add_lock.ensures.changed
