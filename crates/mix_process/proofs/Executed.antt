@@ -41,6 +41,7 @@ use Rattle.mix_process.specs.declared.process.Process.{Process}
 use Rattle.mix_process.proofs.Back.{one_end}
 use Rattle.mix_process.proofs.Executing.{image_filled, process_filled, row_large, segments_for, step_bad, step_fault, step_good, step_lacks, step_many, step_memory, step_nothing, with_image_filled}
 use Rattle.mix_process.proofs.Forking.{seen_kept}
+use Rattle.mix_process.proofs.Having.{had}
 use Rattle.mix_process.proofs.Imaging.{image_seen_for, image_there, map_snoc}
 use Rattle.mix_process.proofs.Inheriting.{set_last}
 use Rattle.mix_process.proofs.Seeing.{pages_there}
@@ -200,6 +201,7 @@ module _ {Manager X Chooser : Type 0} (M : GhostsOfMapper X) (G : GhostsOfGmi Ma
         step = unopened new after op.rises op.can op.segments (opened_raise (usage_for 3 0) (usage_of (G.machine new.gmi (M.held after))) u (ap usage_of op.opens.machine))
             (image_seen_for m old.images.items seg.0 ∙ ap (option_map (λ (i : Image). cache_pages m i.cache.0)) op.opens.none)
             (λ i. processes_seen (op.opens.machine i) (op.processes i).items (op.opens.images i)) (opened_raise one_cache (usage_of (G.machine new.gmi (M.held after))) u (ap usage_of op.opens.machine)) t op.opens.why;
+        has = had G new (M.held after) (M.page_bytes after) op.can;
         segments = op.segments;
       };
     }
@@ -249,14 +251,14 @@ module _ {Manager X Chooser : Type 0} (M : GhostsOfMapper X) (G : GhostsOfGmi Ma
         made = omega (arith, op.made);
         rises = op.rises;
         rose = op.rose;
-        is = record { step = lacks mid after op.rises op.can op.segments mid_raise pages holds has troubles.Memory seen_mid tt; segments = op.segments };
+        is = record { step = lacks mid after op.rises op.can op.segments mid_raise pages holds has troubles.Memory seen_mid tt; has = had G mid (M.held after) (M.page_bytes after) op.can; segments = op.segments };
       }
       not_checked (troubles.Refused refusals.BadImage) h = record {
         can = op.can;
         made = omega (arith, op.made);
         rises = op.rises;
         rose = op.rose;
-        is = record { step = bad mid after op.rises op.can op.segments mid_raise pages holds has mid_one seen_mid (omega (arith, h, ap (λ (xs : List Page). length xs) pages_is)); segments = op.segments };
+        is = record { step = bad mid after op.rises op.can op.segments mid_raise pages holds has mid_one seen_mid (omega (arith, h, ap (λ (xs : List Page). length xs) pages_is)); has = had G mid (M.held after) (M.page_bytes after) op.can; segments = op.segments };
       }
       not_checked t h = absurd h
 
@@ -274,6 +276,7 @@ module _ {Manager X Chooser : Type 0} (M : GhostsOfMapper X) (G : GhostsOfGmi Ma
           step = lacks new after op.rises st.can op.segments (subst (λ (x : Machine). RaisedBy (usage_for 3 0) u (usage_of x)) (sym st.starts.machine) mid_raise) pages holds has t
               ((λ i. processes_seen (st.starts.machine i) (st.starts.table i) (st.images i).items) ∙ seen_mid)
               (lack_still u (usage_for 3 (length pages + data_pages + stack)) (usage_of n) usage_to_start start_less t st.starts.why);
+          has = had G new (M.held after) (M.page_bytes after) st.can;
           segments = op.segments;
         };
       }
@@ -353,6 +356,7 @@ module _ {Manager X Chooser : Type 0} (M : GhostsOfMapper X) (G : GhostsOfGmi Ma
           rose = rise_then (M.counts before) (M.counts after) (M.counts now) op.rises f.rises op.rose f.rose;
           is = record {
             step = good next now (counts_sum op.rises f.rises) f.can (f.segments ∙ op.segments) (raise_now (Ok tt) next now f) pages (holds_at now f.segments) has (length next.processes.items) many seen (omega (arith, enough, ap (λ (xs : List Page). length xs) pages_is));
+            has = had G next (M.held now) (M.page_bytes now) f.can;
             segments = f.segments ∙ op.segments;
           };
         }
@@ -386,6 +390,7 @@ module _ {Manager X Chooser : Type 0} (M : GhostsOfMapper X) (G : GhostsOfGmi Ma
           is = record {
             step = lacks new last (counts_sum op.rises (counts_sum f.rises b.rises)) b.can (b.segments ∙ f.segments ∙ op.segments) all pages (holds_at last (b.segments ∙ f.segments)) has t seen
                 (lack_still u (usage_for 3 (length pages + data_pages + stack)) (usage_of k) (usage_to_load data_pages stack) less t f.loads);
+            has = had G new (M.held last) (M.page_bytes last) b.can;
             segments = b.segments ∙ f.segments ∙ op.segments;
           };
         }

@@ -32,6 +32,7 @@ use Rattle.mix_process.specs.declared.area.Area.TheVariants.{Data}
 use Rattle.mix_process.specs.declared.area.TheConstants.{MOST_DATA}
 use Rattle.mix_process.specs.declared.mix.Mix.{Mix}
 use Rattle.mix_process.specs.declared.process.Process.{Process}
+use Rattle.mix_process.proofs.Having.{had}
 use Rattle.mix_process.proofs.Mapped.{at_place}
 use Rattle.mix_process.proofs.Seeing.{seen_length}
 use Rattle.mix_process.proofs.Single.{none_here, refused_called}
@@ -173,6 +174,7 @@ module _ {Manager X Chooser : Type 0} (M : GhostsOfMapper X) (G : GhostsOfGmi Ma
           rose = a.rose;
           is = record {
             step = step (segments_of (M.held after)) refl (subst (λ (told : Option Segments). Adds m n told old place p Data pages None result new) (sym a.segments) a.adds);
+            has = had G new (M.held after) (M.page_bytes after) a.can;
             segments = a.segments;
           };
         }

@@ -1,6 +1,6 @@
 -- What a call of the processes may answer: what their machine answers, a mapper fault with its
 -- cause, want of memory, or that the manager has too many.
-use Rattle.std.specs.Prelude.{◌≡◌, ◌⊎◌, ◌<◌, ◌≤◌, ℕ, ◌+◌, ◌||◌, Bool, false, nat_lt, length, None, Ok, Err, IsOkAnd}
+use Rattle.std.specs.Prelude.{◌≡◌, ◌⊎◌, ◌<◌, ◌≤◌, ℕ, ◌+◌, ◌||◌, Bool, false, nat_lt, List, length, Option, Some, None, is_some, count_by, sum_by, Ok, Err, IsOkAnd}
 use Rattle.std.specs.Bool.{IsTrue}
 use Rattle.std.specs.FinMap.{get}
 use Rattle.std.specs.Option.{option_map_or}
@@ -13,7 +13,7 @@ use Rattle.vm_ids.specs.declared.reply.FaultAt.{FaultAt}
 use Rattle.vm_ids.specs.declared.reply.FaultAt.TheVariants as faults
 use Rattle.vm_ids.specs.declared.reply.Trouble.TheVariants as troubles
 use Rattle.vm_model.specs.Answering.{Answer}
-use Rattle.vm_model.specs.Machine.{Machine, live_pages, living_actors}
+use Rattle.vm_model.specs.Machine.{Machine, Page, live_pages, living_actors}
 use Rattle.vm_model.specs.Outcome.{IsNotRefused}
 use Rattle.vm_model.specs.declared.limits.TheConstants.{LIVE_PAGES, LIVING_ACTORS, MOST_MADE}
 use Rattle.mix_process.specs.Answering.{answer_of, is_too_large, with_image}
@@ -38,6 +38,18 @@ usage_of m = record {
   regions = m.regions_made;
   pages = live_pages m;
 }
+
+-- how many pages a process has for itself alone: its text is its image's
+abbrev pub own_pages : Option Process → ℕ
+own_pages None = 0
+own_pages (Some p) = length p.data_pages + length p.stack_pages
+
+-- A manager has these processes and their images, and nothing else: an actor for each living
+-- process, and the pages of images, data and stacks.
+pub record HasThese (m : ProcessMachine) (u : Usage) : Type 0 where
+  pub living : u.living ≡ count_by is_some m.processes
+  pub pages : u.pages
+      ≡ sum_by (λ (image : ℕ × List Page). length image.1) m.images + sum_by own_pages m.processes
 
 abbrev pub no_usage : Usage
 no_usage = record { living = 0; actors = 0; caches = 0; regions = 0; pages = 0 }
