@@ -160,7 +160,7 @@ module _ {Manager X Chooser : Type 0} (M : GhostsOfMapper X) (G : GhostsOfGmi Ma
 
         -- the process that is made
         abbrev pub made_of : Option Segments → model.Process
-        made_of told = record { text_pages = take text pages; data_pages = take data_pages (drop text pages); stack_pages = replicate stack (fresh_page told 4096); pieces = 1 }
+        made_of told = record { text_pages = take text pages; data_pages = take data_pages (drop text pages); stack_pages = replicate stack (fresh_page told 4096); pieces = data_pages ∷ [] }
 
         as_told : (h : Segments) → now ≡ Some h → made_of now ≡ process_from s.page_bytes pages text data_pages stack
         as_told h e = ap (λ (o : Option Segments). made_of o) e ∙ ap (λ (b : ℕ). process_from b pages text data_pages stack) (sym can.tied.page)
@@ -361,21 +361,21 @@ module _ {Manager X Chooser : Type 0} (M : GhostsOfMapper X) (G : GhostsOfGmi Ma
           };
         }
           where
-            child_is : loaded (segments_of (M.held after)) k text_part data_pages stack ≡ record { text_pages = take text pages; data_pages = take data_pages (drop text pages); stack_pages = replicate stack (fresh_page (segments_of (M.held now)) 4096); pieces = 1 }
+            child_is : loaded (segments_of (M.held after)) k text_part data_pages stack ≡ record { text_pages = take text pages; data_pages = take data_pages (drop text pages); stack_pages = replicate stack (fresh_page (segments_of (M.held now)) 4096); pieces = data_pages ∷ [] }
             child_is = λ i. record {
               text_pages = take text (pages_now i);
               data_pages = take data_pages (drop text (pages_now i));
               stack_pages = replicate stack (fresh_page (sym f.segments i) (st.can.tied.page i));
-              pieces = 1;
+              pieces = data_pages ∷ [];
             }
 
             seen : processes_seen (G.machine next.gmi (M.held now)) next.processes.items next.images.items
-                ≡ record whole { processes = whole.processes ++ Some (record { text_pages = take text pages; data_pages = take data_pages (drop text pages); stack_pages = replicate stack (fresh_page (segments_of (M.held now)) 4096); pieces = 1 }) ∷ [] }
+                ≡ record whole { processes = whole.processes ++ Some (record { text_pages = take text pages; data_pages = take data_pages (drop text pages); stack_pages = replicate stack (fresh_page (segments_of (M.held now)) 4096); pieces = data_pages ∷ [] }) ∷ [] }
             seen = f.loads
                 ∙ (λ i. put_at (processes_seen (st.starts.machine i) (st.starts.table i) (st.images i).items) (length mid.processes.items) (child_is i))
-                ∙ (λ i. record (processes_seen n mid.processes.items mid.images.items) { processes = set (map_snoc (option_map (process_seen n)) mid.processes.items (Some st.starts.process) i) (length mid.processes.items) (Some (record { text_pages = take text pages; data_pages = take data_pages (drop text pages); stack_pages = replicate stack (fresh_page (segments_of (M.held now)) 4096); pieces = 1 })) })
-                ∙ (λ i. record (processes_seen n mid.processes.items mid.images.items) { processes = set_last (map (option_map (process_seen n)) mid.processes.items) (Some (process_seen n st.starts.process)) (Some (record { text_pages = take text pages; data_pages = take data_pages (drop text pages); stack_pages = replicate stack (fresh_page (segments_of (M.held now)) 4096); pieces = 1 })) (length mid.processes.items) (sym (length-map mid.processes.items (option_map (process_seen n)))) i })
-                ∙ ap (λ (x : ProcessMachine). record x { processes = x.processes ++ Some (record { text_pages = take text pages; data_pages = take data_pages (drop text pages); stack_pages = replicate stack (fresh_page (segments_of (M.held now)) 4096); pieces = 1 }) ∷ [] }) seen_mid
+                ∙ (λ i. record (processes_seen n mid.processes.items mid.images.items) { processes = set (map_snoc (option_map (process_seen n)) mid.processes.items (Some st.starts.process) i) (length mid.processes.items) (Some (record { text_pages = take text pages; data_pages = take data_pages (drop text pages); stack_pages = replicate stack (fresh_page (segments_of (M.held now)) 4096); pieces = data_pages ∷ [] })) })
+                ∙ (λ i. record (processes_seen n mid.processes.items mid.images.items) { processes = set_last (map (option_map (process_seen n)) mid.processes.items) (Some (process_seen n st.starts.process)) (Some (record { text_pages = take text pages; data_pages = take data_pages (drop text pages); stack_pages = replicate stack (fresh_page (segments_of (M.held now)) 4096); pieces = data_pages ∷ [] })) (length mid.processes.items) (sym (length-map mid.processes.items (option_map (process_seen n)))) i })
+                ∙ ap (λ (x : ProcessMachine). record x { processes = x.processes ++ Some (record { text_pages = take text pages; data_pages = take data_pages (drop text pages); stack_pages = replicate stack (fresh_page (segments_of (M.held now)) 4096); pieces = data_pages ∷ [] }) ∷ [] }) seen_mid
 
             many : length next.processes.items ≡ length whole.processes + 1
             many = ap (λ (xs : List (Option Process)). length xs) f.table ∙ length-append mid.processes.items (Some f.child ∷ []) ∙ ap (λ (x : ℕ). x + 1) (sym (length-map mid.processes.items (option_map (process_seen n))) ∙ ap (λ (x : ProcessMachine). length x.processes) seen_mid)

@@ -93,7 +93,7 @@ module _ (x : ProcessMachine) (of : ProcId) where
     step_forks = record { outcome = row_some p there; raised = raised }
 
 zeros_to_fork : (p : model.Process) → usage_to_fork (each_of zeros p) ≡ usage_to_fork p
-zeros_to_fork p = λ i. usage_for (2 + p.pieces) (length-map p.text_pages zeros i + length-map p.data_pages zeros i + length-map p.stack_pages zeros i)
+zeros_to_fork p = λ i. usage_for (2 + length p.pieces) (length-map p.text_pages zeros i + length-map p.data_pages zeros i + length-map p.stack_pages zeros i)
 
 module _ {Manager X Chooser : Type 0} (M : GhostsOfMapper X) (G : GhostsOfGmi Manager X Chooser) (old : Mix Manager) (before : X) (can : CanCall G old (M.held before) (M.page_bytes before)) (of : ProcId) where
   abbrev m : Machine

@@ -1,6 +1,6 @@
 -- What a call of the processes may answer: what their machine answers, a mapper fault with its
 -- cause, want of memory, or that the manager has too many.
-use Rattle.std.specs.Prelude.{◌≡◌, ◌⊎◌, ◌<◌, ◌≤◌, ℕ, ◌+◌, ◌||◌, Bool, false, nat_lt, List, length, Option, Some, None, is_some, count_by, sum_by, Ok, Err, IsOkAnd}
+use Rattle.std.specs.Prelude.{◌≡◌, ◌⊎◌, ◌<◌, ◌≤◌, ℕ, ◌+◌, ◌-◌, ◌||◌, Bool, false, nat_lt, List, [], ◌∷◌, length, Option, Some, None, is_some, count_by, sum_by, Ok, Err, IsOkAnd, if◌then◌else◌}
 use Rattle.std.specs.Bool.{IsTrue}
 use Rattle.std.specs.FinMap.{get}
 use Rattle.std.specs.Option.{option_map_or}
@@ -62,7 +62,7 @@ usage_for caches pages =
 -- a fork makes as much as the process has
 abbrev pub usage_to_fork : Process → Usage
 usage_to_fork p =
-    usage_for (2 + p.pieces)
+    usage_for (2 + length p.pieces)
     (length p.text_pages + length p.data_pages + length p.stack_pages)
 
 -- a growth makes one cache of so many pages, and its region
@@ -104,17 +104,22 @@ pub record RaisedBy (more before now : Usage) : Type 0 where
   pub caches : now.caches ≤ before.caches + more.caches
   pub regions : now.regions ≤ before.regions + more.regions
 
--- Page p of a cache of the manager is this page of the area: data that were grown are counted from
--- 0 anew.
-abbrev pub IsPageIn : Area → ℕ → ℕ → Type 0
-IsPageIn Text page p = p ≡ page
-IsPageIn Data page p = p ≤ page
-IsPageIn Stack page p = p ≡ page
+-- where a page stands in its piece; pieces of these sizes lie one behind the other
+abbrev pub page_in_piece : List ℕ → ℕ → ℕ
+page_in_piece [] page = page
+page_in_piece (size ∷ sizes) page =
+    if nat_lt page size then page else page_in_piece sizes (page - size)
+
+-- the page of its cache that a place is in: each piece of the data has a cache of its own
+abbrev pub page_below : Area → Place → ℕ
+page_below Text at = at.page
+page_below Data at = page_in_piece at.process.pieces at.page
+page_below Stack at = at.page
 
 -- the page that is accessed couldn't be pulled
 abbrev pub MayMiss : ProcessMachine → ℕ → ℕ → ℕ → ℕ → MapperCounts → Type 0
 MayMiss m process address length p rises =
-    IsOkAnd (place m process address length) (λ (at : Place). IsPageIn at.area at.page p)
+    IsOkAnd (place m process address length) (λ (at : Place). p ≡ page_below at.area at)
     × (0 < rises.pulls)
 
 -- Which faults a call may answer, at which page, and which of the mapper's counts rose with it
