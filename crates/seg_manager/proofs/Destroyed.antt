@@ -116,7 +116,7 @@ module _ (m : Machine) (told : Option Segments) (caches : List Named) (first : K
   kept_first : is_kept (first ∷ rest) n ≡ true
   kept_first = ap (λ (b : Bool). b || is_kept rest n) (eq-eqb n n refl)
 
-  unreferenced : is_unreferenced W n ≡ true
+  pub unreferenced : is_unreferenced W n ≡ true
   unreferenced = sym (t.kept n) ∙ kept_first
 
   gone : goes W n there.0 ≡ true

@@ -41,6 +41,7 @@ pub mod Temporary
 pub mod Live
 pub mod Staying
 pub mod Lacking
+pub mod Failing
 pub mod Temped
 pub mod Shapes
 pub mod Passed

@@ -199,5 +199,5 @@ module _ {Manager X Chooser : Type 0} (M : GhostsOfMapper X) (G : GhostsOfGmi Ma
     call = answered_same M G old gmi before after (Copy (span_shown old.kept.items s)) a able (subst (λ (x : Span). MapperCall M (meanings_of G) before old.gmi (Copy x) a after gmi) is done) (Copy s)
         (λ x hiding. copy_answered (openings_in old.caches.items) x old.kept.items hiding s)
         (λ x hiding f h. copy_regions (openings_in old.caches.items) x old.kept.items hiding s f h);
-    kept = refl;
+    kept = (refl, subst (λ (x : Span). MapperCall M (meanings_of G) before old.gmi (Copy x) a after gmi) is done);
   }

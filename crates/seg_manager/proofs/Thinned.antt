@@ -9,8 +9,10 @@ use Rattle.vm_ids.specs.declared.command.Command.{Command}
 use Rattle.vm_ids.specs.declared.command.Command.TheVariants as commands
 use Rattle.vm_ids.specs.declared.reply.Reply.TheVariants as replies
 use Rattle.vm_ids.specs.declared.reply.Trouble.{Trouble}
+use Rattle.vm_ids.specs.declared.reply.Trouble.TheVariants as troubles
 use Rattle.vm_model.specs.Answering.{Answer}
 use Rattle.vm_model.specs.Machine.{Cache, Machine, cache_of, live_pages, pages_in}
+use Rattle.vm_model.specs.Outcome.{OutcomeAt}
 use Rattle.vm_model.specs.Synchronised.{ArePushed, IsSynchronised}
 use Rattle.vm_model.specs.declared.limits.TheConstants.{MOST_MADE}
 use Rattle.vm_model.proofs.Parts.Lists.{numbered_place, sum_by_swap}
@@ -180,7 +182,7 @@ module _ {Manager X Chooser : Type 0} (M : GhostsOfMapper X) (G : GhostsOfGmi Ma
         rose = (call_is M G manager gmi before after (commands.Destroy first.cache) a can call).rose;
       }
 
-    pub fails_one : (g : IsFault m a n (call_is M G manager gmi before after (commands.Destroy first.cache) a can call).rises) → Fails M G before manager g.trouble after (record manager { gmi = gmi })
+    pub fails_one : (g : IsFault m a n (call_is M G manager gmi before after (commands.Destroy first.cache) a can call).rises) → Fails M G before manager (troubles.Mapper g.at) after (record manager { gmi = gmi })
     fails_one g = record {
       can = able_after M G manager gmi before after (commands.Destroy first.cache) a can call manager
           (omega (arith, ap (λ (x : Machine). length x.caches) g.same, can.few))
@@ -191,23 +193,29 @@ module _ {Manager X Chooser : Type 0} (M : GhostsOfMapper X) (G : GhostsOfGmi Ma
       same = refl;
       caches = ap (λ (x : Machine). length x.caches) g.same;
       made = made_after M G manager gmi before after (commands.Destroy first.cache) a can call;
-      fault = g.fault;
       rises = (call_is M G manager gmi before after (commands.Destroy first.cache) a can call).rises;
       rose = (call_is M G manager gmi before after (commands.Destroy first.cache) a can call).rose;
       failed = g.failed;
+      first = first;
+      rest = rest;
+      kept = at;
+      at = g.at;
+      is = refl;
+      fault = subst (λ (b : Answer). OutcomeAt now m (forest M G manager gmi before after (commands.Destroy first.cache) a can call) (commands.Destroy first.cache) b n (call_is M G manager gmi before after (commands.Destroy first.cache) a can call).rises) g.is
+          (call_is M G manager gmi before after (commands.Destroy first.cache) a can call).is.outcome;
     }
 
     -- by what the destroy answered
     pub gone_first : a ≡ Ok replies.Done → IsGone m first.cache.0 a n
     gone_first e = elim answered [
       | inl g ↦ g
-      | inr g ↦ absurd (let wrong : Err g.trouble ≡ Ok replies.Done = sym g.is ∙ e in cc wrong)
+      | inr g ↦ absurd (let wrong : Err (troubles.Mapper g.at) ≡ Ok replies.Done = sym g.is ∙ e in cc wrong)
     ]
 
     pub failed_first : (trouble : Trouble) → a ≡ Err trouble → Fails M G before manager trouble after (record manager { gmi = gmi })
     failed_first trouble e = elim answered [
       | inl g ↦ absurd (let wrong : Ok replies.Done ≡ Err trouble = sym g.done ∙ e in cc wrong)
-      | inr g ↦ (let both : Err g.trouble ≡ Err trouble = sym g.is ∙ e in let same : g.trouble ≡ trouble = cc both in
+      | inr g ↦ (let both : Err (troubles.Mapper g.at) ≡ Err trouble = sym g.is ∙ e in let same : troubles.Mapper g.at ≡ trouble = cc both in
           subst (λ (x : Trouble). Fails M G before manager x after (record manager { gmi = gmi })) same (fails_one g))
     ]
 

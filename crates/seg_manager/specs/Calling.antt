@@ -17,8 +17,10 @@ use Rattle.vm_model.specs.Answering.{Answer, answer_by}
 use Rattle.vm_model.specs.Machine.{Machine}
 use Rattle.vm_model.specs.Outcome.{OutcomeAt}
 use Rattle.vm_port.specs.declared.traits.mapper.Mapper.{Ghosts as GhostsOfMapper}
-use Rattle.gmi_calls.specs.Calling.{done_by}
+use Rattle.gmi_calls.specs.Calling.{MapperCall, done_by}
+use Rattle.gmi_calls.specs.Managing.{meanings_of}
 use Rattle.gmi_calls.specs.declared.gmi.Gmi.{Ghosts as GhostsOfGmi}
+use Rattle.seg_manager.specs.Inner.{span_shown}
 use Rattle.seg_manager.specs.Keeping.{AreBehind, AreLast, IsAcquired, cache_for, left_by, mapped_in, mapped_under, referred}
 use Rattle.seg_manager.specs.ReferenceMachine.{ReferenceMachine, number_in}
 use Rattle.seg_manager.specs.Seen.{kept_segments, known, stored_beside, state_of, whole_of}
@@ -135,7 +137,8 @@ pub record Releases {Manager Mapper Chooser : Type 0} (M : GhostsOfMapper Mapper
   pub kept : KeepsLastBy M G before old
       (cache_for (G.machine old.gmi (M.held before)) seg.0) (done_by result) after new
 
--- Which caches are kept after another command.
+-- Which caches are kept after another command. A copy is one of the manager below, between caches as
+-- they are found: so where it fails at a save, that manager tells how many were done.
 abbrev pub AnswersKept : {Manager Mapper Chooser : Type 0} → GhostsOfMapper Mapper
     → GhostsOfGmi Manager Mapper Chooser → Mapper → SegManager Manager → Command → Answer → Mapper
     → SegManager Manager → Type 0
@@ -150,6 +153,10 @@ AnswersKept M G before old (plain_commands.MakeTemp pages) answer after new =
     (kept_segments old.kept.items) (kept_segments new.kept.items)
     × (answer ≡ Err (Refused TooMany) → (new.kept.items ≡ [])
     × HasNoRoom G new.gmi (M.held after) (plain_commands.MakeTemp pages))
+AnswersKept M G before old (plain_commands.Copy span) answer after new =
+    (new.kept.items ≡ old.kept.items)
+    × MapperCall M (meanings_of G) before old.gmi
+    (plain_commands.Copy (span_shown old.kept.items span)) answer after new.gmi
 AnswersKept M G before old command answer after new = new.kept.items ≡ old.kept.items
 
 -- A command of the manager's own: what is answered, and which caches are kept then.

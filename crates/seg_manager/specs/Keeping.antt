@@ -6,8 +6,7 @@ use Rattle.vm_ids.specs.Counting.{Rose}
 use Rattle.vm_ids.specs.declared.numbers.CacheId.{CacheId}
 use Rattle.vm_ids.specs.declared.reply.Trouble.{Trouble}
 use Rattle.vm_model.specs.Machine.{Actor, Machine, Region, segment_of}
-use Rattle.seg_manager.specs.ReferenceMachine.{ReferenceMachine, number_in}
-use Rattle.seg_manager.specs.Tying.{is_unreferenced}
+use Rattle.seg_manager.specs.ReferenceMachine.{ReferenceMachine, is_unreferenced, number_in}
 
 -- None is gone; or there was a cause, and some of the least recently used are gone.
 abbrev pub AreBehind : Type 0 → List ℕ → List ℕ → Type 0
