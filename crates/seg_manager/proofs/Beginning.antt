@@ -1,8 +1,8 @@
 -- A segment that has no cache is opened: what that call of the manager of segments comes to.
-use Rattle.std.proofs.Common.{◌≡◌, ◌==◌, inl, inr, ℕ, ◌+◌, ◌^◌, ◌<◌, ◌≤◌, List, [], ◌∷◌, ◌++◌, length, drop, Option, Some, None, refl, sym, ap, subst, ◌∙◌, arith}
+use Rattle.std.proofs.Common.{◌≡◌, ◌==◌, inl, inr, ℕ, ◌+◌, ◌^◌, ◌<◌, ◌≤◌, List, [], ◌∷◌, ◌++◌, length, drop, take, Option, Some, None, refl, sym, ap, subst, ◌∙◌, arith}
 use Rattle.std.specs.Prelude.{IfSome, Ok, Err, option_map}
 use Rattle.std.specs.List.{list_any, position_from}
-use Rattle.std.proofs.lemmas.List.{drop-map, length-append}
+use Rattle.std.proofs.lemmas.List.{drop-map, length-append, length-map}
 use Rattle.vm_ids.specs.Counting.{MapperCounts, counts_sum, no_counts}
 use Rattle.vm_ids.specs.Held.{Segments, segments_of}
 use Rattle.vm_ids.specs.declared.command.Command.TheVariants.{OpenSegment}
@@ -25,7 +25,7 @@ use Rattle.gmi_calls.specs.Managing.{meanings_of}
 use Rattle.gmi_calls.specs.declared.gmi.Gmi.{Ghosts as GhostsOfGmi}
 use Rattle.gmi_calls.proofs.Rising.{rise_none, rise_then}
 use Rattle.seg_manager.specs.Answering.{Answered, reply_cache}
-use Rattle.seg_manager.specs.Calling.{Acquires, HasNoRoom, SegmentCall}
+use Rattle.seg_manager.specs.Calling.{Acquires, HasNoRoomWithout, SegmentCall}
 use Rattle.seg_manager.specs.Inner.{first_of}
 use Rattle.seg_manager.specs.Keeping.{AreBehind}
 use Rattle.seg_manager.specs.Outcome.{Outcome}
@@ -37,7 +37,7 @@ use Rattle.seg_manager.specs.declared.manager.SegManager.{SegManager}
 use Rattle.seg_manager.specs.Names.{AreNamed}
 use Rattle.seg_manager.specs.declared.tables.Kept.{Kept}
 use Rattle.seg_manager.specs.declared.tables.Named.{Named}
-use Rattle.seg_manager.proofs.Acquiring.{anew_row, caches_seen}
+use Rattle.seg_manager.proofs.Acquiring.{anew_row, caches_seen, none_gone}
 use Rattle.seg_manager.proofs.Anew.{opened_next, tied_anew}
 use Rattle.seg_manager.proofs.Calls.{able_after, backed_next, call_is, denied_after, forest, made_after, told_after}
 use Rattle.seg_manager.proofs.Failing.{IsFailing, failing, number_blank, open_may, open_none}
@@ -116,14 +116,16 @@ module _ {Manager X Chooser : Type 0} (M : GhostsOfMapper X) (G : GhostsOfGmi Ma
     as_many : length m.caches ≡ length m0.caches
     as_many = sym (seen_length told m by.caches.items) ∙ ap (λ (r : ReferenceMachine). length r.memory.caches) thins.seen ∙ seen_length told0 m0 start.caches.items
 
-    abbrev Cause : Type 0
-    Cause = HasNoRoom G old.gmi (M.held before) (OpenSegment seg)
+    abbrev Cause : List ℕ → Type 0
+    Cause = HasNoRoomWithout G old.gmi (M.held before) (OpenSegment seg)
 
     kept_behind : AreBehind Cause (kept_segments old.kept.items) (kept_segments by.kept.items)
-    kept_behind = elim trying.first [
-      | inl at ↦ inl (ap kept_segments (ap (λ (x : SegManager Manager). x.kept.items) at.0 ∙ kept))
-      | inr none ↦ inr (none, thins.kept.0, ap kept_segments (thins.kept.1 ∙ ap (drop thins.kept.0) kept) ∙ sym (drop-map (λ (k : Kept). k.seg.0) thins.kept.0 old.kept.items))
-    ]
+    kept_behind = record {
+      gone = thins.gone;
+      is = ap kept_segments (thins.kept ∙ ap (drop thins.gone) kept) ∙ sym (drop-map (λ (k : Kept). k.seg.0) thins.gone old.kept.items);
+      few = omega (arith, thins.gone_few, ap length kept, length-map old.kept.items (λ (k : Kept). k.seg.0));
+      cause = λ i less. subst (λ (ks : List Kept). Cause (take i (kept_segments ks))) kept (trying.cause i less);
+    }
 
     no_cache : (n : ℕ) → number_in 1 m0.caches seg.0 ≡ Some n → ⊥
     no_cache n e = (let wrong : None ≡ Some n = sym (number_below m0 told0 old.caches.items old.kept.items old.kept.room old.regions.items can.tied seg anew) ∙ e in cc wrong)
@@ -198,7 +200,7 @@ module _ {Manager X Chooser : Type 0} (M : GhostsOfMapper X) (G : GhostsOfGmi Ma
             seen = vain_seen ∙ seen_by;
             denied = vain_denied ∙ thins.denied;
           }) fails.whole fails.forest fails.seen vain_outcome;
-          kept = behind_not (HasNoRoom G old.gmi (M.held before) (OpenSegment seg)) (list_any (λ s. s == seg.0) (kept_segments old.kept.items)) seg.0 (kept_segments old.kept.items) (kept_segments new.kept.items) (Err t)
+          kept = behind_not (HasNoRoomWithout G old.gmi (M.held before) (OpenSegment seg)) (list_any (λ s. s == seg.0) (kept_segments old.kept.items)) seg.0 (kept_segments old.kept.items) (kept_segments new.kept.items) (Err t)
               (not_kept m0 told0 old.caches.items old.kept.items old.kept.room old.regions.items can.tied seg anew)
               (subst (AreBehind Cause (kept_segments old.kept.items)) (sym (ap (λ (x : SegManager Manager). kept_segments x.kept.items) f.same)) kept_behind);
           again = λ k e. absurd (no_cache k e);
@@ -276,7 +278,7 @@ module _ {Manager X Chooser : Type 0} (M : GhostsOfMapper X) (G : GhostsOfGmi Ma
       pub not_opened : (t ≡ troubles.Refused refusals.TooMany → left.kept.items ≡ []) → Acquires M G before old seg (Err t) after left
       not_opened none = record {
         call = said none (open_ended M G by middle thins.can seg anew_by (Err t) after gmi call);
-        kept = behind_not (HasNoRoom G old.gmi (M.held before) (OpenSegment seg)) (list_any (λ s. s == seg.0) (kept_segments old.kept.items)) seg.0 (kept_segments old.kept.items) (kept_segments left.kept.items) (Err t)
+        kept = behind_not (HasNoRoomWithout G old.gmi (M.held before) (OpenSegment seg)) (list_any (λ s. s == seg.0) (kept_segments old.kept.items)) seg.0 (kept_segments old.kept.items) (kept_segments left.kept.items) (Err t)
             (not_kept m0 told0 old.caches.items old.kept.items old.kept.room old.regions.items can.tied seg anew) kept_behind;
         again = λ k e. absurd (no_cache k e);
         too_many = λ e. (let is : t ≡ troubles.Refused refusals.TooMany = cc e in (
@@ -376,7 +378,7 @@ module _ {Manager X Chooser : Type 0} (M : GhostsOfMapper X) (G : GhostsOfGmi Ma
             denied = open_denied ∙ thins.denied;
           };
         };
-        kept = behind_not (HasNoRoom G old.gmi (M.held before) (OpenSegment seg)) (list_any (λ s. s == seg.0) (kept_segments old.kept.items)) seg.0 (kept_segments old.kept.items) (kept_segments final.kept.items) (Ok cache)
+        kept = behind_not (HasNoRoomWithout G old.gmi (M.held before) (OpenSegment seg)) (list_any (λ s. s == seg.0) (kept_segments old.kept.items)) seg.0 (kept_segments old.kept.items) (kept_segments final.kept.items) (Ok cache)
             (not_kept m0 told0 old.caches.items old.kept.items old.kept.room old.regions.items can.tied seg anew) kept_behind;
         again = λ k e. absurd (no_cache k e);
         too_many = λ e. absurd (cc e);
@@ -394,8 +396,8 @@ module _ {Manager X Chooser : Type 0} (M : GhostsOfMapper X) (G : GhostsOfGmi Ma
       seen = ap (references_seen m0 told0) caches;
       denied = refl;
     }) (λ h. (refl, tt, tt));
-    kept = behind_not (HasNoRoom G old.gmi (M.held before) (OpenSegment seg)) (list_any (λ s. s == seg.0) (kept_segments old.kept.items)) seg.0 (kept_segments old.kept.items) (kept_segments start.kept.items) (Err troubles.Memory)
-        (not_kept m0 told0 old.caches.items old.kept.items old.kept.room old.regions.items can.tied seg anew) (inl (ap kept_segments kept));
+    kept = behind_not (HasNoRoomWithout G old.gmi (M.held before) (OpenSegment seg)) (list_any (λ s. s == seg.0) (kept_segments old.kept.items)) seg.0 (kept_segments old.kept.items) (kept_segments start.kept.items) (Err troubles.Memory)
+        (not_kept m0 told0 old.caches.items old.kept.items old.kept.room old.regions.items can.tied seg anew) (none_gone (HasNoRoomWithout G old.gmi (M.held before) (OpenSegment seg)) (kept_segments old.kept.items) (kept_segments start.kept.items) (ap kept_segments kept));
     again = λ k e. absurd (let wrong : None ≡ Some k = sym (number_below m0 told0 old.caches.items old.kept.items old.kept.room old.regions.items can.tied seg anew) ∙ e in cc wrong);
     too_many = λ e. absurd (cc e);
   }

@@ -9,6 +9,7 @@ pub mod Reopening
 pub mod Going
 pub mod Pushed
 pub mod Entries
+pub mod Lesser
 pub mod Destroyed
 pub mod Answered
 pub mod Calls

@@ -29,7 +29,7 @@ use Rattle.gmi_calls.specs.Managing.{meanings_of}
 use Rattle.gmi_calls.specs.declared.gmi.Gmi.{Ghosts as GhostsOfGmi}
 use Rattle.gmi_calls.proofs.Rising.{rise_then}
 use Rattle.seg_manager.specs.Answering.{make_temp_of, reply_cache}
-use Rattle.seg_manager.specs.Calling.{HasNoRoom, SegmentCall, Serves}
+use Rattle.seg_manager.specs.Calling.{HasNoRoomWithout, SegmentCall, Serves}
 use Rattle.seg_manager.specs.Keeping.{AreBehind}
 use Rattle.seg_manager.specs.Outcome.{FailsToMakeRoom, IsWanted, Outcome}
 use Rattle.seg_manager.specs.ReferenceMachine.{ReferenceMachine, add_cache}
@@ -172,14 +172,16 @@ module _ {Manager X Chooser : Type 0} (M : GhostsOfMapper X) (G : GhostsOfGmi Ma
     as_many : length m.caches ≡ length (machine_at M G old before).caches
     as_many = sym (seen_length told m by.caches.items) ∙ ap (λ (r : ReferenceMachine). length r.memory.caches) thins.seen ∙ seen_length (segments_of (M.held before)) (machine_at M G old before) old.caches.items
 
-    abbrev Cause : Type 0
-    Cause = HasNoRoom G old.gmi (M.held before) (MakeTemp pages)
+    abbrev Cause : List ℕ → Type 0
+    Cause = HasNoRoomWithout G old.gmi (M.held before) (MakeTemp pages)
 
     kept_behind : AreBehind Cause (kept_segments old.kept.items) (kept_segments by.kept.items)
-    kept_behind = elim trying.first [
-      | inl at ↦ inl (ap kept_segments (ap (λ (x : SegManager Manager). x.kept.items) at.0))
-      | inr none ↦ inr (none, thins.kept.0, ap kept_segments thins.kept.1 ∙ sym (drop-map (λ (k : Kept). k.seg.0) thins.kept.0 old.kept.items))
-    ]
+    kept_behind = record {
+      gone = thins.gone;
+      is = ap kept_segments thins.kept ∙ sym (drop-map (λ (k : Kept). k.seg.0) thins.gone old.kept.items);
+      few = omega (arith, thins.gone_few, length-map old.kept.items (λ (k : Kept). k.seg.0));
+      cause = trying.cause;
+    }
 
     -- It was asked, and made none.
     module _ (t : Trouble) (after : X) (gmi : Manager) (call : MapperCall M (meanings_of G) middle by.gmi (MakeTemp pages) (Err t) after gmi) where

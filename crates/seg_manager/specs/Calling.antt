@@ -21,7 +21,7 @@ use Rattle.gmi_calls.specs.Calling.{MapperCall, done_by}
 use Rattle.gmi_calls.specs.Managing.{meanings_of}
 use Rattle.gmi_calls.specs.declared.gmi.Gmi.{Ghosts as GhostsOfGmi}
 use Rattle.seg_manager.specs.Inner.{span_shown}
-use Rattle.seg_manager.specs.Keeping.{AreBehind, AreLast, IsAcquired, cache_for, left_by, mapped_in, mapped_under, referred}
+use Rattle.seg_manager.specs.Keeping.{AreBehind, AreLast, IsAcquired, cache_for, left_by, mapped_in, mapped_under, referred, without}
 use Rattle.seg_manager.specs.ReferenceMachine.{ReferenceMachine, number_in}
 use Rattle.seg_manager.specs.Seen.{kept_segments, known, stored_beside, state_of, whole_of}
 use Rattle.seg_manager.specs.Stepping.{AnswerIs, State}
@@ -88,6 +88,13 @@ abbrev pub HasNoRoom : {Manager Mapper Chooser : Type 0} → GhostsOfGmi Manager
 HasNoRoom G gmi told command = OutcomeAt (segments_of told) (G.machine gmi told)
     (G.forest gmi told) command (Err (Refused TooMany)) (G.machine gmi told) no_counts
 
+-- the same where the caches of these segments are gone
+abbrev pub HasNoRoomWithout : {Manager Mapper Chooser : Type 0}
+    → GhostsOfGmi Manager Mapper Chooser → Manager → Option Held → Command → List ℕ → Type 0
+HasNoRoomWithout G gmi told command gone =
+    OutcomeAt (segments_of told) (without gone (G.machine gmi told)) (G.forest gmi told) command
+    (Err (Refused TooMany)) (without gone (G.machine gmi told)) no_counts
+
 -- An opening of a segment. A cache that there is keeps its number, and the mapper isn't called.
 pub record Acquires {Manager Mapper Chooser : Type 0} (M : GhostsOfMapper Mapper)
     (G : GhostsOfGmi Manager Mapper Chooser) (before : Mapper) (old : SegManager Manager)
@@ -95,7 +102,8 @@ pub record Acquires {Manager Mapper Chooser : Type 0} (M : GhostsOfMapper Mapper
     : Type 0 where
   pub call : SegmentCall M G before old (commands.Plain (plain_commands.OpenSegment seg))
       (answer_by replies.Cache result) after new
-  pub kept : IsAcquired (HasNoRoom G old.gmi (M.held before) (plain_commands.OpenSegment seg))
+  pub kept : IsAcquired
+      (HasNoRoomWithout G old.gmi (M.held before) (plain_commands.OpenSegment seg))
       (list_any (λ s. s == seg.0) (kept_segments old.kept.items)) seg.0
       (kept_segments old.kept.items) result (kept_segments new.kept.items)
   pub again : (n : ℕ) → number_in 1 (G.machine old.gmi (M.held before)).caches seg.0 ≡ Some n
@@ -149,7 +157,7 @@ AnswersKept M G before old (plain_commands.Unmap region) answer after new =
     KeepsLastBy M G before old (mapped_under (G.machine old.gmi (M.held before)) region.0) answer
     after new
 AnswersKept M G before old (plain_commands.MakeTemp pages) answer after new =
-    AreBehind (HasNoRoom G old.gmi (M.held before) (plain_commands.MakeTemp pages))
+    AreBehind (HasNoRoomWithout G old.gmi (M.held before) (plain_commands.MakeTemp pages))
     (kept_segments old.kept.items) (kept_segments new.kept.items)
     × (answer ≡ Err (Refused TooMany) → (new.kept.items ≡ [])
     × HasNoRoom G new.gmi (M.held after) (plain_commands.MakeTemp pages))

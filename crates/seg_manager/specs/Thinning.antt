@@ -1,5 +1,5 @@
 -- What it comes to that caches which are kept are destroyed, the least recently used first.
-use Rattle.std.specs.Prelude.{◌≡◌, ◌≤◌, ◌<◌, ◌⊎◌, [], ◌∷◌, ℕ, ◌+◌, ◌*◌, List, Bool, false, drop, length, option_map, Option, Result, Ok, Err}
+use Rattle.std.specs.Prelude.{◌≡◌, ◌≤◌, ◌<◌, ◌⊎◌, [], ◌∷◌, ℕ, ◌+◌, ◌*◌, List, Bool, false, drop, length, take, option_map, Option, Result, Ok, Err}
 use Rattle.std.specs.List.{AllByRecursion}
 use Rattle.vm_ids.specs.Counting.{MapperCounts, Rise}
 use Rattle.vm_ids.specs.Held.{Segments, segments_of}
@@ -20,8 +20,8 @@ use Rattle.vm_model.specs.Machine.{Machine, live_pages}
 use Rattle.vm_model.specs.declared.limits.TheConstants.{LIVE_PAGES}
 use Rattle.vm_port.specs.declared.traits.mapper.Mapper.{Ghosts as GhostsOfMapper}
 use Rattle.gmi_calls.specs.declared.gmi.Gmi.{Ghosts as GhostsOfGmi}
-use Rattle.seg_manager.specs.Calling.{HasNoRoom}
-use Rattle.seg_manager.specs.Keeping.{AreLast}
+use Rattle.seg_manager.specs.Calling.{HasNoRoomWithout}
+use Rattle.seg_manager.specs.Keeping.{AreLast, without}
 use Rattle.seg_manager.specs.ReferenceMachine.{ReferenceMachine}
 use Rattle.seg_manager.specs.Seen.{kept_segments, references_seen}
 use Rattle.seg_manager.specs.Tying.{CanCall}
@@ -58,7 +58,11 @@ module _ {Manager Mapper Chooser : Type 0} (M : GhostsOfMapper Mapper)
     pub denied : denied_by after ≡ denied_by before
     pub limit : new.limit ≡ old.limit
     pub regions : new.regions ≡ old.regions
-    pub kept : (n : ℕ) × (new.kept.items ≡ drop n old.kept.items)
+    pub gone : ℕ
+    pub gone_few : gone ≤ length old.kept.items
+    pub kept : new.kept.items ≡ drop gone old.kept.items
+    pub machine : machine_at new after
+        ≡ without (take gone (kept_segments old.kept.items)) (machine_at old before)
     pub among : (test : Named → Bool) → AllByRecursion (λ c. test c ≡ false) old.caches.items
         → AllByRecursion (λ c. test c ≡ false) new.caches.items
     pub few : length new.caches.items ≤ length old.caches.items
@@ -112,12 +116,13 @@ module _ {Manager Mapper Chooser : Type 0} (M : GhostsOfMapper Mapper)
     pub rises : MapperCounts
     pub rose : Rise (M.counts before) (M.counts after) rises
 
-  -- What there is before each try: nothing was done yet; or the manager below had no room, as it
-  -- was at first, and some of the least recently used were destroyed.
+  -- What there is before each try: some of the least recently used were destroyed, or none; each
+  -- where the manager below had no room, as it was at first but for those before it.
   pub record Trying (c : Command) (before : Mapper) (old : SegManager Manager) (now : Mapper)
       (new : SegManager Manager) : Type 0 where
     pub thins : Thins before old now new
-    pub first : ((new ≡ old) × (now ≡ before)) ⊎ HasNoRoom G old.gmi (M.held before) c
+    pub cause : (i : ℕ) → i < thins.gone
+        → HasNoRoomWithout G old.gmi (M.held before) c (take i (kept_segments old.kept.items))
 
   -- The manager below was asked once some of the least recently used caches were destroyed, and
   -- answered so.
@@ -152,6 +157,7 @@ module _ {Manager Mapper Chooser : Type 0} (M : GhostsOfMapper Mapper)
       (after : Mapper) (new : SegManager Manager) : Type 0 where
     pub wanted : trouble ≡ Refused TooMany
     pub thins : Thins before old after new
+    pub one : new.kept.items ≡ drop 1 old.kept.items
     pub less : length new.kept.items < length old.kept.items
 
   -- There is no room to make, or it couldn't be made.
