@@ -275,7 +275,7 @@ module _ {Manager X Chooser : Type 0} (M : GhostsOfMapper X) (G : GhostsOfGmi Ma
     opens = opens_again m old.caches.items old.kept.items old.kept.room old.regions.items seg place o.named (sym first) o.there new.caches.items o.caches told can.tied (blank_told (M.held before) m can.blank)
 
     step : StepAt told (state_of G old (M.held before)) (commands.Plain (OpenSegment seg)) (Ok (replies.Cache o.named.cache)) no_counts (state_of G later (M.held before))
-    step = step_whole (state_of G old (M.held before)) (state_of G later (M.held before)) (commands.Plain (OpenSegment seg)) (Ok (replies.Cache o.named.cache)) no_counts opens.whole opens.next None (λ h. opens.leads h no_counts) opens.seen
+    step = step_whole (state_of G old (M.held before)) (state_of G later (M.held before)) (commands.Plain (OpenSegment seg)) (Ok (replies.Cache o.named.cache)) no_counts opens.whole opens.next None (λ r. tt) (λ h. opens.leads h no_counts) opens.seen
 
     can_then : CanCall G later (M.held before) (M.page_bytes before)
     can_then = record {
@@ -335,14 +335,14 @@ lacks_memory M G before old seg can = record {
     rose = rise_none (M.counts before);
     is = record {
       step = step_whole (state_of G old (M.held before)) (state_of G old (M.held before)) (commands.Plain (OpenSegment seg)) (Err troubles.Memory) no_counts (references_seen (G.machine old.gmi (M.held before)) (segments_of (M.held before)) old.caches.items)
-          (references_seen (G.machine old.gmi (M.held before)) (segments_of (M.held before)) old.caches.items) None (λ h. (0, (refl, tt, tt)))
+          (references_seen (G.machine old.gmi (M.held before)) (segments_of (M.held before)) old.caches.items) None (λ r. tt) (λ h. (0, (refl, tt, tt)))
           (as_before (segments_of (M.held before)) (G.machine old.gmi (M.held before)) old.caches.items (blank_told (M.held before) (G.machine old.gmi (M.held before)) can.blank));
       live = live_seen M G old before can;
       denied = refl;
     };
   };
   kept = not_acquired (HasNoRoomWithout G old.gmi (M.held before) (OpenSegment seg)) (list_any (λ s. s == seg.0) (kept_segments old.kept.items)) seg.0 (kept_segments old.kept.items) troubles.Memory;
-  again = λ k e. (refl, tt);
+  again = λ k e. (refl, refl);
   too_many = λ e. absurd (cc e);
 }
 

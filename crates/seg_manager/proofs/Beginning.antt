@@ -199,7 +199,7 @@ module _ {Manager X Chooser : Type 0} (M : GhostsOfMapper X) (G : GhostsOfGmi Ma
                 (rise_then (M.counts before) (M.counts middle) (M.counts after) thins.rises (call_is M G by gmi middle after (OpenSegment seg) (Err (troubles.Refused refusals.TooMany)) thins.can call).rises thins.rose (call_is M G by gmi middle after (OpenSegment seg) (Err (troubles.Refused refusals.TooMany)) thins.can call).rose) f.rose;
             seen = vain_seen ∙ seen_by;
             denied = vain_denied ∙ thins.denied;
-          }) fails.whole fails.forest fails.seen vain_outcome;
+          }) fails.whole fails.forest (λ r. tt) fails.seen vain_outcome;
           kept = behind_not (HasNoRoomWithout G old.gmi (M.held before) (OpenSegment seg)) (list_any (λ s. s == seg.0) (kept_segments old.kept.items)) seg.0 (kept_segments old.kept.items) (kept_segments new.kept.items) (Err t)
               (not_kept m0 told0 old.caches.items old.kept.items old.kept.room old.regions.items can.tied seg anew)
               (subst (AreBehind Cause (kept_segments old.kept.items)) (sym (ap (λ (x : SegManager Manager). kept_segments x.kept.items) f.same)) kept_behind);
@@ -258,14 +258,14 @@ module _ {Manager X Chooser : Type 0} (M : GhostsOfMapper X) (G : GhostsOfGmi Ma
 
       -- of what is seen
       so : ((h : Segments) → Says R t h) → SegmentCall M G before old (commands.Plain (OpenSegment seg)) (Err t) after left
-      so says = stays_call M G before old can after left (commands.Plain (OpenSegment seg)) t rises stays (λ h. subst (λ (r : ReferenceMachine). Says r t h) seen_by (says h))
+      so says = stays_call M G before old can after left (commands.Plain (OpenSegment seg)) t rises stays (λ r. tt) (λ h. subst (λ (r : ReferenceMachine). Says r t h) seen_by (says h))
 
       said : (t ≡ troubles.Refused refusals.TooMany → left.kept.items ≡ []) → Ends then_told m seg.0 (Err t) n its_rises → SegmentCall M G before old (commands.Plain (OpenSegment seg)) (Err t) after left
       said kept (made p) = absurd (let wrong : Err t ≡ Ok (replies.Cache (record { 0 = number_next m })) = p.answer in cc wrong)
       said kept (many e s) =
           let is : t ≡ troubles.Refused refusals.TooMany = cc e in
           let L = lacking (kept is) is in
-          stays_by M G before old can after left (commands.Plain (OpenSegment seg)) t rises stays L.whole None L.seen (λ h. subst (λ (x : Trouble). Says L.whole x h) (sym is) (inl (refl, L.lacks)))
+          stays_by M G before old can after left (commands.Plain (OpenSegment seg)) t rises stays L.whole None (λ r. tt) L.seen (λ h. subst (λ (x : Trouble). Says L.whole x h) (sym is) (inl (refl, L.lacks)))
       said kept (nowhere e s none) =
           so (λ h. subst (λ (x : Trouble). Says R x h) (let is : troubles.Refused refusals.NoSegment ≡ t = cc e in is)
           (nowhere_row R seg.0 0 number_R (stored_nothing told m by.caches.items seg.0
@@ -369,7 +369,7 @@ module _ {Manager X Chooser : Type 0} (M : GhostsOfMapper X) (G : GhostsOfGmi Ma
           rises = counts_sum thins.rises open_rises;
           rose = rise_then (M.counts before) (M.counts middle) (M.counts after) thins.rises open_rises thins.rose (call_is M G by gmi middle after (OpenSegment seg) (Ok (replies.Cache cache)) thins.can call).rose;
           is = record {
-            step = step_whole (state_of G old (M.held before)) (state_of G final (M.held after)) (commands.Plain (OpenSegment seg)) (Ok (replies.Cache cache)) (counts_sum thins.rises open_rises) whole next None
+            step = step_whole (state_of G old (M.held before)) (state_of G final (M.held after)) (commands.Plain (OpenSegment seg)) (Ok (replies.Cache cache)) (counts_sum thins.rises open_rises) whole next None (λ r. tt)
                 (λ h. leads h (counts_sum thins.rises open_rises))
                 (seen_opened told told_then m n' by.caches.items by.kept.items by.kept.room by.regions.items thins.can.tied seg anew_by p.pages d refl number_is refl
                 (told_after M G by gmi middle after (OpenSegment seg) (Ok (replies.Cache cache)) thins.can call) p.next (blank_told (M.held middle) m thins.can.blank) (blank_told (M.held after) n' final_can.blank)
@@ -395,7 +395,7 @@ module _ {Manager X Chooser : Type 0} (M : GhostsOfMapper X) (G : GhostsOfGmi Ma
       rose = rise_none (M.counts before);
       seen = ap (references_seen m0 told0) caches;
       denied = refl;
-    }) (λ h. (refl, tt, tt));
+    }) (λ r. tt) (λ h. (refl, tt, tt));
     kept = behind_not (HasNoRoomWithout G old.gmi (M.held before) (OpenSegment seg)) (list_any (λ s. s == seg.0) (kept_segments old.kept.items)) seg.0 (kept_segments old.kept.items) (kept_segments start.kept.items) (Err troubles.Memory)
         (not_kept m0 told0 old.caches.items old.kept.items old.kept.room old.regions.items can.tied seg anew) (none_gone (HasNoRoomWithout G old.gmi (M.held before) (OpenSegment seg)) (kept_segments old.kept.items) (kept_segments start.kept.items) (ap kept_segments kept));
     again = λ k e. absurd (let wrong : None ≡ Some k = sym (number_below m0 told0 old.caches.items old.kept.items old.kept.room old.regions.items can.tied seg anew) ∙ e in cc wrong);

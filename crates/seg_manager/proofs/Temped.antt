@@ -220,10 +220,10 @@ module _ {Manager X Chooser : Type 0} (M : GhostsOfMapper X) (G : GhostsOfGmi Ma
       says : (t ≡ troubles.Refused refusals.TooMany → left.kept.items ≡ []) → IsTempTrouble t → SegmentCall M G before old (commands.Plain (MakeTemp pages)) (Err t) after left
       says none (inl e) =
           let L = lacking (none e) e in
-          stays_by M G before old can after left (commands.Plain (MakeTemp pages)) t rises stays L.whole None L.seen
+          stays_by M G before old can after left (commands.Plain (MakeTemp pages)) t rises stays L.whole None (λ r. tt) L.seen
           (λ h. subst (λ (x : Trouble). Outcome L.whole None (commands.Plain (MakeTemp pages)) h 0 (Err x) L.whole rises) (sym e) (inl (refl, L.lacks)))
       says none (inr e) =
-          stays_call M G before old can after left (commands.Plain (MakeTemp pages)) t rises stays
+          stays_call M G before old can after left (commands.Plain (MakeTemp pages)) t rises stays (λ r. tt)
           (λ h. subst (λ (x : Trouble). Outcome R None (commands.Plain (MakeTemp pages)) h 0 (Err x) R rises) (sym e) (refl, tt, lacks_row R pages 0))
 
       pub not_made : (t ≡ troubles.Refused refusals.TooMany → left.kept.items ≡ []) → Serves M G before old (MakeTemp pages) (Err t) after left
@@ -282,7 +282,7 @@ module _ {Manager X Chooser : Type 0} (M : GhostsOfMapper X) (G : GhostsOfGmi Ma
 
       pub in_vain : Serves M G before old (MakeTemp pages) (Err t) later new
       in_vain = record {
-        call = stays_by M G before old can later new (commands.Plain (MakeTemp pages)) t vain_rises vain fails.whole fails.forest fails.seen
+        call = stays_by M G before old can later new (commands.Plain (MakeTemp pages)) t vain_rises vain fails.whole fails.forest (λ r. tt) fails.seen
             (λ h. subst (λ (x : Trouble). Outcome fails.whole fails.forest (commands.Plain (MakeTemp pages)) h 0 (Err x) fails.whole vain_rises) (sym f.is) (vain_says fails.whole fails.forest h (fails.fails h)));
         kept = (
           subst (AreBehind Cause (kept_segments old.kept.items)) (sym (ap (λ (x : SegManager Manager). kept_segments x.kept.items) f.same)) kept_behind,
@@ -342,7 +342,7 @@ module _ {Manager X Chooser : Type 0} (M : GhostsOfMapper X) (G : GhostsOfGmi Ma
           rises = counts_sum thins.rises temp_rises;
           rose = rise_then (M.counts before) (M.counts middle) (M.counts after) thins.rises temp_rises thins.rose (call_is M G by gmi middle after (MakeTemp pages) (Ok (replies.Cache cache)) thins.can call).rose;
           is = record {
-            step = step_whole (state_of G old (M.held before)) (state_of G final (M.held after)) (commands.Plain (MakeTemp pages)) (Ok (replies.Cache cache)) (counts_sum thins.rises temp_rises) R next None
+            step = step_whole (state_of G old (M.held before)) (state_of G final (M.held after)) (commands.Plain (MakeTemp pages)) (Ok (replies.Cache cache)) (counts_sum thins.rises temp_rises) R next None (λ r. tt)
                 (λ h. (number_next m, gives h))
                 (subst (λ (r : ReferenceMachine). AreSeen told_then (state_of G old (M.held before)) (state_of G final (M.held after)) r (add_cache r (number_next m) (temporary m.page_bytes pages))) thins.seen
                 (seen_temp m zeros told told_then n by.caches.items by.kept.items by.kept.room by.regions.items thins.can.tied

@@ -1,5 +1,5 @@
 -- What the calls of the manager of segments have in common.
-use Rattle.std.specs.Prelude.{◌≡◌, ◌==◌, ◌≤◌, List, ℕ, ◌+◌, ◌^◌, [], ◌++◌, length, Option, Some, Result, Ok, Err, IfOk}
+use Rattle.std.specs.Prelude.{◌≡◌, ◌==◌, ◌≤◌, List, ℕ, ◌+◌, ◌^◌, [], ◌++◌, length, Option, Some, Result, Ok, Err}
 use Rattle.std.specs.List.{list_any}
 use Rattle.vm_ids.specs.Counting.{MapperCounts, Rise, no_counts}
 use Rattle.vm_ids.specs.Held.{Held, Segments, segments_of}
@@ -12,7 +12,7 @@ use Rattle.vm_ids.specs.declared.numbers.SegId.{SegId}
 use Rattle.vm_ids.specs.declared.refusal.Refusal.TheVariants.{TooMany}
 use Rattle.vm_ids.specs.declared.reply.Reply.TheVariants as replies
 use Rattle.vm_ids.specs.declared.reply.Trouble.{Trouble}
-use Rattle.vm_ids.specs.declared.reply.Trouble.TheVariants.{Refused}
+use Rattle.vm_ids.specs.declared.reply.Trouble.TheVariants.{Memory, Refused}
 use Rattle.vm_model.specs.Answering.{Answer, answer_by}
 use Rattle.vm_model.specs.Machine.{Machine}
 use Rattle.vm_model.specs.Outcome.{OutcomeAt}
@@ -95,6 +95,11 @@ HasNoRoomWithout G gmi told command gone =
     OutcomeAt (segments_of told) (without gone (G.machine gmi told)) (G.forest gmi told) command
     (Err (Refused TooMany)) (without gone (G.machine gmi told)) no_counts
 
+-- the cache with this number was found, or there was no memory for another reference to it
+abbrev pub IsFound : ℕ → Result CacheId Trouble → Type 0
+IsFound n (Ok cache) = cache.0 ≡ n
+IsFound n (Err trouble) = trouble ≡ Memory
+
 -- An opening of a segment. A cache that there is keeps its number, and the mapper isn't called.
 pub record Acquires {Manager Mapper Chooser : Type 0} (M : GhostsOfMapper Mapper)
     (G : GhostsOfGmi Manager Mapper Chooser) (before : Mapper) (old : SegManager Manager)
@@ -107,7 +112,7 @@ pub record Acquires {Manager Mapper Chooser : Type 0} (M : GhostsOfMapper Mapper
       (list_any (λ s. s == seg.0) (kept_segments old.kept.items)) seg.0
       (kept_segments old.kept.items) result (kept_segments new.kept.items)
   pub again : (n : ℕ) → number_in 1 (G.machine old.gmi (M.held before)).caches seg.0 ≡ Some n
-      → (after ≡ before) × IfOk result (λ cache. cache.0 ≡ n)
+      → (after ≡ before) × IsFound n result
   pub too_many : result ≡ Err (Refused TooMany) → (new.kept.items ≡ [])
       × HasNoRoom G new.gmi (M.held after) (plain_commands.OpenSegment seg)
 
