@@ -207,8 +207,9 @@ impl Pvm {
     }
 
     /// Issues a store: it is answered as by `store`, or it has to wait for its page, which is
-    /// `None`: exactly where nothing refuses it, no call of the mapper failed and the page is
-    /// neither in a frame nor zeros. No page is pulled.
+    /// `None`. Where the page is in a frame or zeros it is answered; where it isn't, the store is
+    /// refused, answers a fault of the mapper, or else waits, and then a call of the mapper may have
+    /// failed all the same. No page is pulled.
     pub fn issue_store<M: Mapper, C: Chooser>(
         &mut self,
         actor: ActorId,
