@@ -38,9 +38,6 @@ pairs_more zeros c p d q (suc k) f =
     ∙ (λ i. move_page (move_pages zeros (page_pairs c (p + 1) d (q + 1) k) g) (page_name d (to i)) (page_name c (from i)) zeros)
 
 module _ (a : Arena) (d s : NodeId) (span : Span) (can : CanMoveMany a d s span) where
-  abbrev parent : Option NodeId
-  parent = (cell a d).links.parent
-
   -- a node is none of those that the nodes of the first pages hang on
   abbrev IsAbove : Option NodeId → NodeId → ℕ → Type 0
   IsAbove o n k = (j : ℕ) → j < k → next_if o j ≡ Some n → ⊥
