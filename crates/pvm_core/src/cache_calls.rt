@@ -14,7 +14,6 @@ ghost use Rattle.pvm_core.specs.Manager.{IsValid, machine_of, meaning, nodes_of,
 use crate::Pvm;
 use crate::nodes::reserve;
 use crate::spans::{copy_refusal, destination, move_refusal};
-use crate::translations::may_be_mapped;
 use page_release::{copy_pages, destroy_pages, move_pages};
 use vm_ids::{CacheId, Command, Extent, PageNo, Refusal, Reply, Span, Trouble};
 use vm_model::{LIVE_PAGES, MOST_MADE};
@@ -104,7 +103,7 @@ impl Pvm {
             return Err(Trouble::Refused(refusal));
         }
         self.make_ready(destination(span), 2 * span.pages, mapper, chooser)?;
-        let mapped = may_be_mapped(&self.contexts, span.to, span.pages);
+        let mapped = self.contexts.maps(span.to);
         copy_pages(&mut self.store, &mut self.caches, span, mapped);
         Ok(())
     }
@@ -131,8 +130,8 @@ impl Pvm {
             return Err(Trouble::Refused(refusal));
         }
         self.make_ready(destination(span), span.pages, mapper, chooser)?;
-        let from_mapped = may_be_mapped(&self.contexts, span.from, span.pages);
-        let to_mapped = may_be_mapped(&self.contexts, span.to, span.pages);
+        let from_mapped = self.contexts.maps(span.from);
+        let to_mapped = self.contexts.maps(span.to);
         move_pages(
             &mut self.store,
             &mut self.caches,

@@ -149,7 +149,7 @@ invariant_of-self g c = record {
       let d = c.copy_pages.new.caches in
       let u = c.copy_pages.new.store in
       left_right _ _ _ j.caches d j.store u j.contexts e.translations
-      (seen_sought j.contexts s.to s.to_page.0 s.pages _ (destination_names s) _ c.may_be_mapped-mapped.ensures)
+      (seen_sought j.contexts s.to s.to_page.0 s.pages _ (destination_names s) _ (λ none. sym c.maps-mapped.ensures ∙ none))
       (homes_writable _ j.caches d e.kept.sizes e.kept.homes) c.self-2.invariant.translated
       );
 }

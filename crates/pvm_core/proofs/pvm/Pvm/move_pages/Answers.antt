@@ -181,8 +181,8 @@ invariant_of-self g c = record {
       let d = c.move_pages.new.caches in
       let u = c.move_pages.new.store in
       left_right _ _ _ j.caches d j.store u j.contexts e.translations (λ actor page at is i. elim i [
-        | inl to ↦ inl (seen_sought j.contexts s.to s.to_page.0 s.pages _ (destination_names s) _ c.may_be_mapped-to_mapped.ensures actor page at is to)
-        | inr from ↦ inr (seen_sought j.contexts s.from s.from_page.0 s.pages _ (source_names s) _ c.may_be_mapped-from_mapped.ensures actor page at is from)
+        | inl to ↦ inl (seen_sought j.contexts s.to s.to_page.0 s.pages _ (destination_names s) _ (λ none. sym c.maps-to_mapped.ensures ∙ none) actor page at is to)
+        | inr from ↦ inr (seen_sought j.contexts s.from s.from_page.0 s.pages _ (source_names s) _ (λ none. sym c.maps-from_mapped.ensures ∙ none) actor page at is from)
       ]) (homes_writable _ j.caches d e.kept.sizes e.kept.homes) c.self-2.invariant.translated
       );
 }
