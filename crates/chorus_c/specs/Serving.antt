@@ -6,10 +6,10 @@ use Rattle.chorus_c.specs.Exchanging.{answer_number, command_of, with_answer}
 use Rattle.chorus_c.specs.Parts.{Answers, Parts}
 use Rattle.chorus_c.specs.declared.exchange.Exchange.{Exchange}
 
--- It has this number, and all is as before.
-pub record IsLeft (number : ℕ) (c : Parts) (e : Exchange) (result : ℕ) (d : Parts) (f : Exchange)
+-- It tells why it did nothing: all is as before.
+pub record IsLeft (why : ℕ) (c : Parts) (e : Exchange) (result : ℕ) (d : Parts) (f : Exchange)
     : Type 0 where
-  pub number : result ≡ number
+  pub number : result ≡ why
   pub chorus : d ≡ c
   pub exchange : f ≡ e
 

@@ -63,11 +63,7 @@ fn store_in(exchange: &Exchange) -> Option<Command>
         return None;
     }
     match Piece::front(exchange.bytes, exchange.length as usize) {
-        Some(piece) => Some(Command::Store(
-            ActorId(exchange.actor),
-            exchange.address,
-            piece,
-        )),
+        Some(piece) => Some(Command::Store(ActorId(exchange.actor), exchange.address, piece)),
         None => None,
     }
 }

@@ -78,6 +78,7 @@ impl Chorus {
     }
 
     /// What it answers to a command.
+    #[tactic(auto, using(crate::proofs::Raising::raises))]
     pub fn answer(&mut self, command: &Command) -> Answer
         requires formed { IsWellFormed command.now }
         requires bound { self.old.bound ≤ 2 ^ 62 }

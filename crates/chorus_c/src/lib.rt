@@ -76,7 +76,10 @@ pub unsafe extern "C" fn chorus_call(at: *mut u8, exchange: *mut Exchange) -> u3
         (sem 𝓛 (chorus_at at new.0) ∗ sem 𝓛 (exchange_at exchange new.1))
         ∗ ⌜ Served old.0 old.1 result new.0 new.1 ⌝) }
 {
-    serve(unsafe { &mut *(at as *mut Chorus) }, unsafe { &mut *exchange })
+    serve(
+        unsafe { &mut *(at as *mut Chorus) },
+        unsafe { &mut *exchange },
+    )
 }
 
 // Lets a chorus go.
