@@ -37,6 +37,7 @@ use Rattle.mix_process.specs.declared.process.Part.{Part}
 use Rattle.mix_process.specs.declared.process.Process.{Process}
 use Rattle.mix_process.proofs.Able.{AreRenamed, able_after, ended, is_call, own_caches, parts_apart, respared, sync_after, tied_ended, tied_renamed}
 use Rattle.mix_process.proofs.Clearing.{own_kept}
+use Rattle.mix_process.proofs.Having.{had}
 use Rattle.mix_process.proofs.Lists.{number_at}
 use Rattle.mix_process.proofs.Putting.{number_other}
 use Rattle.mix_process.proofs.Single.{none_here, refused_called}
@@ -243,7 +244,7 @@ module _ {Manager X Chooser : Type 0} (M : GhostsOfMapper X) (G : GhostsOfGmi Ma
     made = omega (arith, e.made, ap G.made gmi);
     rises = e.rises;
     rose = e.rose;
-    is = record { step = go (segments_of (M.held after)) refl; segments = e.segments };
+    is = record { step = go (segments_of (M.held after)) refl; has = had G new (M.held after) (M.page_bytes after) e.able; segments = e.segments };
   }
     where
       n : Machine

@@ -36,6 +36,7 @@ use Rattle.mix_process.specs.declared.mix.Mix.{Mix}
 use Rattle.mix_process.specs.declared.process.Process.{Process}
 use Rattle.mix_process.proofs.Back.{one_end}
 use Rattle.mix_process.proofs.Counts.{used_to_fork}
+use Rattle.mix_process.proofs.Having.{had}
 use Rattle.mix_process.proofs.Imaging.{map_snoc}
 use Rattle.mix_process.proofs.Inheriting.{set_last}
 use Rattle.mix_process.proofs.Keeping.{images_kept, numbered_at, processes_kept}
@@ -92,7 +93,7 @@ module _ (x : ProcessMachine) (of : ProcId) where
     step_forks = record { outcome = row_some p there; raised = raised }
 
 zeros_to_fork : (p : model.Process) → usage_to_fork (each_of zeros p) ≡ usage_to_fork p
-zeros_to_fork p = λ i. usage_for (2 + p.pieces) (length-map p.text_pages zeros i + length-map p.data_pages zeros i + length-map p.stack_pages zeros i)
+zeros_to_fork p = λ i. usage_for (2 + length p.pieces) (length-map p.text_pages zeros i + length-map p.data_pages zeros i + length-map p.stack_pages zeros i)
 
 module _ {Manager X Chooser : Type 0} (M : GhostsOfMapper X) (G : GhostsOfGmi Manager X Chooser) (old : Mix Manager) (before : X) (can : CanCall G old (M.held before) (M.page_bytes before)) (of : ProcId) where
   abbrev m : Machine
@@ -181,6 +182,7 @@ module _ {Manager X Chooser : Type 0} (M : GhostsOfMapper X) (G : GhostsOfGmi Ma
       is = record {
         step = lacks new before no_counts st.can refl (subst (λ (x : Machine). RaisedBy (usage_to_fork P) u (usage_of x)) (sym st.starts.machine) (record { actors = omega arith; caches = omega arith; regions = omega arith })) t
             (λ i. processes_seen (st.starts.machine i) (st.starts.table i) (st.images i).items) (lack_still u (usage_to_fork P) u usage_to_start start_less t st.starts.why) (segments_of (M.held before)) refl;
+        has = had G new (M.held before) (M.page_bytes before) st.can;
         segments = refl;
       };
     }
@@ -227,7 +229,7 @@ module _ {Manager X Chooser : Type 0} (M : GhostsOfMapper X) (G : GhostsOfGmi Ma
         made = omega (arith, st.made, f.made);
         rises = f.rises;
         rose = f.rose;
-        is = record { step = forks next now f.rises f.can f.segments (let w = used next now (Ok tt) f in record { actors = w.actors; caches = w.caches; regions = w.regions }) (length next.processes.items) many seen (segments_of (M.held now)) refl; segments = f.segments };
+        is = record { step = forks next now f.rises f.can f.segments (let w = used next now (Ok tt) f in record { actors = w.actors; caches = w.caches; regions = w.regions }) (length next.processes.items) many seen (segments_of (M.held now)) refl; has = had G next (M.held now) (M.page_bytes now) f.can; segments = f.segments };
       }
         where
           child_same : process_seen k p ≡ P
@@ -250,7 +252,7 @@ module _ {Manager X Chooser : Type 0} (M : GhostsOfMapper X) (G : GhostsOfGmi Ma
         made = omega (arith, st.made, f.made, b.made);
         rises = counts_sum f.rises b.rises;
         rose = rise_then (M.counts before) (M.counts now) (M.counts after) f.rises b.rises f.rose b.rose;
-        is = record { step = lacks new after (counts_sum f.rises b.rises) b.can (b.segments ∙ f.segments) all t seen (lack_still u (usage_to_fork P) (usage_of k) (usage_of_parts p.parts.items) less t f.inherits) (segments_of (M.held after)) refl; segments = b.segments ∙ f.segments };
+        is = record { step = lacks new after (counts_sum f.rises b.rises) b.can (b.segments ∙ f.segments) all t seen (lack_still u (usage_to_fork P) (usage_of k) (usage_of_parts p.parts.items) less t f.inherits) (segments_of (M.held after)) refl; has = had G new (M.held after) (M.page_bytes after) b.can; segments = b.segments ∙ f.segments };
       }
         where
           items : new.processes.items ≡ old.processes.items

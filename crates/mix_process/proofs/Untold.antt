@@ -18,7 +18,7 @@ use Rattle.mix_process.specs.Answering.{put_process}
 use Rattle.mix_process.specs.Outcome.{Usage, usage_of}
 use Rattle.mix_process.specs.ProcessMachine as model
 use Rattle.mix_process.specs.ProcessMachine.{ProcessMachine, process_of}
-use Rattle.mix_process.specs.Seen.{area_seen, cache_pages, image_seen, part_seen, parts_in, process_seen, processes_seen, same_area}
+use Rattle.mix_process.specs.Seen.{area_seen, cache_pages, image_seen, part_seen, process_seen, processes_seen, same_area, sizes_in}
 use Rattle.mix_process.specs.Stepping.{State, StepOver, each_in, each_of, each_page, forget, no_bytes}
 use Rattle.mix_process.specs.Tying.{IsUntoldBlank}
 use Rattle.mix_process.specs.declared.area.Area.{Area}
@@ -80,7 +80,7 @@ process_blank m p = λ i. record {
   text_pages = sym (area_blank m Text p.parts.items) i;
   data_pages = sym (area_blank m Data p.parts.items) i;
   stack_pages = sym (area_blank m Stack p.parts.items) i;
-  pieces = parts_in Data p.parts.items;
+  pieces = sizes_in Data p.parts.items;
 }
 
 pub seen_blank : (m : Machine) (table : List (Option Process)) (images : List Image) → processes_seen (blank m) table images ≡ each_page no_bytes (processes_seen m table images)

@@ -6,7 +6,7 @@ use Rattle.vm_ids.specs.declared.command.MixCommand.{MixCommand}
 use Rattle.vm_model.specs.Answering.{Answer}
 use Rattle.vm_model.specs.Machine.{Page}
 use Rattle.gmi_calls.specs.Untold.{UntoldStep}
-use Rattle.mix_process.specs.Outcome.{Outcome, RaisedBy, Usage, makes_by}
+use Rattle.mix_process.specs.Outcome.{HasThese, Outcome, RaisedBy, Usage, makes_by}
 use Rattle.mix_process.specs.ProcessMachine.{Process, ProcessMachine}
 
 -- What there is between two answers: the processes, what the manager has, and the mapper's segments
@@ -54,8 +54,10 @@ StepAt None before command answer rises after =
     UntoldStep forget (λ h whole a next. StepOver h whole command a rises next) before answer after
 StepAt (Some h) before command answer rises after = StepOver h before command answer rises after
 
--- One answer of the processes over a manager. No segment changes.
+-- One answer of the processes over a manager. Behind it the manager has the processes and their
+-- images, and nothing else. No segment changes.
 pub record AnswerIs (before : State) (command : MixCommand) (answer : Answer) (rises : MapperCounts)
     (after : State) : Type 0 where
   pub step : StepAt after.segments before command answer rises after
+  pub has : HasThese after.processes after.usage
   pub segments : after.segments ≡ before.segments
