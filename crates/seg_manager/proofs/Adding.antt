@@ -68,7 +68,7 @@ module _ {Manager X Chooser : Type 0} (M : GhostsOfMapper X) (G : GhostsOfGmi Ma
   -- There was no memory to note it.
   pub lacks_map : (new : SegManager Manager) → new ≡ record old { regions = new.regions } → new.regions.items ≡ rs → Serves M G mapper old (Map actor p) (Err troubles.Memory) mapper new
   lacks_map new is same = subst (λ (z : SegManager Manager). Serves M G mapper old (Map actor p) (Err troubles.Memory) mapper z) (sym is) (record {
-    call = stays_call M G mapper old able mapper (record old { regions = new.regions }) (Plain (Map actor p)) troubles.Memory no_counts stays (λ h. (refl, tt, tt));
+    call = stays_call M G mapper old able mapper (record old { regions = new.regions }) (Plain (Map actor p)) troubles.Memory no_counts stays (λ r. tt) (λ h. (refl, tt, tt));
     kept = refl;
   })
     where

@@ -170,7 +170,7 @@ module _ {Manager X Chooser : Type 0} (M : GhostsOfMapper X) (G : GhostsOfGmi Ma
           rises = trims.rises;
           rose = trims.rose;
           is = record {
-            step = step_by (state_of G old (M.held before)) (state_of G new (M.held after)) (commands.Close seg) (Ok replies.Done) trims.rises next (λ h. (0, (tt, row)))
+            step = step_by (state_of G old (M.held before)) (state_of G new (M.held after)) (commands.Close seg) (Ok replies.Done) trims.rises next (λ r. tt) (λ h. (0, (tt, row)))
                 (told_both told (segments_of (M.held after)) trims.denied (state_of G old (M.held before)) (state_of G mid (M.held before)) (state_of G new (M.held after)) next trims.seen
                 (closed_seen told m old.caches.items old.kept.items old.kept.room old.regions.items can.tied seg cache later.caches.items c (blank_told (M.held before) m can.blank)));
             live = live_seen M G new after trims.can;
@@ -192,7 +192,7 @@ not_released M G before old seg can none = record {
     rises = no_counts;
     rose = rise_none (M.counts before);
     is = record {
-      step = step_by (state_of G old (M.held before)) (state_of G old (M.held before)) (commands.Close seg) (Err (troubles.Refused refusals.NotOpen)) no_counts seen (λ h. (0, row)) (seen_same (segments_of (M.held before)) m old.caches.items (blank_told (M.held before) m can.blank));
+      step = step_by (state_of G old (M.held before)) (state_of G old (M.held before)) (commands.Close seg) (Err (troubles.Refused refusals.NotOpen)) no_counts seen (λ r. tt) (λ h. (0, row)) (seen_same (segments_of (M.held before)) m old.caches.items (blank_told (M.held before) m can.blank));
       live = live_seen M G old before can;
       denied = refl;
     };

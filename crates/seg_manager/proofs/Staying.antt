@@ -19,7 +19,7 @@ use Rattle.seg_manager.specs.Calling.{SegmentCall, call_budget}
 use Rattle.seg_manager.specs.Outcome as keep
 use Rattle.seg_manager.specs.ReferenceMachine.{ReferenceMachine}
 use Rattle.seg_manager.specs.Seen.{references_seen, state_of}
-use Rattle.seg_manager.specs.Stepping.{State, blank_references}
+use Rattle.seg_manager.specs.Stepping.{IsWholeFor, State, blank_references}
 use Rattle.seg_manager.specs.Thinning.{denied_by, machine_at, seen_with}
 use Rattle.seg_manager.specs.Tying.{CanCall}
 use Rattle.seg_manager.specs.declared.manager.SegManager.{SegManager}
@@ -72,8 +72,8 @@ module _ {Manager X Chooser : Type 0} (M : GhostsOfMapper X) (G : GhostsOfGmi Ma
 
   -- The answer is that of a machine, of which they are what is seen.
   pub stays_by : (after : X) (new : SegManager Manager) (command : KeepCommand) (t : Trouble) (rises : MapperCounts) → Stays after new rises
-      → (whole : ReferenceMachine) → AreSeen (segments_of (M.held after)) (state_of G old (M.held before)) (state_of G new (M.held after)) whole whole → ((h : Segments) → keep.Outcome whole None command h 0 (Err t) whole rises) → SegmentCall M G before old command (Err t) after new
-  stays_by after new command t rises s whole seen outcome = record {
+      → (whole : ReferenceMachine) (f : Option PageForest) → ((r : ReferenceMachine) → IsWholeFor command r) → AreSeen (segments_of (M.held after)) (state_of G old (M.held before)) (state_of G new (M.held after)) whole whole → ((h : Segments) → keep.Outcome whole f command h 0 (Err t) whole rises) → SegmentCall M G before old command (Err t) after new
+  stays_by after new command t rises s whole f any seen outcome = record {
     can = s.can;
     made = s.made;
     limit = s.limit;
@@ -81,16 +81,16 @@ module _ {Manager X Chooser : Type 0} (M : GhostsOfMapper X) (G : GhostsOfGmi Ma
     rises = rises;
     rose = s.rose;
     is = record {
-      step = step_whole (state_of G old (M.held before)) (state_of G new (M.held after)) command (Err t) rises whole whole (λ h. (0, outcome h)) seen;
+      step = step_whole (state_of G old (M.held before)) (state_of G new (M.held after)) command (Err t) rises whole whole f any (λ h. (0, outcome h)) seen;
       live = live_seen M G new after s.can;
       denied = s.denied;
     };
   }
 
   pub stays_call : (after : X) (new : SegManager Manager) (command : KeepCommand) (t : Trouble) (rises : MapperCounts) → Stays after new rises
-      → ((h : Segments) → keep.Outcome (seen_with M G old before) None command h 0 (Err t) (seen_with M G old before) rises) → SegmentCall M G before old command (Err t) after new
-  stays_call after new command t rises s outcome =
-      stays_by after new command t rises s (seen_with M G old before)
+      → ((r : ReferenceMachine) → IsWholeFor command r) → ((h : Segments) → keep.Outcome (seen_with M G old before) None command h 0 (Err t) (seen_with M G old before) rises) → SegmentCall M G before old command (Err t) after new
+  stays_call after new command t rises s any outcome =
+      stays_by after new command t rises s (seen_with M G old before) None any
       (same_seen (segments_of (M.held before)) (segments_of (M.held after)) s.denied (state_of G old (M.held before)) (state_of G new (M.held after)) (seen_with M G old before) refl s.seen
       (blank_seen (segments_of (M.held before)) (machine_at M G old before) old.caches.items (blank_told (M.held before) (machine_at M G old before) able.blank)))
       outcome

@@ -65,7 +65,7 @@ module _ {Manager X Chooser : Type 0} (M : GhostsOfMapper X) (G : GhostsOfGmi Ma
       regions = t.thins.regions;
       kept = record {
         gone = length (kept_segments old.kept.items) - length (kept_segments manager.kept.items);
-        is = segments_missing t.thins.kept.0 old.kept.items manager.kept.items t.thins.kept.1;
+        is = segments_missing t.thins.gone old.kept.items manager.kept.items t.thins.kept;
         few = few;
         last = inl (all_gone t.more);
       };
@@ -97,7 +97,7 @@ module _ {Manager X Chooser : Type 0} (M : GhostsOfMapper X) (G : GhostsOfGmi Ma
       regions = ap (λ (x : SegManager Manager). x.regions) f.same ∙ t.thins.regions;
       kept = record {
         gone = length (kept_segments old.kept.items) - length (kept_segments manager.kept.items);
-        is = ap (λ (x : SegManager Manager). kept_segments x.kept.items) f.same ∙ segments_missing t.thins.kept.0 old.kept.items manager.kept.items t.thins.kept.1;
+        is = ap (λ (x : SegManager Manager). kept_segments x.kept.items) f.same ∙ segments_missing t.thins.gone old.kept.items manager.kept.items t.thins.kept;
         few = few;
         last = inr (rise_failed (M.counts before) (M.counts after) (counts_sum t.thins.rises f.rises)
             (rise_then (M.counts before) (M.counts now) (M.counts after) t.thins.rises f.rises t.thins.rose f.rose) (omega (arith, f.failed)));

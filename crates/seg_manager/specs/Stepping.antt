@@ -2,10 +2,12 @@
 use Rattle.std.specs.Prelude.{◌≡◌, ◌≤◌, ℕ, Option, Some, None, option_map}
 use Rattle.vm_ids.specs.Counting.{MapperCounts}
 use Rattle.vm_ids.specs.Held.{Segments}
+use Rattle.vm_ids.specs.declared.command.Command.TheVariants.{Load}
 use Rattle.vm_ids.specs.declared.command.KeepCommand.{KeepCommand}
+use Rattle.vm_ids.specs.declared.command.KeepCommand.TheVariants.{Plain}
 use Rattle.vm_model.specs.Answering.{Answer}
 use Rattle.vm_model.specs.Machine.{live_pages}
-use Rattle.vm_model.specs.Outcome.{blank}
+use Rattle.vm_model.specs.Outcome.{HasWholePages, blank}
 use Rattle.vm_model.specs.PageForest.{PageForest}
 use Rattle.vm_model.specs.declared.limits.TheConstants.{LIVE_PAGES}
 use Rattle.gmi_calls.specs.Untold.{UntoldStep}
@@ -31,10 +33,21 @@ abbrev pub LeadsTo : Segments → State → KeepCommand → Answer → MapperCou
 LeadsTo h before command answer rises after = (number : ℕ) × (forest : Option PageForest)
     × Outcome before.references forest command h number answer after.references rises
 
+-- Of a load, which alone tells bytes, each page of the machine has all its bytes.
+abbrev pub IsWholeFor : KeepCommand → ReferenceMachine → Type 0
+IsWholeFor (Plain (Load actor address length)) m = HasWholePages m.memory
+IsWholeFor command m = Unit {0}
+
+-- One answer of a machine with bytes, where nothing is told.
+abbrev pub LeadsWhole : Segments → State → KeepCommand → Answer → MapperCounts → State → Type 0
+LeadsWhole h whole command answer rises next =
+    IsWholeFor command whole.references × LeadsTo h whole command answer rises next
+
 -- One answer, where the mapper tells what it holds and where it doesn't.
 abbrev pub StepAt : Option Segments → State → KeepCommand → Answer → MapperCounts → State → Type 0
 StepAt None before command answer rises after =
-    UntoldStep forget (λ h whole a next. LeadsTo h whole command a rises next) before answer after
+    UntoldStep forget (λ h whole a next. LeadsWhole h whole command a rises next) before answer
+    after
 StepAt (Some h) before command answer rises after = LeadsTo h before command answer rises after
 
 -- One answer of the manager of segments. No more pages are live behind it than may be, and the
