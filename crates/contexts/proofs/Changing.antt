@@ -1,5 +1,5 @@
 -- A region that is told becomes another one with its number, among the spaces of the actors.
-use Rattle.std.proofs.Common.{◌≡◌, ◌==◌, ℕ, cond, List, [], ◌∷◌, length, Option, Some, refl, sym, ap, subst, ◌∙◌, arith}
+use Rattle.std.proofs.Common.{◌≡◌, ◌==◌, ℕ, ◌+◌, ◌≤◌, cond, List, [], ◌∷◌, length, Option, Some, refl, sym, ap, subst, ◌∙◌, arith}
 use Rattle.std.specs.Prelude.{IsSome, is_some}
 use Rattle.std.specs.Vec.{with_items}
 use Rattle.std.proofs.lemmas.List.{with_items_is}
@@ -7,11 +7,14 @@ use Rattle.std.proofs.lemmas.List.Elements.{All-cons, All-nil}
 use Rattle.vm_ids.specs.declared.reply.RegionStatus.{RegionStatus}
 use Rattle.vm_model.specs.Machine.{Actor, Region, numbered}
 use Rattle.vm_model.specs.Regions.{region_among, replace_in, replace_region, status_with}
+use Rattle.vm_model.proofs.Parts.Lists.{is_there}
 use Rattle.regions.specs.AddressSpace.{AddressSpace}
 use Rattle.contexts.specs.Actors.{Actors}
+use Rattle.contexts.specs.Counting.{count_of, times_mapped}
 use Rattle.contexts.specs.Layout.{IsChanged, IsSound, actors_seen, owner_of, regions_in}
 use Rattle.contexts.specs.declared.contexts.Contexts.TheInside.{Inside}
-use Rattle.contexts.proofs.Once.{once_same}
+use Rattle.contexts.proofs.Counted.{times_here}
+use Rattle.contexts.proofs.Once.{once_same, times_same}
 use Rattle.contexts.proofs.Owners.{IsFor}
 use Rattle.contexts.proofs.Replaced.{all_replaced}
 use Rattle.contexts.proofs.Sound.{sound_same}
@@ -21,6 +24,14 @@ module _ (i : Inside) (a : Actors) (seen : actors_seen i ≡ a) (n : ℕ) (s : R
   -- what is seen of the region is told of the spaces
   pub told_inside : IsTold n 1 (regions_in i.actors.items) s
   told_inside = is_told n 1 (regions_in i.actors.items) s (subst (λ (a : Actors). status_with n 1 a.actors ≡ Some s) (sym seen) is)
+
+  -- its cache is mapped
+  pub told_counted : 1 ≤ times_mapped s.mapping.extent.cache.0 (regions_in i.actors.items)
+  told_counted =
+      let t = told_inside in
+      let space = is_there (numbered i.actors.items s.actor.0) (told_alive n i.actors.items s t) in
+      subst (λ (u : RegionStatus). 1 ≤ times_mapped u.mapping.extent.cache.0 (regions_in i.actors.items)) (sym t.told)
+      (times_here i.actors.items s.actor.0 space.0 space.1 n t.region (told_among n i.actors.items s t space.0 space.1))
 
   module _ (xs : List (Option AddressSpace)) (same : xs ≡ i.actors.items) where
     pub inside_alive : IsSome (numbered xs s.actor.0)
@@ -38,8 +49,8 @@ module _ (i : Inside) (a : Actors) (seen : actors_seen i ≡ a) (n : ℕ) (s : R
         changed : IsChanged s.actor.0 (replace_region n one) i.actors.items ys
         changed = subst (λ (xs : List (Option AddressSpace)). IsChanged s.actor.0 (replace_region n one) xs ys) same by
 
-        pub inside_sound : ((r : Region) → (change r).number ≡ r.number) → IsSound i → IsSound (record i { actors = with_items i.actors ys })
-        inside_sound number sound =
+        pub inside_sound : ((r : Region) → (change r).number ≡ r.number) → ((r : Region) → (change r).cache ≡ r.cache) → IsSound i → IsSound (record i { actors = with_items i.actors ys })
+        inside_sound number cache sound =
             let e : IsChanged s.actor.0 (replace_region n one) i.actors.items (with_items i.actors ys).items = subst (IsChanged s.actor.0 (replace_region n one) i.actors.items) (sym (with_items_is i.actors ys len)) changed in
             let P : Region → Type 0 = IsFor i.owners.items s.actor.0 in
             let r = told_inside.region in
@@ -47,6 +58,8 @@ module _ (i : Inside) (a : Actors) (seen : actors_seen i ≡ a) (n : ℕ) (s : R
             sound_same i (record i { actors = with_items i.actors ys }) sound refl refl s.actor.0 (replace_region n one) e refl
             (all_replaced P n one r e.space.regions among (λ p. All-cons P (change r) [] (subst (λ (k : ℕ). owner_of i.owners.items k ≡ Some (record { 0 = s.actor.0 })) (sym (number r)) p) (All-nil P)))
             (once_same n one r e.space.regions among (λ k. omega (arith, ap {B = ℕ} (λ (m : ℕ). cond (m == k) 1 0) (number r))))
+            (λ k. ap (λ (m : ℕ). count_of i.mapped k + m)
+            (sym (times_same (λ (x : Region). x.cache == k) n one r e.space.regions among (omega (arith, ap {B = ℕ} (λ (m : ℕ). cond (m == k) 1 0) (cache r))))))
 
         pub inside_seen : actors_seen (record i { actors = with_items i.actors ys }) ≡ record a { actors = replace_in n one a.actors }
         inside_seen =

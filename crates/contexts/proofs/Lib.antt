@@ -4,7 +4,7 @@ pub mod Owners
 pub mod Once
 pub mod Few
 pub mod Kept
-pub mod Listing
+pub mod Counted
 pub mod Sound
 pub mod Gone
 pub mod Told

@@ -1,14 +1,16 @@
 // The address spaces of actors, of which a dead one has none.
-ghost use Rattle.std.specs.Prelude.{◌≡◌, ◌<◌, ◌≤◌, false, IsSome, IsSomeAnd, OnErr, OnOk};
+ghost use Rattle.std.specs.Prelude.{◌≡◌, ℕ, ◌+◌, ◌<◌, ◌≤◌, false, Some, IsSome, IsSomeAnd, OnErr, OnOk};
 ghost use Rattle.std.specs.List.{list_any};
 ghost use Rattle.vm_model.specs.Answering.{insert_region, overlaps, region_of, without_region};
 ghost use Rattle.vm_model.specs.Machine.{numbered};
 ghost use Rattle.vm_model.specs.Regions.{region_among, replace_region, split_at, with_lock, with_prot};
 ghost use Rattle.regions.specs.AddressSpace.{AddressSpace, IsWellFormed};
-ghost use Rattle.contexts.specs.Layout.{maps_at, IsChanged};
+ghost use Rattle.contexts.specs.Counting.{count_of, times_in};
+ghost use Rattle.contexts.specs.Layout.{IsChanged};
 
+use crate::counts::{RegionCounts, forget_all};
 use regions::RegionMap;
-use vm_ids::{ActorId, CacheId, Mapping, NoMemory, Prot, RegionId};
+use vm_ids::{ActorId, Mapping, NoMemory, Prot, RegionId};
 use vm_model::numbered;
 
 // Adds a region to an actor.
@@ -111,16 +113,20 @@ pub(crate) fn remove_region(spaces: &mut [Option<RegionMap>], actor: ActorId, re
     }
 }
 
-// Whether one of these actors is alive and has a region that maps the cache.
-pub(crate) fn maps_any(spaces: &[Option<RegionMap>], actors: &[ActorId], cache: CacheId) -> bool
-    ensures { result ≡ list_any (maps_at spaces.now cache.0) actors.now }
+// The regions of a living actor are counted no more.
+pub(crate) fn forget_regions(
+    counts: &mut RegionCounts,
+    spaces: &[Option<RegionMap>],
+    actor: ActorId,
+)
+    requires alive { IsSome (numbered spaces.now actor.0) }
+    requires counted { (n : ℕ) (s : AddressSpace) → numbered spaces.now actor.0 ≡ Some s
+        → times_in n (Some s.regions) ≤ count_of counts.old n }
+    ensures { (n : ℕ) (s : AddressSpace) → numbered spaces.now actor.0 ≡ Some s
+        → count_of counts.old n ≡ count_of counts.new n + times_in n (Some s.regions) }
 {
-    for actor in actors {
-        if let Some(regions) = numbered(spaces, actor.0) {
-            if regions.maps(cache) {
-                return true;
-            }
-        }
+    match numbered(spaces, actor.0) {
+        Some(regions) => forget_all(counts, regions),
+        None => unreachable!(),
     }
-    false
 }

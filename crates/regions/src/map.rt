@@ -1,5 +1,5 @@
 // The regions of one actor.
-ghost use Rattle.std.specs.Prelude.{◌≡◌, ◌==◌, ℕ, ◌-◌, ◌≤◌, ◌<◌, ◌^◌, ◌∷◌, [], false, length, not, option_map, slice_get, IsOk, OnOk, OnErr, IsSomeAnd, IsSome};
+ghost use Rattle.std.specs.Prelude.{◌≡◌, ℕ, ◌-◌, ◌≤◌, ◌<◌, ◌^◌, ◌∷◌, [], false, length, not, option_map, slice_get, IsOk, OnOk, OnErr, IsSomeAnd, IsSome};
 ghost use Rattle.std.specs.List.{list_any};
 ghost use Rattle.vm_model.specs.Answering.{insert_region, overlaps, region_of, without_region};
 ghost use Rattle.vm_model.specs.Regions.{region_among, replace_region, split_at, with_lock, with_prot};
@@ -7,10 +7,10 @@ ghost use Rattle.vm_model.specs.Place.{place_among, region_at};
 ghost use Rattle.regions.specs.AddressSpace.{id_of, place_told, view_of, IsWellFormed};
 
 use crate::region::{Place, Region, RegionView};
-use crate::search::{count_up_to, known_place, maps_cache, overlaps_any, place_of, region_holding};
+use crate::search::{count_up_to, known_place, overlaps_any, place_of, region_holding};
 use std::alloc::Global;
 use std::marker::Model;
-use vm_ids::{CacheId, Mapping, NoMemory, Prot, Refusal, RegionId};
+use vm_ids::{Mapping, NoMemory, Prot, Refusal, RegionId};
 
 /// The regions of one actor, in order of start address. No two share an address.
 #[derive(Drop)]
@@ -63,13 +63,6 @@ impl RegionMap {
             ≡ not (list_any (overlaps self.now.page_bytes address pages) self.now.regions) }
     {
         !overlaps_any(&self.regions, self.page_bytes, address, pages)
-    }
-
-    /// Whether a region maps the cache.
-    pub fn maps(&self, cache: CacheId) -> bool
-        ensures { result ≡ list_any (λ r. r.cache == cache.0) self.now.regions }
-    {
-        maps_cache(&self.regions, cache)
     }
 
     /// Adds a region, unlocked, of which the pages fit where they are mapped.

@@ -1,5 +1,5 @@
 // Searches among regions in order of start address.
-ghost use Rattle.std.specs.Prelude.{◌≡◌, ◌==◌, ◌≢◌, ℕ, ◌≤◌, ◌<◌, ◌^◌, map, length, slice_index_or, MatchOption, option_map, IfSome, IsSome};
+ghost use Rattle.std.specs.Prelude.{◌≡◌, ◌≢◌, ℕ, ◌≤◌, ◌<◌, ◌^◌, map, length, slice_index_or, MatchOption, option_map, IfSome, IsSome};
 ghost use Rattle.std.specs.List.{list_any};
 ghost use Rattle.vm_model.specs.Answering.{overlaps};
 ghost use Rattle.vm_model.specs.Regions.{region_among};
@@ -8,7 +8,7 @@ ghost use Rattle.regions.specs.AddressSpace.{AreInOrder, IsWellFormed, end_of};
 ghost use Rattle.regions.specs.Seen.{region_seen, IsCountUpTo, IsPlaceOf};
 
 use crate::region::Region;
-use vm_ids::{CacheId, RegionId};
+use vm_ids::RegionId;
 
 // How many regions start at an address or before it.
 pub(crate) fn count_up_to(regions: &[Region], page_bytes: u64, address: u64) -> usize
@@ -51,18 +51,6 @@ pub(crate) fn overlaps_any(regions: &[Region], page_bytes: u64, address: u64, pa
         return true;
     }
     count < regions.len() && regions[count].overlaps(page_bytes, address, pages)
-}
-
-// Whether a region maps the cache.
-pub(crate) fn maps_cache(regions: &[Region], cache: CacheId) -> bool
-    ensures { result ≡ list_any (λ r. r.cache == cache.0) (map region_seen regions.now) }
-{
-    for region in regions {
-        if region.view.mapping.extent.cache == cache {
-            return true;
-        }
-    }
-    false
 }
 
 // The place of the first region with the number.

@@ -1,4 +1,4 @@
-use Rattle.std.proofs.Common.{◌≡◌, ℕ, ◌+◌, ◌<◌, [], ◌∷◌, ◌++◌, List, Option, Some, length, refl, sym, ap, subst, ◌∙◌, arith}
+use Rattle.std.proofs.Common.{◌≡◌, ◌==◌, ℕ, ◌+◌, ◌<◌, [], ◌∷◌, ◌++◌, List, Option, Some, length, refl, sym, ap, subst, ◌∙◌, arith}
 use Rattle.std.specs.Prelude.{IsSomeAnd}
 use Rattle.std.specs.List.{All}
 use Rattle.std.proofs.lemmas.List.{length-append, with_items_is}
@@ -10,12 +10,14 @@ use Rattle.vm_model.specs.Regions.{back_of, region_among, replace_in, replace_re
 use Rattle.vm_model.specs.declared.limits.TheConstants.{MOST_MADE}
 use Rattle.regions.specs.AddressSpace.{AddressSpace}
 use Rattle.contexts.specs.Actors.{Actors, with_split}
+use Rattle.contexts.specs.Counting.{count_of, one_for}
 use Rattle.contexts.specs.Layout.{IsChanged, regions_in}
-use Rattle.contexts.proofs.Changing.{inside_alive, told_inside}
+use Rattle.contexts.proofs.Changing.{inside_alive, told_counted, told_inside}
+use Rattle.contexts.proofs.Counted.{counted_within}
 use Rattle.contexts.proofs.Kept.{changed_same, err_all}
-use Rattle.contexts.proofs.Once.{times_split}
+use Rattle.contexts.proofs.Once.{is_numbered, times_split}
 use Rattle.contexts.proofs.Replaced.{all_replaced}
-use Rattle.contexts.proofs.Sound.{sound_more, sound_same, sound_still}
+use Rattle.contexts.proofs.Sound.{sound_few, sound_more, sound_same, sound_still}
 use Rattle.contexts.proofs.Told.{told_among, told_becomes, told_page}
 use Rattle.contexts.proofs.contexts.Contexts.cut.Goals as goal
 
@@ -40,7 +42,18 @@ invariant_of-self-in_err-split_region c =
     let e : IsChanged a (λ rs. rs) i.actors.items ys =
     subst (λ (xs : List (Option AddressSpace)). IsChanged a (λ rs. rs) xs ys) c.deref_mut.ensures.value c.in_err-split_region.ensures.err in
     let items = with_items_is i.actors ys (omega (arith, c.split_region.auto.spaces, c.deref_mut.ensures.len)) in
-    sound_same i _ c.self.invariant refl refl a (λ rs. rs) (subst (IsChanged a (λ rs. rs) i.actors.items) (sym items) e) c.reserve.ensures.items (λ h. h) (λ h. h)
+    sound_same i _ c.self.invariant refl refl a (λ rs. rs) (subst (IsChanged a (λ rs. rs) i.actors.items) (sym items) e) c.reserve.ensures.items (λ h. h) (λ h. h) (λ n. refl)
+
+-- the cache of the region is counted, and no number is too large
+pub add-requires-clause-place : goal.add-requires-clause-place
+add-requires-clause-place c =
+    let i = c.self.inside in
+    let s : RegionStatus = c.args.status in
+    let n = s.mapping.extent.cache.0 in
+    counted_within i.mapped n (omega (arith, c.self.invariant.mapped n, told_counted i c.args.self.now c.self.view_is c.args.region.0 s c.requires.told))
+
+pub add-requires-clause-few : goal.add-requires-clause-few
+add-requires-clause-few c = omega (arith, sound_few c.self.inside c.self.invariant c.args.status.mapping.extent.cache.0)
 
 pub returns-in_err-split_region-clause-err : goal.returns-in_err-split_region-clause-err
 returns-in_err-split_region-clause-err c =
@@ -76,7 +89,9 @@ invariant_of-self-2 c =
     let few : length i.owners.items < MOST_MADE = subst (λ (a : Actors). a.regions_made < MOST_MADE) (sym c.self.view_is) c.requires.few in
     sound_more i _ c.self.invariant refl refl s.actor (back_of i.page c.args.pages fresh t.region) (by i.page) e after few number
     (λ P new h. all_replaced (λ r. P r.number) n (cut i.page) t.region e.space.regions (told_among n xs s t e.space e.here) (both P t.region i.page fresh new) h)
-    (λ k. times_split k n i.page c.args.pages fresh t.region e.space.regions (told_among n xs s t e.space e.here))
+    (λ k. times_split (is_numbered k) n i.page c.args.pages fresh t.region e.space.regions refl (told_among n xs s t e.space e.here))
+    (λ k. times_split (λ (x : Region). x.cache == k) n i.page c.args.pages fresh t.region e.space.regions refl (told_among n xs s t e.space e.here))
+    (λ k. c.add.ensures k ∙ ap (λ (u : RegionStatus). count_of i.mapped k + one_for u.mapping.extent.cache.0 k) t.told)
   where
     both : (P : ℕ → Type 0) (r : Region) (page fresh : ℕ) → P fresh → P r.number → All (λ (x : Region). P x.number) (split_at page c.args.pages fresh r)
     both P r page fresh new old =
@@ -105,4 +120,4 @@ returns-clause-ok c =
     (λ j. record { page_bytes = i.page; actors = seen j; regions_made = made j })
 
 pub invariant_of-self : goal.invariant_of-self
-invariant_of-self c = sound_still c.self.inside _ c.self.invariant refl refl refl c.reserve.ensures.items
+invariant_of-self c = sound_still c.self.inside _ c.self.invariant refl refl refl c.reserve.ensures.items (λ n. refl)

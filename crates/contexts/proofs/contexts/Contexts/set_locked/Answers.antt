@@ -23,7 +23,7 @@ lock_region-requires-clause-there c = inside_there c.self.inside c.args.self.now
 pub invariant_of-self : goal.invariant_of-self
 invariant_of-self c =
     inside_sound c.self.inside c.args.self.now c.self.view_is c.args.region.0 c.in-Some.status (told (goal.at.invariant_of-self c).In-Some) _ c.deref_mut.ensures.value (λ (r : Region). record r { locked = c.args.locked })
-    c.lock_region.new.spaces (omega (arith, c.lock_region.auto.spaces, c.deref_mut.ensures.len)) c.lock_region.ensures (λ r. refl) c.self.invariant
+    c.lock_region.new.spaces (omega (arith, c.lock_region.auto.spaces, c.deref_mut.ensures.len)) c.lock_region.ensures (λ r. refl) (λ r. refl) c.self.invariant
 
 pub returns-clause-found : goal.returns-clause-found
 returns-clause-found c = ap is_some (sym c.in-Some.is ∙ c.status.ensures) ∙ told_some c.args.region.0 1 c.args.self.now.actors
