@@ -271,7 +271,7 @@ module _ {Manager X Chooser : Type 0} (M : GhostsOfMapper X) (G : GhostsOfGmi Ma
       }
 
       go : (told : Option Segments) → segments_of (M.held after) ≡ told → StepAt told (state_of G old (M.held mapper)) (commands.Exit of) (Ok replies.Done) e.rises (state_of G new (M.held after))
-      go None untold = step_filled (segments_of (M.held mapper)) (segments_of (M.held after)) s (processes_seen n new.processes.items new.images.items) _ _ (commands.Exit of) (Ok replies.Done) e.rises
+      go None untold = step_filled (segments_of (M.held mapper)) (segments_of (M.held after)) s (processes_seen n new.processes.items new.images.items) _ _ (commands.Exit of) (Ok replies.Done) e.rises can.tied.page
           (seen_filled (G.machine old.gmi (M.held mapper)) old.processes.items old.images.items (as_untold (M.held mapper) (sym e.segments ∙ untold) can.blank))
           (seen_filled n new.processes.items new.images.items (as_untold (M.held after) untold e.able.blank))
           (λ h. (let there = (like_filled s).somebody of.0 (process_seen (G.machine old.gmi (M.held mapper)) p) living in record {

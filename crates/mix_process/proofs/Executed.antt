@@ -46,9 +46,9 @@ use Rattle.mix_process.proofs.Imaging.{image_seen_for, image_there, map_snoc}
 use Rattle.mix_process.proofs.Inheriting.{set_last}
 use Rattle.mix_process.proofs.Seeing.{pages_there}
 use Rattle.mix_process.proofs.Single.{refused_called}
-use Rattle.mix_process.proofs.Untold.{as_untold, filled_up, seen_filled, zeros}
+use Rattle.mix_process.proofs.Untold.{as_untold, filled_up, seen_filled, step_with, zeros}
 use Rattle.mix_process.proofs.Using.{lack_still}
-use Rattle.mix_process.proofs.ExecSteps.{alive_one, fit_sizes, made_sum, step_with, told_holds}
+use Rattle.mix_process.proofs.ExecSteps.{alive_one, fit_sizes, made_sum, told_holds}
 
 module _ {Manager X Chooser : Type 0} (M : GhostsOfMapper X) (G : GhostsOfGmi Manager X Chooser) (old : Mix Manager) (before : X) (can : CanCall G old (M.held before) (M.page_bytes before)) (seg : SegId) (text data_pages stack : ℕ) where
   abbrev m : Machine
@@ -92,7 +92,7 @@ module _ {Manager X Chooser : Type 0} (M : GhostsOfMapper X) (G : GhostsOfGmi Ma
           → (now ≡ None → (h : Segments) × StepOver h (record { processes = filled_up s; usage = u; segments = base }) command a rises (record { processes = filled_up next; usage = v; segments = now }))
           → (told : Option Segments) → now ≡ told → StepAt told (state_of G old (M.held before)) command a rises (state_of G new (M.held after))
       lift a f g (Some h) e = f h e
-      lift a f g None e = let k = g e in step_with k.0 base now s next u v command a rises (bare_before e) (bare_after e) k.1
+      lift a f g None e = let k = g e in step_with k.0 base now s next u v command a rises can.tied.page (bare_before e) (bare_after e) k.1
 
       over : (h : Segments) (x z w : ProcessMachine) (a : Answer) → w ≡ z → StepOver h (record { processes = x; usage = u; segments = base }) command a rises (record { processes = z; usage = v; segments = now })
           → StepOver h (record { processes = x; usage = u; segments = base }) command a rises (record { processes = w; usage = v; segments = now })

@@ -155,7 +155,7 @@ module _ {Manager X Chooser : Type 0} (M : GhostsOfMapper X) (G : GhostsOfGmi Ma
       pub lacks : (t : Trouble) → next ≡ s → IsLack u (usage_to_fork P) t → (told : Option Segments) → segments_of (M.held after) ≡ told → StepAt told (state_of G old (M.held before)) (commands.Fork of) (Err t) rises (state_of G new (M.held after))
       lacks t is lack (Some h) e = subst (λ (y : ProcessMachine). StepOver h (state_of G old (M.held before)) (commands.Fork of) (Err t) rises (record { processes = y; usage = v; segments = segments_of (M.held after) })) (sym is)
           (step_lacks s of P process_is u v h (segments_of (M.held before)) (segments_of (M.held after)) rises within.actors within.caches within.regions t lack)
-      lacks t is lack None e = step_filled (segments_of (M.held before)) (segments_of (M.held after)) s next u v (commands.Fork of) (Err t) rises (bare_before e) (bare_after e) (λ h.
+      lacks t is lack None e = step_filled (segments_of (M.held before)) (segments_of (M.held after)) s next u v (commands.Fork of) (Err t) rises can.tied.page (bare_before e) (bare_after e) (λ h.
           subst (λ (y : ProcessMachine). StepOver h (record { processes = filled_up s; usage = u; segments = segments_of (M.held before) }) (commands.Fork of) (Err t) rises (record { processes = y; usage = v; segments = segments_of (M.held after) })) (ap (λ (y : ProcessMachine). filled_up y) (sym is))
           (step_lacks (filled_up s) of (each_of zeros P) zeros_there u v h (segments_of (M.held before)) (segments_of (M.held after)) rises within.actors within.caches within.regions t (subst (λ (more : Usage). IsLack u more t) (sym (zeros_to_fork P)) lack)))
 
@@ -165,7 +165,7 @@ module _ {Manager X Chooser : Type 0} (M : GhostsOfMapper X) (G : GhostsOfGmi Ma
           (subst (λ (k : ℕ). StepOver h (state_of G old (M.held before)) (commands.Fork of) (Ok (replies.Process (record { 0 = k }))) rises (state_of G new (M.held after))) (sym many)
           (subst (λ (y : ProcessMachine). StepOver h (state_of G old (M.held before)) (commands.Fork of) (Ok (replies.Process (record { 0 = length s.processes + 1 }))) rises (record { processes = y; usage = v; segments = segments_of (M.held after) })) (sym is)
           (step_forks s of P process_is u v h (segments_of (M.held before)) (segments_of (M.held after)) rises within.actors within.caches within.regions)))
-      forks n many is None e = step_filled (segments_of (M.held before)) (segments_of (M.held after)) s next u v (commands.Fork of) (Ok (replies.Process (record { 0 = n }))) rises (bare_before e) (bare_after e) (λ h.
+      forks n many is None e = step_filled (segments_of (M.held before)) (segments_of (M.held after)) s next u v (commands.Fork of) (Ok (replies.Process (record { 0 = n }))) rises can.tied.page (bare_before e) (bare_after e) (λ h.
           (subst (λ (k : ℕ). StepOver h (record { processes = filled_up s; usage = u; segments = segments_of (M.held before) }) (commands.Fork of) (Ok (replies.Process (record { 0 = k }))) rises (record { processes = filled_up next; usage = v; segments = segments_of (M.held after) }))
           (ap (λ (k : ℕ). k + 1) (length-map s.processes (option_map (each_of zeros))) ∙ sym many)
           (subst (λ (y : ProcessMachine). StepOver h (record { processes = filled_up s; usage = u; segments = segments_of (M.held before) }) (commands.Fork of) (Ok (replies.Process (record { 0 = length (filled_up s).processes + 1 }))) rises (record { processes = y; usage = v; segments = segments_of (M.held after) }))

@@ -156,7 +156,7 @@ module _ {Manager X Chooser : Type 0} (M : GhostsOfMapper X) (G : GhostsOfGmi Ma
         grows_filled (Err t) adds = (ap filled_up adds.seen, adds.lack)
 
         step : (told : Option Segments) → segments_of (M.held after) ≡ told → Adds m n told old place p Data pages None result new → StepAt told (state_of G old (M.held mapper)) (commands.Grow of pages) (done_by result) a.rises (state_of G new (M.held after))
-        step None untold adds = step_filled (segments_of (M.held mapper)) (segments_of (M.held after)) s next (usage_of m) (usage_of n) (commands.Grow of pages) (done_by result) a.rises
+        step None untold adds = step_filled (segments_of (M.held mapper)) (segments_of (M.held after)) s next (usage_of m) (usage_of n) (commands.Grow of pages) (done_by result) a.rises can.tied.page
             (seen_filled m old.processes.items old.images.items (as_untold (M.held mapper) (sym a.segments ∙ untold) can.blank))
             (seen_filled n new.processes.items new.images.items (as_untold (M.held after) untold a.can.blank))
             (λ h. record {

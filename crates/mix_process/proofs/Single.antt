@@ -212,7 +212,7 @@ module _ {Manager X Chooser : Type 0} (M : GhostsOfMapper X) (G : GhostsOfGmi Ma
       go : (told : Option Segments) → segments_of (M.held before) ≡ told → StepAt told (state_of G old (M.held before)) command answer no_counts (state_of G old (M.held before))
       go None e =
           let blank_is = seen_filled (G.machine old.gmi (M.held before)) old.processes.items old.images.items (as_untold (M.held before) e can.blank) in
-          step_filled (segments_of (M.held before)) (segments_of (M.held before)) s s u u command answer no_counts blank_is blank_is
+          step_filled (segments_of (M.held before)) (segments_of (M.held before)) s s u u command answer no_counts can.tied.page blank_is blank_is
           (λ h. record { outcome = outcome (filled_up s) (like_filled s) h; raised = raised_none (makes_by (filled_up s) command h answer) u })
       go (Some h) e = record { outcome = outcome s (like_self s) h; raised = raised_none (makes_by s command h answer) u }
 
