@@ -42,6 +42,7 @@ use Rattle.seg_manager.proofs.Coming.{stored_all, stored_turn, used_all, used_tu
 use Rattle.seg_manager.proofs.Going.{Caches, length_used}
 use Rattle.seg_manager.proofs.Live.{live_seen}
 use Rattle.seg_manager.proofs.Opening.{alike, alike_but, at, it, mine, n, nothing_there, number, number_hidden, number_seen, of, openings_fun, others_kept, stays_there, stored_there, tied_again}
+use Rattle.seg_manager.proofs.Pushing.{pushed_by}
 use Rattle.seg_manager.proofs.Releasing.{blank_told, number_is}
 use Rattle.seg_manager.proofs.Stated.{state_over}
 use Rattle.seg_manager.proofs.Steps.{AreSeen, blank_used, seen_blank, step_whole}
@@ -297,7 +298,12 @@ module _ {Manager X Chooser : Type 0} (M : GhostsOfMapper X) (G : GhostsOfGmi Ma
         one = omega arith;
         rises = no_counts;
         rose = rise_none (M.counts before);
-        is = record { step = step; live = live_seen M G later before can_then; denied = refl };
+        is = record {
+          step = step;
+          pushed = pushed_by (segments_of (M.held before)) (segments_of (M.held before)) (G.machine old.gmi (M.held before)) old.caches.items [] no_counts (omega arith) (record { may = tt; pushed = refl }) (state_of G old (M.held before)) (state_of G later (M.held before)) refl refl refl;
+          live = live_seen M G later before can_then;
+          denied = refl;
+        };
       };
       kept = subst (λ (ks : List Kept). IsAcquired (HasNoRoomWithout G old.gmi (M.held before) (OpenSegment seg)) (list_any (λ s. s == seg.0) (kept_segments old.kept.items)) seg.0 (kept_segments old.kept.items) (Ok o.named.cache) (kept_segments ks)) (sym o.kept)
           (acquired_kept m old.caches.items old.kept.items old.kept.room old.regions.items seg place o.named (sym first) o.there new.caches.items o.caches told can.tied (HasNoRoomWithout G old.gmi (M.held before) (OpenSegment seg)) o.named.cache);
@@ -337,6 +343,7 @@ lacks_memory M G before old seg can = record {
       step = step_whole (state_of G old (M.held before)) (state_of G old (M.held before)) (commands.Plain (OpenSegment seg)) (Err troubles.Memory) no_counts (references_seen (G.machine old.gmi (M.held before)) (segments_of (M.held before)) old.caches.items)
           (references_seen (G.machine old.gmi (M.held before)) (segments_of (M.held before)) old.caches.items) None (λ r. tt) (λ h. (0, (refl, tt, tt)))
           (as_before (segments_of (M.held before)) (G.machine old.gmi (M.held before)) old.caches.items (blank_told (M.held before) (G.machine old.gmi (M.held before)) can.blank));
+      pushed = pushed_by (segments_of (M.held before)) (segments_of (M.held before)) (G.machine old.gmi (M.held before)) old.caches.items [] no_counts (omega arith) (record { may = tt; pushed = refl }) (state_of G old (M.held before)) (state_of G old (M.held before)) refl refl refl;
       live = live_seen M G old before can;
       denied = refl;
     };

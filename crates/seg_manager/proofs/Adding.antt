@@ -39,6 +39,7 @@ use Rattle.seg_manager.proofs.Noting.{noted_added, noted_insert, put_noted}
 use Rattle.seg_manager.proofs.Passed.{IsAnswered, IsHiding, shown_visible}
 use Rattle.seg_manager.proofs.Served.{answered_call}
 use Rattle.seg_manager.proofs.Shapes.{segments_in, tied_alike}
+use Rattle.seg_manager.proofs.Pushing.{pushes_none}
 use Rattle.seg_manager.proofs.Staying.{Stays, stays_call}
 use Rattle.seg_manager.proofs.Unused.{is_unreferenced_by, mapped_is, unreferenced_same}
 
@@ -87,6 +88,7 @@ module _ {Manager X Chooser : Type 0} (M : GhostsOfMapper X) (G : GhostsOfGmi Ma
         limit = refl;
         many = refl;
         rose = rise_none (M.counts mapper);
+        pushed = pushes_none M G mapper old no_counts;
         seen = refl;
         denied = refl;
       }

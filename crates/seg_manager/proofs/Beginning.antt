@@ -1,5 +1,5 @@
 -- A segment that has no cache is opened: what that call of the manager of segments comes to.
-use Rattle.std.proofs.Common.{◌≡◌, ◌==◌, inl, inr, ℕ, ◌+◌, ◌^◌, ◌<◌, ◌≤◌, List, [], ◌∷◌, ◌++◌, length, drop, take, Option, Some, None, refl, sym, ap, subst, ◌∙◌, arith}
+use Rattle.std.proofs.Common.{◌≡◌, ◌==◌, inl, inr, ℕ, ◌+◌, ◌^◌, ◌≤◌, List, [], ◌∷◌, ◌++◌, length, drop, take, Option, Some, None, refl, sym, ap, subst, ◌∙◌, arith}
 use Rattle.std.specs.Prelude.{IfSome, Ok, Err, option_map}
 use Rattle.std.specs.List.{list_any, position_from}
 use Rattle.std.proofs.lemmas.List.{drop-map, length-append, length-map}
@@ -31,7 +31,7 @@ use Rattle.seg_manager.specs.Keeping.{AreBehind}
 use Rattle.seg_manager.specs.Outcome.{Outcome}
 use Rattle.seg_manager.specs.ReferenceMachine.{ReferenceMachine, number_in, used}
 use Rattle.seg_manager.specs.Seen.{kept_segments, references_seen, state_of, whole_of}
-use Rattle.seg_manager.specs.Thinning.{Fails, IsTried, Thins, Tries, credit, seen_with, Trying}
+use Rattle.seg_manager.specs.Thinning.{Fails, IsTried, Pushes, Thins, Tries, credit, seen_with, Trying}
 use Rattle.seg_manager.specs.Tying.{AreTied, CanCall}
 use Rattle.seg_manager.specs.declared.manager.SegManager.{SegManager}
 use Rattle.seg_manager.specs.Names.{AreNamed}
@@ -47,6 +47,7 @@ use Rattle.seg_manager.proofs.Going.{Caches, length_used}
 use Rattle.seg_manager.proofs.Leaving.{credit_few, seen_length}
 use Rattle.seg_manager.proofs.Named.{tied_named}
 use Rattle.seg_manager.proofs.Opened.{Ends, IsOpen, appended, failed, lacks, made, many, nowhere, number_next}
+use Rattle.seg_manager.proofs.Pushing.{HasPages, pages_of, pushed_by, pushes_call, pushes_none, pushes_then}
 use Rattle.seg_manager.proofs.Releasing.{blank_told}
 use Rattle.seg_manager.proofs.Staying.{Stays, refused_again, stays_by, stays_call}
 use Rattle.seg_manager.proofs.Steps.{AreSeen, step_whole}
@@ -115,6 +116,12 @@ module _ {Manager X Chooser : Type 0} (M : GhostsOfMapper X) (G : GhostsOfGmi Ma
 
     as_many : length m.caches ≡ length m0.caches
     as_many = sym (seen_length told m by.caches.items) ∙ ap (λ (r : ReferenceMachine). length r.memory.caches) thins.seen ∙ seen_length told0 m0 start.caches.items
+
+    pushes_by : Pushes M G before old middle thins.rises
+    pushes_by = record { pushes = thins.pushed.pushes; few = thins.pushed.few; rule = thins.pushed.rule }
+
+    has_pages : HasPages m0 m
+    has_pages = pages_of M G before middle start by (take thins.gone (kept_segments start.kept.items)) thins.machine
 
     abbrev Cause : List ℕ → Type 0
     Cause = HasNoRoomWithout G old.gmi (M.held before) (OpenSegment seg)
@@ -197,6 +204,9 @@ module _ {Manager X Chooser : Type 0} (M : GhostsOfMapper X) (G : GhostsOfGmi Ma
             many = f.caches ∙ ap (λ (x : Machine). length x.caches) tried_same ∙ as_many;
             rose = rise_then (M.counts before) (M.counts after) (M.counts later) (counts_sum thins.rises (call_is M G by gmi middle after (OpenSegment seg) (Err (troubles.Refused refusals.TooMany)) thins.can call).rises) f.rises
                 (rise_then (M.counts before) (M.counts middle) (M.counts after) thins.rises (call_is M G by gmi middle after (OpenSegment seg) (Err (troubles.Refused refusals.TooMany)) thins.can call).rises thins.rose (call_is M G by gmi middle after (OpenSegment seg) (Err (troubles.Refused refusals.TooMany)) thins.can call).rose) f.rose;
+            pushed = pushes_then M G before after later old tried (counts_sum thins.rises (call_is M G by gmi middle after (OpenSegment seg) (Err (troubles.Refused refusals.TooMany)) thins.can call).rises) f.rises (subst (HasPages m0) (sym tried_same) has_pages)
+                (pushes_then M G before middle after old by thins.rises (call_is M G by gmi middle after (OpenSegment seg) (Err (troubles.Refused refusals.TooMany)) thins.can call).rises has_pages pushes_by
+                (pushes_call M G by gmi middle after (OpenSegment seg) (Err (troubles.Refused refusals.TooMany)) thins.can call)) f.pushed;
             seen = vain_seen ∙ seen_by;
             denied = vain_denied ∙ thins.denied;
           }) fails.whole fails.forest (λ r. tt) fails.seen vain_outcome;
@@ -252,6 +262,7 @@ module _ {Manager X Chooser : Type 0} (M : GhostsOfMapper X) (G : GhostsOfGmi Ma
         limit = thins.limit;
         many = ap (λ (x : Machine). length x.caches) same ∙ as_many;
         rose = rise_then (M.counts before) (M.counts middle) (M.counts after) thins.rises its_rises thins.rose (call_is M G by gmi middle after (OpenSegment seg) (Err t) thins.can call).rose;
+        pushed = pushes_then M G before middle after old by thins.rises its_rises has_pages pushes_by (pushes_call M G by gmi middle after (OpenSegment seg) (Err t) thins.can call);
         seen = seen_then ∙ seen_by;
         denied = denied_then ∙ thins.denied;
       }
@@ -359,6 +370,9 @@ module _ {Manager X Chooser : Type 0} (M : GhostsOfMapper X) (G : GhostsOfGmi Ma
       open_denied : option_map (λ (h : Segments). h.denied) told_then ≡ option_map (λ (h : Segments). h.denied) told
       open_denied = denied_after M G by gmi middle after (OpenSegment seg) (Ok (replies.Cache cache)) thins.can call
 
+      all_pushed : Pushes M G before old after (counts_sum thins.rises open_rises)
+      all_pushed = pushes_then M G before middle after old by thins.rises open_rises has_pages pushes_by (pushes_call M G by gmi middle after (OpenSegment seg) (Ok (replies.Cache cache)) thins.can call)
+
       pub was_opened : Acquires M G before old seg (Ok cache) after final
       was_opened = record {
         call = record {
@@ -374,6 +388,7 @@ module _ {Manager X Chooser : Type 0} (M : GhostsOfMapper X) (G : GhostsOfGmi Ma
                 (seen_opened told told_then m n' by.caches.items by.kept.items by.kept.room by.regions.items thins.can.tied seg anew_by p.pages d refl number_is refl
                 (told_after M G by gmi middle after (OpenSegment seg) (Ok (replies.Cache cache)) thins.can call) p.next (blank_told (M.held middle) m thins.can.blank) (blank_told (M.held after) n' final_can.blank)
                 (state_of G old (M.held before)) (state_of G final (M.held after)) (sym seen_by) (ap (references_seen n' told_then) pushed));
+            pushed = pushed_by told0 told_then m0 old.caches.items all_pushed.pushes (counts_sum thins.rises open_rises) all_pushed.few all_pushed.rule (state_of G old (M.held before)) (state_of G final (M.held after)) refl refl refl;
             live = live_seen M G final after final_can;
             denied = open_denied ∙ thins.denied;
           };
@@ -393,6 +408,7 @@ module _ {Manager X Chooser : Type 0} (M : GhostsOfMapper X) (G : GhostsOfGmi Ma
       limit = refl;
       many = refl;
       rose = rise_none (M.counts before);
+      pushed = pushes_none M G before old no_counts;
       seen = ap (references_seen m0 told0) caches;
       denied = refl;
     }) (λ r. tt) (λ h. (refl, tt, tt));

@@ -13,6 +13,7 @@ pub mod Lesser
 pub mod Destroyed
 pub mod Answered
 pub mod Calls
+pub mod Pushing
 pub mod Thinned
 pub mod Trimmed
 pub mod Storing

@@ -39,6 +39,7 @@ use Rattle.seg_manager.proofs.Going.{used_same}
 use Rattle.seg_manager.proofs.Lifting.{is_hidden, references}
 use Rattle.seg_manager.proofs.Passed.{IsAnswered, IsHiding, IsQuiet, SameRegions, copy_answered, copy_regions, outcome_answered, outcome_next, over, passed_answered, passed_regions, quiet_self, storing}
 use Rattle.seg_manager.proofs.Pushed.{Follow, Told}
+use Rattle.seg_manager.proofs.Pushing.{pushed_by}
 use Rattle.seg_manager.proofs.Shapes.{has_same, segments_blank, segments_in, tied_alike}
 use Rattle.seg_manager.proofs.Steps.{blank_used}
 
@@ -179,6 +180,8 @@ module _ {Manager X Chooser : Type 0} (M : GhostsOfMapper X) (G : GhostsOfGmi Ma
       step = step_answered old.caches.items old.kept.items c command answered (segments_of (M.held before)) (segments_of (M.held after)) x y (forest M G old gmi before after c a able call) a
           (call_is M G old gmi before after c a able call).rises (told_after M G old gmi before after c a able call) able.tied.kept (call_is M G old gmi before after c a able call).is.outcome
           (state_of G old (M.held before)) (state_of G (record later { gmi = gmi }) (M.held after)) refl (ap (λ v. references_seen y (segments_of (M.held after)) v.items) same);
+      pushed = pushed_by (segments_of (M.held before)) (segments_of (M.held after)) x old.caches.items (call_is M G old gmi before after c a able call).pushes (call_is M G old gmi before after c a able call).rises (call_is M G old gmi before after c a able call).is.few (call_is M G old gmi before after c a able call).is.pushed
+          (state_of G old (M.held before)) (state_of G (record later { gmi = gmi }) (M.held after)) refl refl refl;
       live = live_seen M G (record later { gmi = gmi }) after can_then;
       denied = denied_after M G old gmi before after c a able call;
     };

@@ -20,11 +20,12 @@ use Rattle.seg_manager.specs.Outcome as keep
 use Rattle.seg_manager.specs.ReferenceMachine.{ReferenceMachine}
 use Rattle.seg_manager.specs.Seen.{references_seen, state_of}
 use Rattle.seg_manager.specs.Stepping.{IsWholeFor, State, blank_references}
-use Rattle.seg_manager.specs.Thinning.{denied_by, machine_at, seen_with}
+use Rattle.seg_manager.specs.Thinning.{Pushes, denied_by, machine_at, seen_with}
 use Rattle.seg_manager.specs.Tying.{CanCall}
 use Rattle.seg_manager.specs.declared.manager.SegManager.{SegManager}
 use Rattle.seg_manager.specs.declared.tables.Named.{Named}
 use Rattle.seg_manager.proofs.Live.{live_seen}
+use Rattle.seg_manager.proofs.Pushing.{pushed_by}
 use Rattle.seg_manager.proofs.Releasing.{blank_told}
 use Rattle.seg_manager.proofs.Steps.{AreSeen, alike_err, seen_blank, step_whole}
 
@@ -67,6 +68,7 @@ module _ {Manager X Chooser : Type 0} (M : GhostsOfMapper X) (G : GhostsOfGmi Ma
     pub limit : new.limit ≡ old.limit
     pub many : length (machine_at M G new after).caches ≡ length (machine_at M G old before).caches
     pub rose : Rise (M.counts before) (M.counts after) rises
+    pub pushed : Pushes M G before old after rises
     pub seen : seen_with M G new after ≡ seen_with M G old before
     pub denied : denied_by M G after ≡ denied_by M G before
 
@@ -82,6 +84,7 @@ module _ {Manager X Chooser : Type 0} (M : GhostsOfMapper X) (G : GhostsOfGmi Ma
     rose = s.rose;
     is = record {
       step = step_whole (state_of G old (M.held before)) (state_of G new (M.held after)) command (Err t) rises whole whole f any (λ h. (0, outcome h)) seen;
+      pushed = pushed_by (segments_of (M.held before)) (segments_of (M.held after)) (machine_at M G old before) old.caches.items s.pushed.pushes rises s.pushed.few s.pushed.rule (state_of G old (M.held before)) (state_of G new (M.held after)) refl refl refl;
       live = live_seen M G new after s.can;
       denied = s.denied;
     };

@@ -1,5 +1,5 @@
 -- A temporary cache is made: what that call of the manager of segments comes to.
-use Rattle.std.proofs.Common.{◌≡◌, ◌⊎◌, inl, inr, ℕ, ◌+◌, ◌^◌, ◌<◌, ◌≤◌, Bool, true, false, List, [], ◌∷◌, ◌++◌, length, map, Option, Some, None, refl, sym, ap, subst, ◌∙◌, arith}
+use Rattle.std.proofs.Common.{◌≡◌, ◌⊎◌, inl, inr, ℕ, ◌+◌, ◌^◌, ◌<◌, ◌≤◌, Bool, true, false, List, [], ◌∷◌, ◌++◌, length, map, take, Option, Some, None, refl, sym, ap, subst, ◌∙◌, arith}
 use Rattle.std.specs.Prelude.{◌||◌, IfNone, IfSome, Ok, Err, Result, nat_le, nat_lt, option_map}
 use Rattle.std.proofs.lemmas.Bool.Decides.{nat_tests}
 use Rattle.std.proofs.lemmas.List.{drop-map, length-append, length-map, map-append}
@@ -34,7 +34,7 @@ use Rattle.seg_manager.specs.Keeping.{AreBehind}
 use Rattle.seg_manager.specs.Outcome.{FailsToMakeRoom, IsWanted, Outcome}
 use Rattle.seg_manager.specs.ReferenceMachine.{ReferenceMachine, add_cache}
 use Rattle.seg_manager.specs.Seen.{kept_segments, references_seen, state_of}
-use Rattle.seg_manager.specs.Thinning.{Fails, IsTried, Thins, Tries, credit, machine_at, seen_with, Trying}
+use Rattle.seg_manager.specs.Thinning.{Fails, IsTried, Pushes, Thins, Tries, credit, machine_at, seen_with, Trying}
 use Rattle.seg_manager.specs.Tying.{AreTied, CanCall}
 use Rattle.seg_manager.specs.declared.manager.SegManager.{SegManager}
 use Rattle.seg_manager.specs.declared.tables.Kept.{Kept}
@@ -46,6 +46,7 @@ use Rattle.seg_manager.proofs.Leaving.{credit_few, seen_length}
 use Rattle.seg_manager.proofs.Live.{live_seen}
 use Rattle.seg_manager.proofs.Opened.{appended, number_next}
 use Rattle.seg_manager.proofs.Pushed.{Told}
+use Rattle.seg_manager.proofs.Pushing.{HasPages, pages_of, pushed_by, pushes_call, pushes_then}
 use Rattle.seg_manager.proofs.Releasing.{blank_told}
 use Rattle.seg_manager.proofs.Staying.{Stays, refused_again, stays_by, stays_call}
 use Rattle.seg_manager.proofs.Steps.{AreSeen, alike_err, step_whole}
@@ -172,6 +173,9 @@ module _ {Manager X Chooser : Type 0} (M : GhostsOfMapper X) (G : GhostsOfGmi Ma
     as_many : length m.caches ≡ length (machine_at M G old before).caches
     as_many = sym (seen_length told m by.caches.items) ∙ ap (λ (r : ReferenceMachine). length r.memory.caches) thins.seen ∙ seen_length (segments_of (M.held before)) (machine_at M G old before) old.caches.items
 
+    has_pages : HasPages (machine_at M G old before) m
+    has_pages = pages_of M G before middle old by (take thins.gone (kept_segments old.kept.items)) thins.machine
+
     abbrev Cause : List ℕ → Type 0
     Cause = HasNoRoomWithout G old.gmi (M.held before) (MakeTemp pages)
 
@@ -204,6 +208,7 @@ module _ {Manager X Chooser : Type 0} (M : GhostsOfMapper X) (G : GhostsOfGmi Ma
         limit = thins.limit;
         many = ap (λ (x : Machine). length x.caches) same ∙ as_many;
         rose = rise_then (M.counts before) (M.counts middle) (M.counts after) thins.rises its_rises thins.rose (call_is M G by gmi middle after (MakeTemp pages) (Err t) thins.can call).rose;
+        pushed = pushes_then M G before middle after old by thins.rises its_rises has_pages thins.pushed (pushes_call M G by gmi middle after (MakeTemp pages) (Err t) thins.can call);
         seen = seen_same M G by gmi middle after (MakeTemp pages) (Err t) thins.can call same ∙ thins.seen;
         denied = denied_after M G by gmi middle after (MakeTemp pages) (Err t) thins.can call ∙ thins.denied;
       }
@@ -254,6 +259,8 @@ module _ {Manager X Chooser : Type 0} (M : GhostsOfMapper X) (G : GhostsOfGmi Ma
         limit = ap (λ (x : SegManager Manager). x.limit) f.same ∙ thins.limit;
         many = f.caches ∙ asked.many;
         rose = rise_then (M.counts before) (M.counts after) (M.counts later) (rises (troubles.Refused refusals.TooMany) after gmi call) f.rises asked.rose f.rose;
+        pushed = pushes_then M G before after later old (record by { gmi = gmi }) (rises (troubles.Refused refusals.TooMany) after gmi call) f.rises
+            (subst (HasPages (machine_at M G old before)) (sym (same (troubles.Refused refusals.TooMany) after gmi call)) has_pages) asked.pushed f.pushed;
         seen = f.seen ∙ asked.seen;
         denied = f.denied ∙ asked.denied;
       }
@@ -324,6 +331,9 @@ module _ {Manager X Chooser : Type 0} (M : GhostsOfMapper X) (G : GhostsOfGmi Ma
       abbrev next : ReferenceMachine
       next = add_cache R (number_next m) (temporary m.page_bytes pages)
 
+      all_pushed : Pushes M G before old after (counts_sum thins.rises temp_rises)
+      all_pushed = pushes_then M G before middle after old by thins.rises temp_rises has_pages thins.pushed (pushes_call M G by gmi middle after (MakeTemp pages) (Ok (replies.Cache cache)) thins.can call)
+
       gives : (h : Segments) → Outcome R None (commands.Plain (MakeTemp pages)) h (number_next m) (Ok (replies.Cache cache)) next (counts_sum thins.rises temp_rises)
       gives h = (
         omega (arith, ap (λ (r : ReferenceMachine). length r.memory.caches) (sym thins.seen), seen_length told m by.caches.items),
@@ -348,6 +358,7 @@ module _ {Manager X Chooser : Type 0} (M : GhostsOfMapper X) (G : GhostsOfGmi Ma
                 (seen_temp m zeros told told_then n by.caches.items by.kept.items by.kept.room by.regions.items thins.can.tied
                 (told_after M G by gmi middle after (MakeTemp pages) (Ok (replies.Cache cache)) thins.can call) made.next (blank_told (M.held middle) m thins.can.blank)
                 (state_of G old (M.held before)) (state_of G final (M.held after)) (sym thins.seen) refl));
+            pushed = pushed_by (segments_of (M.held before)) told_then (machine_at M G old before) old.caches.items all_pushed.pushes (counts_sum thins.rises temp_rises) all_pushed.few all_pushed.rule (state_of G old (M.held before)) (state_of G final (M.held after)) refl refl refl;
             live = live_seen M G final after can_then;
             denied = denied_after M G by gmi middle after (MakeTemp pages) (Ok (replies.Cache cache)) thins.can call ∙ thins.denied;
           };

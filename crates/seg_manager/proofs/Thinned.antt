@@ -36,6 +36,7 @@ use Rattle.seg_manager.proofs.Destroyed.{IsPushed, first_free, left, seen_withou
 use Rattle.seg_manager.proofs.Entries.{filter_few, is_other, still_all}
 use Rattle.seg_manager.proofs.Lesser.{take_more, without_both, without_none}
 use Rattle.seg_manager.proofs.Pushed.{all_pushed}
+use Rattle.seg_manager.proofs.Pushing.{pages_of, pushes_call, pushes_none, pushes_then}
 
 pub drop_drop : {A : Type 0} (i j : ℕ) (xs : List A) → drop j (drop i xs) ≡ drop (i + j) xs
 drop_drop zero j xs = ap (λ (n : ℕ). drop n xs) (let s : j ≡ 0 + j = omega arith in s)
@@ -82,6 +83,7 @@ module _ {Manager X Chooser : Type 0} (M : GhostsOfMapper X) (G : GhostsOfGmi Ma
     credit = omega arith;
     rises = no_counts;
     rose = rise_none (M.counts before);
+    pushed = pushes_none M G before manager no_counts;
   }
 
   pub trying_none : (c : Command) (before : X) (manager : SegManager Manager) → CanCall G manager (M.held before) (M.page_bytes before) → Trying M G c before manager before manager
@@ -108,6 +110,7 @@ module _ {Manager X Chooser : Type 0} (M : GhostsOfMapper X) (G : GhostsOfGmi Ma
     credit = omega (arith, f.credit, g.credit);
     rises = counts_sum f.rises g.rises;
     rose = rise_then (M.counts before) (M.counts mid) (M.counts after) f.rises g.rises f.rose g.rose;
+    pushed = pushes_then M G before mid after old by f.rises g.rises (pages_of M G before mid old by (take f.gone (kept_segments old.kept.items)) f.machine) f.pushed g.pushed;
   }
 
   module _ (manager : SegManager Manager) (gmi : Manager) (before after : X) (first : Kept) (rest : List Kept) (a : Answer) (at : manager.kept.items ≡ first ∷ rest)
@@ -194,6 +197,7 @@ module _ {Manager X Chooser : Type 0} (M : GhostsOfMapper X) (G : GhostsOfGmi Ma
         credit = omega (arith, ap length kept, ap length at, less_credit (pages_in (cache_of m first.cache.0)) (live_pages m) (live_pages n) (length rest) (G.made manager.gmi) (G.made gmi) (live_pages n - live_pages m) swapped refl raised);
         rises = (call_is M G manager gmi before after (commands.Destroy first.cache) a can call).rises;
         rose = (call_is M G manager gmi before after (commands.Destroy first.cache) a can call).rose;
+        pushed = pushes_call M G manager gmi before after (commands.Destroy first.cache) a can call;
       }
 
     pub fails_one : (g : IsFault m a n (call_is M G manager gmi before after (commands.Destroy first.cache) a can call).rises) → Fails M G before manager (troubles.Mapper g.at) after (record manager { gmi = gmi })
@@ -209,6 +213,7 @@ module _ {Manager X Chooser : Type 0} (M : GhostsOfMapper X) (G : GhostsOfGmi Ma
       made = made_after M G manager gmi before after (commands.Destroy first.cache) a can call;
       rises = (call_is M G manager gmi before after (commands.Destroy first.cache) a can call).rises;
       rose = (call_is M G manager gmi before after (commands.Destroy first.cache) a can call).rose;
+      pushed = pushes_call M G manager gmi before after (commands.Destroy first.cache) a can call;
       failed = g.failed;
       first = first;
       rest = rest;

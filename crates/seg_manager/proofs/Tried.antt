@@ -35,6 +35,7 @@ use Rattle.seg_manager.proofs.Anew.{unnamed}
 use Rattle.seg_manager.proofs.Calls.{able_after, backed_before, call_is, denied_after, forest, made_after, seen_after, told_after}
 use Rattle.seg_manager.proofs.Pushed.{Follow, Told}
 use Rattle.seg_manager.proofs.Lesser.{without_none}
+use Rattle.seg_manager.proofs.Pushing.{pushes_call}
 use Rattle.seg_manager.proofs.Staying.{refused_again}
 use Rattle.seg_manager.proofs.Unopened.{stored_held}
 use Rattle.seg_manager.proofs.Opened.{Ends, failed, lacks, made, many, nowhere, open_ends}
@@ -80,6 +81,7 @@ module _ {Manager X Chooser : Type 0} (M : GhostsOfMapper X) (G : GhostsOfGmi Ma
           credit = omega (arith, made_same, ap live_pages same);
           rises = (call_is M G manager gmi before after c a can call).rises;
           rose = (call_is M G manager gmi before after c a can call).rose;
+          pushed = pushes_call M G manager gmi before after c a can call;
         }
 
 -- A machine refuses a command so by what is beside its caches: whatever forest is told, and where

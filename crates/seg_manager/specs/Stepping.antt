@@ -1,5 +1,5 @@
 -- One answer after another of segments: what there is between two, and how one leads on.
-use Rattle.std.specs.Prelude.{◌≡◌, ◌≤◌, ℕ, Option, Some, None, option_map}
+use Rattle.std.specs.Prelude.{◌≡◌, ◌≤◌, ℕ, List, length, Option, Some, None, option_map, IfSome}
 use Rattle.vm_ids.specs.Counting.{MapperCounts}
 use Rattle.vm_ids.specs.Held.{Segments}
 use Rattle.vm_ids.specs.declared.command.Command.TheVariants.{Load}
@@ -9,10 +9,11 @@ use Rattle.vm_model.specs.Answering.{Answer}
 use Rattle.vm_model.specs.Machine.{live_pages}
 use Rattle.vm_model.specs.Outcome.{HasWholePages, blank}
 use Rattle.vm_model.specs.PageForest.{PageForest}
+use Rattle.vm_model.specs.Pushing.{PushRule}
 use Rattle.vm_model.specs.declared.limits.TheConstants.{LIVE_PAGES}
 use Rattle.gmi_calls.specs.Untold.{UntoldStep}
 use Rattle.seg_manager.specs.Outcome.{Outcome}
-use Rattle.seg_manager.specs.ReferenceMachine.{ReferenceMachine}
+use Rattle.seg_manager.specs.ReferenceMachine.{ReferenceMachine, let_go}
 
 -- What there is between two answers: the segments that are referred to, and what the mapper's
 -- segments hold where that is told.
@@ -50,11 +51,22 @@ StepAt None before command answer rises after =
     after
 StepAt (Some h) before command answer rises after = LeadsTo h before command answer rises after
 
--- One answer of the manager of segments. No more pages are live behind it than may be, and the
+-- What is pushed to segments in the course of an answer: pages of caches, as they were before it.
+-- There were those that are referred to, and others to which nothing refers any more.
+pub record Pushed (before : State) (rises : MapperCounts) (after : State) : Type 0 where
+  pub all : ReferenceMachine
+  pub pushes : List (ℕ × ℕ)
+  pub left : let_go all ≡ before.references
+  pub few : length pushes ≤ rises.pushes
+  pub rule : PushRule all.memory before.segments pushes after.segments
+
+-- One answer of the manager of segments. Where segments are told, nothing changes them but what is
+-- pushed. No more pages are live behind it than may be, and the
 -- mapper denies the same pages then.
 pub record AnswerIs (before : State) (command : KeepCommand) (answer : Answer)
     (rises : MapperCounts) (after : State) : Type 0 where
   pub step : StepAt after.segments before command answer rises after
+  pub pushed : IfSome after.segments (λ h. Pushed before rises after)
   pub live : live_pages after.references.memory ≤ LIVE_PAGES
   pub denied : option_map (λ (h : Segments). h.denied) after.segments
       ≡ option_map (λ (h : Segments). h.denied) before.segments

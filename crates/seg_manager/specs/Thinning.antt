@@ -17,6 +17,7 @@ use Rattle.vm_model.specs.Outcome.{OutcomeAt}
 use Rattle.gmi_calls.specs.Calling.{MapperCall}
 use Rattle.gmi_calls.specs.Managing.{meanings_of}
 use Rattle.vm_model.specs.Machine.{Machine, live_pages}
+use Rattle.vm_model.specs.Pushing.{PushRule}
 use Rattle.vm_model.specs.declared.limits.TheConstants.{LIVE_PAGES}
 use Rattle.vm_port.specs.declared.traits.mapper.Mapper.{Ghosts as GhostsOfMapper}
 use Rattle.gmi_calls.specs.declared.gmi.Gmi.{Ghosts as GhostsOfGmi}
@@ -50,6 +51,14 @@ module _ {Manager Mapper Chooser : Type 0} (M : GhostsOfMapper Mapper)
       G.made manager.gmi + 8 * live_pages (machine_at manager mapper)
       + 8 * length manager.kept.items
 
+  -- What was pushed meanwhile: pages of the machine below, as it was before.
+  pub record Pushes (before : Mapper) (old : SegManager Manager) (after : Mapper)
+      (rises : MapperCounts) : Type 0 where
+    pub pushes : List (ℕ × ℕ)
+    pub few : length pushes ≤ rises.pushes
+    pub rule : PushRule (machine_at old before) (segments_of (M.held before)) pushes
+        (segments_of (M.held after))
+
   -- Some of the least recently used were destroyed. What is seen is as before.
   pub record Thins (before : Mapper) (old : SegManager Manager) (after : Mapper)
       (new : SegManager Manager) : Type 0 where
@@ -71,6 +80,7 @@ module _ {Manager Mapper Chooser : Type 0} (M : GhostsOfMapper Mapper)
     pub credit : credit new after ≤ credit old before
     pub rises : MapperCounts
     pub rose : Rise (M.counts before) (M.counts after) rises
+    pub pushed : Pushes before old after rises
 
   -- The least recently used couldn't be destroyed, at this fault of the manager below, and all is as
   -- before.
@@ -84,6 +94,7 @@ module _ {Manager Mapper Chooser : Type 0} (M : GhostsOfMapper Mapper)
     pub made : G.made new.gmi ≤ G.made old.gmi + 32 * LIVE_PAGES + 8
     pub rises : MapperCounts
     pub rose : Rise (M.counts before) (M.counts after) rises
+    pub pushed : Pushes before old after rises
     pub failed : 0 < rises.faults
     pub first : Kept
     pub rest : List Kept
@@ -115,6 +126,7 @@ module _ {Manager Mapper Chooser : Type 0} (M : GhostsOfMapper Mapper)
     pub made : G.made new.gmi ≤ credit old before + 32 * LIVE_PAGES + 8
     pub rises : MapperCounts
     pub rose : Rise (M.counts before) (M.counts after) rises
+    pub pushed : Pushes before old after rises
 
   -- What there is before each try: some of the least recently used were destroyed, or none; each
   -- where the manager below had no room, as it was at first but for those before it.
