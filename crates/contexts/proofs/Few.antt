@@ -44,7 +44,7 @@ total_met m (suc k) some low = elim (cases_eq m (suc k)) [
 ]
 
 -- the number of a region that was made
-in_range : (owners : List ActorId) (n : ℕ) (a : ActorId) → owner_of owners n ≡ Some a → (1 ≤ n) × (n ≤ length owners)
+pub in_range : (owners : List ActorId) (n : ℕ) (a : ActorId) → owner_of owners n ≡ Some a → (1 ≤ n) × (n ≤ length owners)
 in_range owners n a e = go (n == 0) refl e
   where
     go : (c : Bool) → (n == 0) ≡ c → cond c None (slice_get owners (n - 1)) ≡ Some a → (1 ≤ n) × (n ≤ length owners)

@@ -5,9 +5,10 @@ pub mod Once
 pub mod Few
 pub mod Kept
 pub mod Counted
-pub mod Sound
 pub mod Gone
 pub mod Told
+pub mod Starts
+pub mod Sound
 pub mod Replaced
 pub mod Changing
 pub mod RegionRows

@@ -1,7 +1,7 @@
 -- What the fields of `Contexts` stand for. No public clause cites this module.
 use Rattle.std.specs.Prelude.{◌≡◌, ℕ, ◌-◌, ◌==◌, ◌≤◌, ◌^◌, List, All, Option, Some, None, count_by, is_some, length, map, option_map, slice_get, slice_set, if◌then◌else◌}
 use Rattle.vm_ids.specs.declared.numbers.ActorId.{ActorId}
-use Rattle.vm_model.specs.Machine.{Actor, numbered}
+use Rattle.vm_model.specs.Machine.{Actor, Region, numbered}
 use Rattle.vm_model.specs.declared.limits.TheConstants.{MOST_MADE}
 use Rattle.regions.specs.AddressSpace.{AddressSpace}
 use Rattle.contexts.specs.Actors.{Actors, times_among}
@@ -30,16 +30,28 @@ pub record IsKept (page : ℕ) (owners : List ActorId) (actor : ℕ) (s : Addres
   pub owned : All (λ r. owner_of owners r.number ≡ Some (record { 0 = actor })) s.regions
   pub once : (region : ℕ) → times_among region (Some s.regions) ≤ 1
 
+-- a region starts where it is kept that it does
+abbrev pub StartsAs : List ℕ → Region → Type 0
+StartsAs starts r = slice_get starts (r.number - 1) ≡ Some r.start
+
+-- so does each region of the living
+abbrev pub AllStartAs : List ℕ → List (Option AddressSpace) → Type 0
+AllStartAs starts spaces = (actor : ℕ) (s : AddressSpace) → numbered spaces actor ≡ Some s
+    → All (StartsAs starts) s.regions
+
 -- a page has 1 to 65,536 bytes, the living are counted, so many regions can have numbers, of each
--- cache the regions that map it are counted, and each space is kept
+-- cache the regions that map it are counted, each space is kept, and so is where each region starts
 pub record IsSound (a : Inside) : Type 0 where
   pub some : 1 ≤ a.page
   pub most : a.page ≤ 2 ^ 16
   pub living : a.living ≡ count_by is_some a.actors.items
   pub few : length a.owners.items ≤ MOST_MADE
-  pub mapped : (cache : ℕ) → count_of a.mapped cache ≡ times_mapped cache (regions_in a.actors.items)
+  pub mapped : (cache : ℕ)
+      → count_of a.mapped cache ≡ times_mapped cache (regions_in a.actors.items)
   pub kept : (actor : ℕ) (s : AddressSpace) → numbered a.actors.items actor ≡ Some s
       → IsKept a.page a.owners.items actor s
+  pub starts : length a.starts.items ≡ length a.owners.items
+  pub started : AllStartAs a.starts.items a.actors.items
 
 -- a living actor has other regions, and all else is as it was but for room
 pub record IsChanged (actor : ℕ) (by : Actor → Actor) (old new : List (Option AddressSpace))

@@ -42,6 +42,8 @@ pub struct Contexts {
     living: u32,
     // The actor of region n stands at place n less 1, also when the region is gone.
     owners: Vec<ActorId>,
+    // There stands too at which address it starts, in a list of its own.
+    starts: Vec<u64>,
     // How many regions of living actors map each cache.
     mapped: RegionCounts,
 }
@@ -73,6 +75,7 @@ impl Contexts {
             actors: Vec::new(alloc),
             living: 0,
             owners: Vec::new(alloc),
+            starts: Vec::new(alloc),
             mapped: RegionCounts::new(alloc),
         }
     }
@@ -163,10 +166,12 @@ impl Contexts {
     {
         let region = self.next_region();
         self.owners.reserve(1)?;
+        self.starts.reserve(1)?;
         self.mapped.make_place(mapping.extent.cache)?;
         add_region(&mut self.actors, actor, region, mapping)?;
         self.mapped.add(mapping.extent.cache);
         self.owners.push_reserved(actor);
+        self.starts.push_reserved(mapping.address);
         Ok(region)
     }
 
@@ -212,10 +217,20 @@ impl Contexts {
         ensures err { OnErr result (self.new ≡ self.old) }
     {
         let fresh = self.next_region();
+        let address = status.mapping.address;
         self.owners.reserve(1)?;
-        split_region(&mut self.actors, status.actor, region, pages, fresh)?;
+        self.starts.reserve(1)?;
+        let start = split_region(
+            &mut self.actors,
+            status.actor,
+            region,
+            address,
+            pages,
+            fresh,
+        )?;
         self.mapped.add(status.mapping.extent.cache);
         self.owners.push_reserved(status.actor);
+        self.starts.push_reserved(start);
         Ok(fresh)
     }
 
@@ -231,7 +246,13 @@ impl Contexts {
         let Some(status) = self.status(region) else {
             return false;
         };
-        protect_region(&mut self.actors, status.actor, region, prot);
+        protect_region(
+            &mut self.actors,
+            status.actor,
+            region,
+            status.mapping.address,
+            prot,
+        );
         true
     }
 
@@ -247,7 +268,13 @@ impl Contexts {
         let Some(status) = self.status(region) else {
             return false;
         };
-        lock_region(&mut self.actors, status.actor, region, locked);
+        lock_region(
+            &mut self.actors,
+            status.actor,
+            region,
+            status.mapping.address,
+            locked,
+        );
         true
     }
 
@@ -265,7 +292,12 @@ impl Contexts {
             return false;
         };
         self.mapped.take(status.mapping.extent.cache);
-        remove_region(&mut self.actors, status.actor, region);
+        remove_region(
+            &mut self.actors,
+            status.actor,
+            region,
+            status.mapping.address,
+        );
         true
     }
 
@@ -288,7 +320,8 @@ impl Contexts {
         let Some(regions) = self.regions(actor) else {
             return None;
         };
-        let view = regions.status(region)?;
+        let start = self.starts[region.0 as usize - 1];
+        let view = regions.status(region, start)?;
         Some(RegionStatus {
             actor,
             mapping: view.mapping,

@@ -1,10 +1,10 @@
 // The address spaces of actors, of which a dead one has none.
-ghost use Rattle.std.specs.Prelude.{◌≡◌, ℕ, ◌+◌, ◌<◌, ◌≤◌, false, Some, IsSome, IsSomeAnd, OnErr, OnOk};
+ghost use Rattle.std.specs.Prelude.{◌≡◌, ℕ, ◌+◌, ◌*◌, ◌<◌, ◌≤◌, false, Some, IfOk, IsSome, IsSomeAnd, OnErr, OnOk};
 ghost use Rattle.std.specs.List.{list_any};
 ghost use Rattle.vm_model.specs.Answering.{insert_region, overlaps, region_of, without_region};
 ghost use Rattle.vm_model.specs.Machine.{numbered};
 ghost use Rattle.vm_model.specs.Regions.{region_among, replace_region, split_at, with_lock, with_prot};
-ghost use Rattle.regions.specs.AddressSpace.{AddressSpace, IsWellFormed};
+ghost use Rattle.regions.specs.AddressSpace.{AddressSpace, IsWellFormed, StartsAt};
 ghost use Rattle.contexts.specs.Counting.{count_of, times_in};
 ghost use Rattle.contexts.specs.Layout.{IsChanged};
 
@@ -39,18 +39,24 @@ pub(crate) fn add_region(
     }
 }
 
-// Cuts a region of an actor in two.
+// Cuts a region of an actor in two. The second one starts at the address that is answered.
 pub(crate) fn split_region(
     spaces: &mut [Option<RegionMap>],
     actor: ActorId,
     region: RegionId,
+    start: u64,
     pages: u32,
     fresh: RegionId,
-) -> Result<(), NoMemory>
+) -> Result<u64, NoMemory>
     requires alive { IsSome (numbered spaces.old actor.0) }
+    requires start { (s : AddressSpace) → numbered spaces.old actor.0 ≡ Some s
+        → StartsAt region.0 start s.regions }
     requires some { 1 ≤ pages }
     requires fewer { (s : AddressSpace) → numbered spaces.old actor.0 ≡ Some s
         → IsSomeAnd (region_among region.0 s.regions) (λ r. pages < r.pages) }
+    ensures address { (s : AddressSpace) → numbered spaces.old actor.0 ≡ Some s
+        → IfOk result (λ address. IsSomeAnd (region_among region.0 s.regions)
+        (λ r. address ≡ r.start + s.page_bytes * pages)) }
     ensures ok { (s : AddressSpace) → numbered spaces.old actor.0 ≡ Some s → OnOk result
         (IsChanged actor.0 (replace_region region.0 (split_at s.page_bytes pages fresh.0))
         spaces.old spaces.new) }
@@ -59,8 +65,7 @@ pub(crate) fn split_region(
     match &mut spaces[actor.0 as usize - 1] {
         Some(regions) => {
             regions.reserve()?;
-            regions.split(region, pages, fresh);
-            Ok(())
+            Ok(regions.split(region, start, pages, fresh))
         }
         None => unreachable!(),
     }
@@ -71,15 +76,18 @@ pub(crate) fn protect_region(
     spaces: &mut [Option<RegionMap>],
     actor: ActorId,
     region: RegionId,
+    start: u64,
     prot: Prot,
 )
     requires alive { IsSome (numbered spaces.old actor.0) }
+    requires start { (s : AddressSpace) → numbered spaces.old actor.0 ≡ Some s
+        → StartsAt region.0 start s.regions }
     requires there { (s : AddressSpace) → numbered spaces.old actor.0 ≡ Some s
         → IsSome (region_among region.0 s.regions) }
     ensures { IsChanged actor.0 (replace_region region.0 (with_prot prot)) spaces.old spaces.new }
 {
     match &mut spaces[actor.0 as usize - 1] {
-        Some(regions) => regions.protect(region, prot),
+        Some(regions) => regions.protect(region, start, prot),
         None => unreachable!(),
     }
 }
@@ -89,26 +97,36 @@ pub(crate) fn lock_region(
     spaces: &mut [Option<RegionMap>],
     actor: ActorId,
     region: RegionId,
+    start: u64,
     locked: bool,
 )
     requires alive { IsSome (numbered spaces.old actor.0) }
+    requires start { (s : AddressSpace) → numbered spaces.old actor.0 ≡ Some s
+        → StartsAt region.0 start s.regions }
     requires there { (s : AddressSpace) → numbered spaces.old actor.0 ≡ Some s
         → IsSome (region_among region.0 s.regions) }
     ensures { IsChanged actor.0 (replace_region region.0 (with_lock locked)) spaces.old spaces.new }
 {
     match &mut spaces[actor.0 as usize - 1] {
-        Some(regions) => regions.set_locked(region, locked),
+        Some(regions) => regions.set_locked(region, start, locked),
         None => unreachable!(),
     }
 }
 
 // Takes a region away from an actor.
-pub(crate) fn remove_region(spaces: &mut [Option<RegionMap>], actor: ActorId, region: RegionId)
-    requires { IsSome (numbered spaces.old actor.0) }
+pub(crate) fn remove_region(
+    spaces: &mut [Option<RegionMap>],
+    actor: ActorId,
+    region: RegionId,
+    start: u64,
+)
+    requires alive { IsSome (numbered spaces.old actor.0) }
+    requires start { (s : AddressSpace) → numbered spaces.old actor.0 ≡ Some s
+        → StartsAt region.0 start s.regions }
     ensures { IsChanged actor.0 (without_region region.0) spaces.old spaces.new }
 {
     match &mut spaces[actor.0 as usize - 1] {
-        Some(regions) => regions.destroy(region),
+        Some(regions) => regions.destroy(region, start),
         None => unreachable!(),
     }
 }

@@ -1,12 +1,13 @@
 use Rattle.std.proofs.Common.{◌≡◌, ℕ, ◌-◌, List, Option, None, Some, length, set, sym, ap, subst, arith}
 use Rattle.std.specs.Prelude.{IsSome, is_some, option_map}
+use Rattle.std.specs.List.{All}
 use Rattle.std.proofs.lemmas.List.{map-set}
 use Rattle.vm_model.specs.Machine.{Actor, numbered}
 use Rattle.vm_model.proofs.Parts.Lists.{is_there, numbered_place}
 use Rattle.regions.specs.AddressSpace.{AddressSpace}
 use Rattle.contexts.specs.Actors.{Actors}
 use Rattle.contexts.specs.Counting.{times_mapped}
-use Rattle.contexts.specs.Layout.{IsKept, actors_seen, regions_in}
+use Rattle.contexts.specs.Layout.{IsKept, StartsAs, actors_seen, regions_in}
 use Rattle.contexts.specs.declared.contexts.Contexts.TheInside.{Inside}
 use Rattle.contexts.proofs.Living.{gone}
 use Rattle.contexts.proofs.Counted.{times_after, times_among_all}
@@ -58,6 +59,8 @@ invariant_of-self c =
           );
       kept = numbered_replaced (IsKept i.page i.owners.items) xs n None place.0
           (λ s e. absurd (cc e)) c.self.invariant.kept;
+      starts = c.self.invariant.starts;
+      started = numbered_replaced (λ _ s. All (StartsAs i.starts.items) s.regions) xs n None place.0 (λ s e. absurd (cc e)) c.self.invariant.started;
     }
 
 pub returns : goal.returns

@@ -28,8 +28,8 @@ invariant_of-self-in_err-add_region c =
     let items = with_items_is i.actors ys (omega (arith, c.add_region.auto.spaces, c.deref_mut.ensures.len)) in
     let same : IsChanged a (λ rs. rs) i.actors.items (Rattle.std.specs.Vec.with_items i.actors ys).items =
     subst (IsChanged a (λ rs. rs) i.actors.items) (sym items) e in
-    sound_same i _ c.self.invariant refl refl a (λ rs. rs) same c.reserve.ensures.items (λ h. h) (λ h. h)
-    (λ n. ap (λ (k : ℕ). k + times_in n (Some same.space.regions)) (c.make_place.ensures.same n))
+    sound_same i _ c.self.invariant refl refl a (λ rs. rs) same c.reserve.ensures.items c.reserve-2.ensures.items (λ h. h) (λ h. h)
+    (λ n. ap (λ (k : ℕ). k + times_in n (Some same.space.regions)) (c.make_place.ensures.same n)) (λ h. h)
 
 pub invariant_of-self-2 : goal.invariant_of-self-2
 invariant_of-self-2 c =
@@ -42,10 +42,11 @@ invariant_of-self-2 c =
     let e : IsChanged a (insert_region r) i.actors.items (Rattle.std.specs.Vec.with_items i.actors ys).items =
     subst (IsChanged a (insert_region r) i.actors.items) (sym items) change in
     let after : c.push_reserved.new.self.items ≡ i.owners.items ++ c.args.actor ∷ [] = c.push_reserved.ensures.items ∙ ap (λ (os : List ActorId). os ++ c.args.actor ∷ []) c.reserve.ensures.items in
+    let starts : c.push_reserved-2.new.self.items ≡ i.starts.items ++ r.start ∷ [] = c.push_reserved-2.ensures.items ∙ ap (λ (ss : List ℕ). ss ++ r.start ∷ []) c.reserve-2.ensures.items in
     let number : r.number ≡ length i.owners.items + 1 = subst (λ (t : Actors). r.number ≡ t.regions_made + 1) (sym c.self.view_is) c.next_region-region.ensures in
     let few : length i.owners.items < MOST_MADE = subst (λ (t : Actors). t.regions_made < MOST_MADE) (sym c.self.view_is) c.requires.few in
-    sound_more i _ c.self.invariant refl refl c.args.actor r (insert_region r) e after few number
-    (λ P new h. all_insert (λ (x : Region). P x.number) r e.space.regions new h) (λ n. times_insert (is_numbered n) r e.space.regions)
+    sound_more i _ c.self.invariant refl refl c.args.actor r (insert_region r) e after starts few number
+    (λ P new h. all_insert (λ (x : Region). P x.number x.start) r e.space.regions new h) (λ n. times_insert (is_numbered n) r e.space.regions)
     (λ n. times_insert (λ (x : Region). x.cache == n) r e.space.regions) (λ n. c.add.ensures n ∙ ap (λ (k : ℕ). k + one_for r.cache n) (c.make_place.ensures.same n))
 
 pub returns-in_err-add_region-clause-err : goal.returns-in_err-add_region-clause-err
@@ -91,10 +92,13 @@ free_at mapping a i t is h =
     (subst (λ (u : Actors). IsFreeAt mapping a u.page_bytes u.actors) (sym is) h)
 
 pub invariant_of-self : goal.invariant_of-self
-invariant_of-self c = sound_still c.self.inside _ c.self.invariant refl refl refl c.reserve.ensures.items (λ n. refl)
+invariant_of-self c = sound_still c.self.inside _ c.self.invariant refl refl refl c.reserve.ensures.items refl (λ n. refl)
+
+pub invariant_of-self-in_err-reserve-2 : goal.invariant_of-self-in_err-reserve-2
+invariant_of-self-in_err-reserve-2 c = sound_still c.self.inside _ c.self.invariant refl refl refl c.reserve.ensures.items c.reserve-2.ensures.items (λ n. refl)
 
 pub invariant_of-self-in_err-make_place : goal.invariant_of-self-in_err-make_place
-invariant_of-self-in_err-make_place c = sound_still c.self.inside _ c.self.invariant refl refl refl c.reserve.ensures.items c.make_place.ensures.same
+invariant_of-self-in_err-make_place c = sound_still c.self.inside _ c.self.invariant refl refl refl c.reserve.ensures.items c.reserve-2.ensures.items c.make_place.ensures.same
 
 -- no number is too large
 pub add-requires-clause-few : goal.add-requires-clause-few

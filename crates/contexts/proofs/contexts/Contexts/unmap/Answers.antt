@@ -9,10 +9,10 @@ use Rattle.vm_model.specs.Regions.{status_with}
 use Rattle.regions.specs.AddressSpace.{AddressSpace}
 use Rattle.contexts.specs.Actors.{Actors, has_region, times_made}
 use Rattle.contexts.specs.Counting.{one_for}
-use Rattle.contexts.specs.Layout.{IsChanged, IsSound, actors_seen, regions_in}
+use Rattle.contexts.specs.Layout.{IsChanged, IsSound, StartsAs, actors_seen, regions_in}
 use Rattle.contexts.specs.declared.contexts.Contexts.TheInside.{Inside}
 use Rattle.contexts.proofs.Owners.{IsFor}
-use Rattle.contexts.proofs.Changing.{inside_alive, told_counted, told_inside}
+use Rattle.contexts.proofs.Changing.{inside_alive, inside_starts, told_counted, told_inside}
 use Rattle.contexts.proofs.Gone.{goes}
 use Rattle.contexts.proofs.Kept.{all_without}
 use Rattle.contexts.proofs.Once.{made_once, once_without, times_gone}
@@ -40,8 +40,11 @@ take-requires c =
     let s : RegionStatus = c.in-Some.status in
     omega (arith, c.self.invariant.mapped s.mapping.extent.cache.0, told_counted c.self.inside c.args.self.now c.self.view_is c.args.region.0 s (told (goal.at.take-requires c).In-Some))
 
-pub remove_region-requires : goal.remove_region-requires
-remove_region-requires c = inside_alive c.self.inside c.args.self.now c.self.view_is c.args.region.0 c.in-Some.status (told (goal.at.remove_region-requires c).In-Some) _ c.deref_mut.ensures.value
+pub remove_region-requires-clause-alive : goal.remove_region-requires-clause-alive
+remove_region-requires-clause-alive c = inside_alive c.self.inside c.args.self.now c.self.view_is c.args.region.0 c.in-Some.status (told (goal.at.remove_region-requires-clause-alive c).In-Some) _ c.deref_mut.ensures.value
+
+pub remove_region-requires-clause-start : goal.remove_region-requires-clause-start
+remove_region-requires-clause-start c = inside_starts c.self.inside c.args.self.now c.self.view_is c.args.region.0 c.in-Some.status (told (goal.at.remove_region-requires-clause-start c).In-Some) _ c.deref_mut.ensures.value c.self.invariant
 
 pub invariant_of-self : goal.invariant_of-self
 invariant_of-self c =
@@ -57,7 +60,7 @@ invariant_of-self c =
     subst (IsChanged a (without_region n) i.actors.items) (sym items) change in
     let among = told_among n i.actors.items s t e.space e.here in
     let once = (c.self.invariant.kept a e.space e.here).once in
-    sound_same i _ c.self.invariant refl refl a (without_region n) e refl (all_without (IsFor i.owners.items a) n e.space.regions) (once_without n e.space.regions)
+    sound_same i _ c.self.invariant refl refl a (without_region n) e refl refl (all_without (IsFor i.owners.items a) n e.space.regions) (once_without n e.space.regions)
     (λ k.
     omega (
       arith,
@@ -65,6 +68,7 @@ invariant_of-self c =
       ap (λ (u : RegionStatus). one_for u.mapping.extent.cache.0 k) t.told,
       times_gone (λ (x : Region). x.cache == k) n t.region e.space.regions among (once n),
     ))
+    (all_without (StartsAs i.starts.items) n e.space.regions)
 
 pub returns-clause-once : goal.returns-clause-once
 returns-clause-once c = once_seen c.self.inside c.self.invariant c.args.self.now c.self.view_is c.args.region.0
