@@ -8,7 +8,7 @@ use Rattle.vm_ids.specs.declared.reply.Trouble.{Trouble}
 use Rattle.vm_model.specs.Machine.{Actor, Cache, Machine, Region, segment_of}
 use Rattle.seg_manager.specs.ReferenceMachine.{ReferenceMachine, is_unreferenced, number_in}
 
--- the machine without the caches of these segments
+-- one of these segments names the cache
 abbrev pub is_of_any : List ℕ → Cache → Bool
 is_of_any segs c = option_map_or (λ seg. list_any (λ s. s == seg) segs) c.segment false
 
@@ -16,6 +16,7 @@ abbrev pub but_for : List ℕ → Option Cache → Option Cache
 but_for segs None = None
 but_for segs (Some c) = if is_of_any segs c then None else Some c
 
+-- the machine without the caches of these segments
 abbrev pub without : List ℕ → Machine → Machine
 without segs m = record m { caches = map (but_for segs) m.caches }
 
