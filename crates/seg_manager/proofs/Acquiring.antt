@@ -313,6 +313,7 @@ module _ {Manager X Chooser : Type 0} (M : GhostsOfMapper X) (G : GhostsOfGmi Ma
             sym (number_is m can.tied.apart o.named.cache.0 seg.0 (of m told old.caches.items old.kept.items old.kept.room old.regions.items can.tied seg place o.named (sym first) o.there new.caches.items o.caches)) ∙ e in cc both),
       );
       too_many = λ e. absurd (cc e);
+      fault = λ at e. absurd (cc e);
     }
 
     pub acquired_again : Acquires M G before old seg (Ok cache) before new
@@ -351,6 +352,7 @@ lacks_memory M G before old seg can = record {
   kept = not_acquired (HasNoRoomWithout G old.gmi (M.held before) (OpenSegment seg)) (list_any (λ s. s == seg.0) (kept_segments old.kept.items)) seg.0 (kept_segments old.kept.items) troubles.Memory;
   again = λ k e. (refl, refl);
   too_many = λ e. absurd (cc e);
+  fault = λ at e. absurd (cc e);
 }
 
 pub acquired_by : {Manager X Chooser : Type 0} (M : GhostsOfMapper X) (G : GhostsOfGmi Manager X Chooser) (before : X) (old : SegManager Manager) (seg : SegId) (place : ℕ) → CanCall G old (M.held before) (M.page_bytes before)

@@ -5,11 +5,12 @@ use Rattle.std.specs.List.{list_any, position_from}
 use Rattle.std.proofs.lemmas.List.{drop-map, length-append, length-map}
 use Rattle.vm_ids.specs.Counting.{MapperCounts, counts_sum, no_counts}
 use Rattle.vm_ids.specs.Held.{Segments, segments_of}
-use Rattle.vm_ids.specs.declared.command.Command.TheVariants.{OpenSegment}
+use Rattle.vm_ids.specs.declared.command.Command.TheVariants.{Destroy, OpenSegment}
 use Rattle.vm_ids.specs.declared.command.KeepCommand.TheVariants as commands
 use Rattle.vm_ids.specs.declared.numbers.CacheId.{CacheId}
 use Rattle.vm_ids.specs.declared.numbers.SegId.{SegId}
 use Rattle.vm_ids.specs.declared.refusal.Refusal.TheVariants as refusals
+use Rattle.vm_ids.specs.declared.reply.FaultAt.{FaultAt}
 use Rattle.vm_ids.specs.declared.reply.FaultAt.TheVariants as faults
 use Rattle.vm_ids.specs.declared.reply.Reply.TheVariants as replies
 use Rattle.vm_ids.specs.declared.reply.Trouble.{Trouble}
@@ -25,9 +26,9 @@ use Rattle.gmi_calls.specs.Managing.{meanings_of}
 use Rattle.gmi_calls.specs.declared.gmi.Gmi.{Ghosts as GhostsOfGmi}
 use Rattle.gmi_calls.proofs.Rising.{rise_none, rise_then}
 use Rattle.seg_manager.specs.Answering.{Answered, reply_cache}
-use Rattle.seg_manager.specs.Calling.{Acquires, HasNoRoomWithout, SegmentCall}
+use Rattle.seg_manager.specs.Calling.{Acquires, FailsBelow, HasNoRoomWithout, SegmentCall}
 use Rattle.seg_manager.specs.Inner.{first_of}
-use Rattle.seg_manager.specs.Keeping.{AreBehind}
+use Rattle.seg_manager.specs.Keeping.{AreBehind, without}
 use Rattle.seg_manager.specs.Outcome.{Outcome}
 use Rattle.seg_manager.specs.ReferenceMachine.{ReferenceMachine, number_in, used}
 use Rattle.seg_manager.specs.Seen.{kept_segments, references_seen, state_of, whole_of}
@@ -120,8 +121,11 @@ module _ {Manager X Chooser : Type 0} (M : GhostsOfMapper X) (G : GhostsOfGmi Ma
     pushes_by : Pushes M G before old middle thins.rises
     pushes_by = record { pushes = thins.pushed.pushes; few = thins.pushed.few; rule = thins.pushed.rule }
 
+    machine_by : m ≡ without (take thins.gone (kept_segments old.kept.items)) m0
+    machine_by = thins.machine ∙ ap (λ (ks : List Kept). without (take thins.gone (kept_segments ks)) m0) kept
+
     has_pages : HasPages m0 m
-    has_pages = pages_of M G before middle start by (take thins.gone (kept_segments start.kept.items)) thins.machine
+    has_pages = pages_of M G before middle old by (take thins.gone (kept_segments old.kept.items)) machine_by
 
     abbrev Cause : List ℕ → Type 0
     Cause = HasNoRoomWithout G old.gmi (M.held before) (OpenSegment seg)
@@ -195,6 +199,17 @@ module _ {Manager X Chooser : Type 0} (M : GhostsOfMapper X) (G : GhostsOfGmi Ma
         never_many : t ≡ troubles.Refused refusals.TooMany → ⊥
         never_many e = (let wrong : troubles.Mapper f.at ≡ troubles.Refused refusals.TooMany = sym f.is ∙ e in cc wrong)
 
+        fails_below : FailsBelow M G before old (OpenSegment seg) f.at later new
+        fails_below = record {
+          gone = thins.gone;
+          middle = after;
+          by = gmi;
+          machine = tried_same ∙ machine_by;
+          failing = Destroy f.first.cache;
+          is = inr (f.first, f.rest, (ap (drop thins.gone) (sym kept) ∙ sym thins.kept ∙ f.kept), refl);
+          call = f.call;
+        }
+
         pub in_vain : Acquires M G before old seg (Err t) later new
         in_vain = record {
           call = stays_by M G before old can later new (commands.Plain (OpenSegment seg)) t vain_rises (record {
@@ -215,6 +230,8 @@ module _ {Manager X Chooser : Type 0} (M : GhostsOfMapper X) (G : GhostsOfGmi Ma
               (subst (AreBehind Cause (kept_segments old.kept.items)) (sym (ap (λ (x : SegManager Manager). kept_segments x.kept.items) f.same)) kept_behind);
           again = λ k e. absurd (no_cache k e);
           too_many = λ e. absurd (never_many (let s : t ≡ troubles.Refused refusals.TooMany = cc e in s));
+          fault = λ at e. (let s : t ≡ troubles.Mapper at = cc e in let both : troubles.Mapper f.at ≡ troubles.Mapper at = sym f.is ∙ s in let is : f.at ≡ at = cc both in
+              subst (λ (x : FaultAt). FailsBelow M G before old (OpenSegment seg) x later new) is fails_below);
         }
 
     -- It was asked, and wasn't opened.
@@ -296,6 +313,15 @@ module _ {Manager X Chooser : Type 0} (M : GhostsOfMapper X) (G : GhostsOfGmi Ma
           none is,
           refused_again then_told m n (forest M G by gmi middle after (OpenSegment seg) (Err t) thins.can call) (G.forest gmi (M.held after)) (OpenSegment seg) (λ x f g h. refl) t its_rises same asked_for is,
         ));
+        fault = λ at e. record {
+          gone = thins.gone;
+          middle = middle;
+          by = by.gmi;
+          machine = machine_by;
+          failing = OpenSegment seg;
+          is = inl refl;
+          call = subst (λ (x : Trouble). MapperCall M (meanings_of G) middle by.gmi (OpenSegment seg) (Err x) after gmi) (let s : t ≡ troubles.Mapper at = cc e in s) call;
+        };
       }
 
     -- It was opened, and is noted.
@@ -397,6 +423,7 @@ module _ {Manager X Chooser : Type 0} (M : GhostsOfMapper X) (G : GhostsOfGmi Ma
             (not_kept m0 told0 old.caches.items old.kept.items old.kept.room old.regions.items can.tied seg anew) kept_behind;
         again = λ k e. absurd (no_cache k e);
         too_many = λ e. absurd (cc e);
+        fault = λ at e. absurd (cc e);
       }
 
   -- There was no memory to note it.
@@ -416,6 +443,7 @@ module _ {Manager X Chooser : Type 0} (M : GhostsOfMapper X) (G : GhostsOfGmi Ma
         (not_kept m0 told0 old.caches.items old.kept.items old.kept.room old.regions.items can.tied seg anew) (none_gone (HasNoRoomWithout G old.gmi (M.held before) (OpenSegment seg)) (kept_segments old.kept.items) (kept_segments start.kept.items) (ap kept_segments kept));
     again = λ k e. absurd (let wrong : None ≡ Some k = sym (number_below m0 told0 old.caches.items old.kept.items old.kept.room old.regions.items can.tied seg anew) ∙ e in cc wrong);
     too_many = λ e. absurd (cc e);
+    fault = λ at e. absurd (cc e);
   }
 
   -- What the tries came to

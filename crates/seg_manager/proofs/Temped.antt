@@ -5,11 +5,12 @@ use Rattle.std.proofs.lemmas.Bool.Decides.{nat_tests}
 use Rattle.std.proofs.lemmas.List.{drop-map, length-append, length-map, map-append}
 use Rattle.vm_ids.specs.Counting.{MapperCounts, counts_sum}
 use Rattle.vm_ids.specs.Held.{Segments, segments_of}
-use Rattle.vm_ids.specs.declared.command.Command.TheVariants.{MakeTemp}
+use Rattle.vm_ids.specs.declared.command.Command.TheVariants.{Destroy, MakeTemp}
 use Rattle.vm_ids.specs.declared.command.KeepCommand.TheVariants as commands
 use Rattle.vm_ids.specs.declared.numbers.CacheId.{CacheId}
 use Rattle.vm_ids.specs.declared.refusal.Refusal.{Refusal}
 use Rattle.vm_ids.specs.declared.refusal.Refusal.TheVariants as refusals
+use Rattle.vm_ids.specs.declared.reply.FaultAt.{FaultAt}
 use Rattle.vm_ids.specs.declared.reply.Reply.{Reply}
 use Rattle.vm_ids.specs.declared.reply.Reply.TheVariants as replies
 use Rattle.vm_ids.specs.declared.reply.Trouble.{Trouble}
@@ -29,7 +30,7 @@ use Rattle.gmi_calls.specs.Managing.{meanings_of}
 use Rattle.gmi_calls.specs.declared.gmi.Gmi.{Ghosts as GhostsOfGmi}
 use Rattle.gmi_calls.proofs.Rising.{rise_then}
 use Rattle.seg_manager.specs.Answering.{make_temp_of, reply_cache}
-use Rattle.seg_manager.specs.Calling.{HasNoRoomWithout, SegmentCall, Serves}
+use Rattle.seg_manager.specs.Calling.{FailsBelow, HasNoRoomWithout, SegmentCall, Serves}
 use Rattle.seg_manager.specs.Keeping.{AreBehind}
 use Rattle.seg_manager.specs.Outcome.{FailsToMakeRoom, IsWanted, Outcome}
 use Rattle.seg_manager.specs.ReferenceMachine.{ReferenceMachine, add_cache}
@@ -240,6 +241,15 @@ module _ {Manager X Chooser : Type 0} (M : GhostsOfMapper X) (G : GhostsOfGmi Ma
             none is,
             refused_again (segments_of (M.held after)) m (machine_at M G left after) (forest M G by gmi middle after (MakeTemp pages) (Err t) thins.can call) (G.forest gmi (M.held after)) (MakeTemp pages) (λ x f g h. refl) t its_rises same asked_for is,
           ))),
+          (λ at e. record {
+            gone = thins.gone;
+            middle = middle;
+            by = by.gmi;
+            machine = thins.machine;
+            failing = MakeTemp pages;
+            is = inl refl;
+            call = subst (λ (a : Answer). MapperCall M (meanings_of G) middle by.gmi (MakeTemp pages) a after gmi) e call;
+          }),
         );
       }
 
@@ -287,6 +297,17 @@ module _ {Manager X Chooser : Type 0} (M : GhostsOfMapper X) (G : GhostsOfGmi Ma
       never_many : t ≡ troubles.Refused refusals.TooMany → ⊥
       never_many e = (let wrong : troubles.Mapper f.at ≡ troubles.Refused refusals.TooMany = sym f.is ∙ e in cc wrong)
 
+      fails_below : FailsBelow M G before old (MakeTemp pages) f.at later new
+      fails_below = record {
+        gone = thins.gone;
+        middle = after;
+        by = gmi;
+        machine = same (troubles.Refused refusals.TooMany) after gmi call ∙ thins.machine;
+        failing = Destroy f.first.cache;
+        is = inr (f.first, f.rest, (sym thins.kept ∙ f.kept), refl);
+        call = f.call;
+      }
+
       pub in_vain : Serves M G before old (MakeTemp pages) (Err t) later new
       in_vain = record {
         call = stays_by M G before old can later new (commands.Plain (MakeTemp pages)) t vain_rises vain fails.whole fails.forest (λ r. tt) fails.seen
@@ -294,6 +315,8 @@ module _ {Manager X Chooser : Type 0} (M : GhostsOfMapper X) (G : GhostsOfGmi Ma
         kept = (
           subst (AreBehind Cause (kept_segments old.kept.items)) (sym (ap (λ (x : SegManager Manager). kept_segments x.kept.items) f.same)) kept_behind,
           (λ e. absurd (never_many (let s : t ≡ troubles.Refused refusals.TooMany = cc e in s))),
+          (λ at e. (let s : t ≡ troubles.Mapper at = cc e in let both : troubles.Mapper f.at ≡ troubles.Mapper at = sym f.is ∙ s in let is : f.at ≡ at = cc both in
+              subst (λ (x : FaultAt). FailsBelow M G before old (MakeTemp pages) x later new) is fails_below)),
         );
       }
 
@@ -363,7 +386,7 @@ module _ {Manager X Chooser : Type 0} (M : GhostsOfMapper X) (G : GhostsOfGmi Ma
             denied = denied_after M G by gmi middle after (MakeTemp pages) (Ok (replies.Cache cache)) thins.can call ∙ thins.denied;
           };
         };
-        kept = (kept_behind, λ e. absurd (cc e));
+        kept = (kept_behind, (λ e. absurd (cc e)), (λ at e. absurd (cc e)));
       }
         where
           one_more : length n.caches ≡ length m.caches + 1

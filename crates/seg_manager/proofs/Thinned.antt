@@ -222,6 +222,7 @@ module _ {Manager X Chooser : Type 0} (M : GhostsOfMapper X) (G : GhostsOfGmi Ma
       is = refl;
       fault = subst (λ (b : Answer). OutcomeAt now m (forest M G manager gmi before after (commands.Destroy first.cache) a can call) (commands.Destroy first.cache) b n (call_is M G manager gmi before after (commands.Destroy first.cache) a can call).rises) g.is
           (call_is M G manager gmi before after (commands.Destroy first.cache) a can call).is.outcome;
+      call = subst (λ (b : Answer). MapperCall M (meanings_of G) before manager.gmi (commands.Destroy first.cache) b after gmi) g.is call;
     }
 
     -- by what the destroy answered

@@ -1,5 +1,5 @@
 -- What the calls of the manager of segments have in common.
-use Rattle.std.specs.Prelude.{◌≡◌, ◌==◌, ◌≤◌, List, ℕ, ◌+◌, ◌^◌, [], ◌++◌, length, Option, Some, Result, Ok, Err}
+use Rattle.std.specs.Prelude.{◌≡◌, ◌==◌, ◌≤◌, ◌⊎◌, List, ℕ, ◌+◌, ◌^◌, [], ◌∷◌, ◌++◌, drop, length, take, Option, Some, Result, Ok, Err}
 use Rattle.std.specs.List.{list_any}
 use Rattle.vm_ids.specs.Counting.{MapperCounts, Rise, no_counts}
 use Rattle.vm_ids.specs.Held.{Held, Segments, segments_of}
@@ -10,8 +10,10 @@ use Rattle.vm_ids.specs.declared.command.KeepCommand.TheVariants as commands
 use Rattle.vm_ids.specs.declared.numbers.CacheId.{CacheId}
 use Rattle.vm_ids.specs.declared.numbers.SegId.{SegId}
 use Rattle.vm_ids.specs.declared.refusal.Refusal.TheVariants.{TooMany}
+use Rattle.vm_ids.specs.declared.reply.FaultAt.{FaultAt}
 use Rattle.vm_ids.specs.declared.reply.Reply.TheVariants as replies
 use Rattle.vm_ids.specs.declared.reply.Trouble.{Trouble}
+use Rattle.vm_ids.specs.declared.reply.Trouble.TheVariants as troubles
 use Rattle.vm_ids.specs.declared.reply.Trouble.TheVariants.{Memory, Refused}
 use Rattle.vm_model.specs.Answering.{Answer, answer_by}
 use Rattle.vm_model.specs.Machine.{Machine}
@@ -27,6 +29,7 @@ use Rattle.seg_manager.specs.Seen.{kept_segments, known, stored_beside, state_of
 use Rattle.seg_manager.specs.Stepping.{AnswerIs, State}
 use Rattle.seg_manager.specs.Tying.{CanCall}
 use Rattle.seg_manager.specs.declared.manager.SegManager.{SegManager}
+use Rattle.seg_manager.specs.declared.tables.Kept.{Kept}
 
 -- the commands of the manager below that a script of segments has, but for the opening of a segment
 abbrev pub IsServed : Command → Type 0
@@ -100,6 +103,23 @@ abbrev pub IsFound : ℕ → Result CacheId Trouble → Type 0
 IsFound n (Ok cache) = cache.0 ≡ n
 IsFound n (Err trouble) = trouble ≡ Memory
 
+-- The last call of the manager below failed at this fault: it was the command itself; or, where some
+-- of the least recently used had gone to make room, a destroy of the next one.
+pub record FailsBelow {Manager Mapper Chooser : Type 0} (M : GhostsOfMapper Mapper)
+    (G : GhostsOfGmi Manager Mapper Chooser) (before : Mapper) (old : SegManager Manager)
+    (command : Command) (at : FaultAt) (after : Mapper) (new : SegManager Manager) : Type 0 where
+  pub gone : ℕ
+  pub middle : Mapper
+  pub by : Manager
+  pub machine : G.machine by (M.held middle)
+      ≡ without (take gone (kept_segments old.kept.items)) (G.machine old.gmi (M.held before))
+  pub failing : Command
+  pub is : (failing ≡ command) ⊎ ((next : Kept) × (rest : List Kept)
+      × (drop gone old.kept.items ≡ next ∷ rest)
+      × (failing ≡ plain_commands.Destroy next.cache))
+  pub call : MapperCall M (meanings_of G) middle by failing (Err (troubles.Mapper at)) after
+      new.gmi
+
 -- An opening of a segment. A cache that there is keeps its number, and the mapper isn't called.
 pub record Acquires {Manager Mapper Chooser : Type 0} (M : GhostsOfMapper Mapper)
     (G : GhostsOfGmi Manager Mapper Chooser) (before : Mapper) (old : SegManager Manager)
@@ -115,6 +135,8 @@ pub record Acquires {Manager Mapper Chooser : Type 0} (M : GhostsOfMapper Mapper
       → (after ≡ before) × IsFound n result
   pub too_many : result ≡ Err (Refused TooMany) → (new.kept.items ≡ [])
       × HasNoRoom G new.gmi (M.held after) (plain_commands.OpenSegment seg)
+  pub fault : (at : FaultAt) → result ≡ Err (troubles.Mapper at)
+      → FailsBelow M G before old (plain_commands.OpenSegment seg) at after new
 
 -- what there is below, with what refers to it
 abbrev pub below : {Manager Mapper Chooser : Type 0} → GhostsOfGmi Manager Mapper Chooser
@@ -150,8 +172,8 @@ pub record Releases {Manager Mapper Chooser : Type 0} (M : GhostsOfMapper Mapper
   pub kept : KeepsLastBy M G before old
       (cache_for (G.machine old.gmi (M.held before)) seg.0) (done_by result) after new
 
--- Which caches are kept after another command. A copy is one of the manager below, between caches as
--- they are found: so where it fails at a save, that manager tells how many were done.
+-- Which caches are kept after another command. A copy is one of the manager below, between caches
+-- as they are found: so where it fails at a save, that manager tells how many were done.
 abbrev pub AnswersKept : {Manager Mapper Chooser : Type 0} → GhostsOfMapper Mapper
     → GhostsOfGmi Manager Mapper Chooser → Mapper → SegManager Manager → Command → Answer → Mapper
     → SegManager Manager → Type 0
@@ -166,6 +188,8 @@ AnswersKept M G before old (plain_commands.MakeTemp pages) answer after new =
     (kept_segments old.kept.items) (kept_segments new.kept.items)
     × (answer ≡ Err (Refused TooMany) → (new.kept.items ≡ [])
     × HasNoRoom G new.gmi (M.held after) (plain_commands.MakeTemp pages))
+    × ((at : FaultAt) → answer ≡ Err (troubles.Mapper at)
+    → FailsBelow M G before old (plain_commands.MakeTemp pages) at after new)
 AnswersKept M G before old (plain_commands.Copy span) answer after new =
     (new.kept.items ≡ old.kept.items)
     × MapperCall M (meanings_of G) before old.gmi

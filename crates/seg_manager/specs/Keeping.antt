@@ -28,8 +28,8 @@ pub record AreBehind (Cause : List ℕ → Type 0) (before now : List ℕ) : Typ
   pub few : gone ≤ length before
   pub cause : (i : ℕ) → i < gone → Cause (take i before)
 
--- After an opening of a segment: if it was kept, it is no longer; else some may have made room, each
--- for a cause.
+-- After an opening of a segment: if it was kept, it is no longer; else some may have made room,
+-- each for a cause.
 abbrev pub IsAcquired : (List ℕ → Type 0) → Bool → ℕ → List ℕ → Result CacheId Trouble → List ℕ
     → Type 0
 IsAcquired Cause true seg before (Ok cache) now = now ≡ filter (λ s. not (s == seg)) before

@@ -28,8 +28,8 @@ blank_references m = record m { memory = blank m.memory; stored = λ seg. None }
 abbrev pub forget : State → State
 forget s = record s { references = blank_references s.references }
 
--- One answer of the machine. A new cache has this number; and where a copy fails, this forest says
--- how many saves could be done before.
+-- One answer of the machine. A new cache has this number; and where a save fails, this forest says
+-- how many could be done before.
 abbrev pub LeadsTo : Segments → State → KeepCommand → Answer → MapperCounts → State → Type 0
 LeadsTo h before command answer rises after = (number : ℕ) × (forest : Option PageForest)
     × Outcome before.references forest command h number answer after.references rises
@@ -61,8 +61,7 @@ pub record Pushed (before : State) (rises : MapperCounts) (after : State) : Type
   pub rule : PushRule all.memory before.segments pushes after.segments
 
 -- One answer of the manager of segments. Where segments are told, nothing changes them but what is
--- pushed. No more pages are live behind it than may be, and the
--- mapper denies the same pages then.
+-- pushed. No more pages are live behind it than may be, and the mapper denies the same pages then.
 pub record AnswerIs (before : State) (command : KeepCommand) (answer : Answer)
     (rises : MapperCounts) (after : State) : Type 0 where
   pub step : StepAt after.segments before command answer rises after

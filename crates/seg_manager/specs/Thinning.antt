@@ -82,8 +82,8 @@ module _ {Manager Mapper Chooser : Type 0} (M : GhostsOfMapper Mapper)
     pub rose : Rise (M.counts before) (M.counts after) rises
     pub pushed : Pushes before old after rises
 
-  -- The least recently used couldn't be destroyed, at this fault of the manager below, and all is as
-  -- before.
+  -- The least recently used couldn't be destroyed: that call of the manager below failed at this
+  -- fault, and all is as before.
   pub record Fails (before : Mapper) (old : SegManager Manager) (trouble : Trouble)
       (after : Mapper) (new : SegManager Manager) : Type 0 where
     pub can : CanCall G new (M.held after) (M.page_bytes after)
@@ -104,6 +104,8 @@ module _ {Manager Mapper Chooser : Type 0} (M : GhostsOfMapper Mapper)
     pub fault : OutcomeAt (segments_of (M.held after)) (machine_at old before)
         (G.forest old.gmi (M.held before)) (Destroy first.cache) (Err (troubles.Mapper at))
         (machine_at new after) rises
+    pub call : MapperCall M (meanings_of G) before old.gmi (Destroy first.cache)
+        (Err (troubles.Mapper at)) after new.gmi
 
   -- The least recently used was destroyed, or couldn't be.
   abbrev pub IsDestroyed : Mapper → SegManager Manager → Result (Unit {0}) Trouble → Mapper
