@@ -173,10 +173,7 @@ fn least_success<G: Gmi<M, C>, M: Mapper, C: Chooser>(
         ask(gmi, &Command::MakeTemp(1), mapper, chooser),
         Shown::Cache(1)
     );
-    assert_eq!(rt;
-        ask(gmi, &map(), mapper, chooser),
-        Shown::Region(1)
-    );
+    assert_eq!(rt; ask(gmi, &map(), mapper, chooser), Shown::Region(1));
     assert_eq!(rt; ask(gmi, &store(0x10000)?, mapper, chooser), Shown::Done);
     assert_eq!(rt;
         ask(gmi, &load(1, 0x10000), mapper, chooser),
@@ -211,10 +208,7 @@ fn accesses_are_issued_and_delivered(rt: HostRuntime) -> Result<(), Fail> {
         ask(gmi, &Command::MakeTemp(1), mapper, chooser),
         Shown::Cache(1)
     );
-    assert_eq!(rt;
-        ask(gmi, &map(), mapper, chooser),
-        Shown::Region(1)
-    );
+    assert_eq!(rt; ask(gmi, &map(), mapper, chooser), Shown::Region(1));
     let piece = Piece::new(&[0x0a, 0x0b]).ok_or("no piece")?;
     let store = Access::Store {
         address: 0x10000,
