@@ -67,5 +67,5 @@ module _ (b address n : ℕ) where
           held (z ∷ zs) y f = turn (z.number == n) refl f (held zs y)
             where
               turn : (c : Bool) → (z.number == n) ≡ c → cond c (Some z) (region_among n zs) ≡ Some y → (region_among n zs ≡ Some y → 1 ≤ times zs) → 1 ≤ times (z ∷ zs)
-              turn true k g rest = omega (arith, times-cons n z zs, has_one z k)
-              turn false k g rest = omega (arith, times-cons n z zs, rest g)
+              turn true k g rest = omega (arith, times-cons (is_numbered n) z zs, has_one z k)
+              turn false k g rest = omega (arith, times-cons (is_numbered n) z zs, rest g)
