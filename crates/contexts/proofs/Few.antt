@@ -12,7 +12,7 @@ use Rattle.vm_model.specs.Machine as model
 use Rattle.regions.specs.AddressSpace.{AddressSpace}
 use Rattle.contexts.specs.Actors.{region_count, regions_among, times_among, times_made}
 use Rattle.contexts.specs.Layout.{IsKept, owner_of, regions_in}
-use Rattle.contexts.proofs.Once.{kept_at, made_once, times-cons}
+use Rattle.contexts.proofs.Once.{is_numbered, kept_at, made_once, times-cons}
 use Rattle.contexts.proofs.Owners.{IsFor}
 use Rattle.contexts.proofs.Places.{Numbered}
 
@@ -44,7 +44,7 @@ total_met m (suc k) some low = elim (cases_eq m (suc k)) [
 ]
 
 -- the number of a region that was made
-in_range : (owners : List ActorId) (n : ℕ) (a : ActorId) → owner_of owners n ≡ Some a → (1 ≤ n) × (n ≤ length owners)
+pub in_range : (owners : List ActorId) (n : ℕ) (a : ActorId) → owner_of owners n ≡ Some a → (1 ≤ n) × (n ≤ length owners)
 in_range owners n a e = go (n == 0) refl e
   where
     go : (c : Bool) → (n == 0) ≡ c → cond c None (slice_get owners (n - 1)) ≡ Some a → (1 ≤ n) × (n ≤ length owners)
@@ -57,7 +57,7 @@ among_few : (owners : List ActorId) (actor : ℕ) (rs : model.Actor) → All (Is
 among_few owners actor [] all = omega arith
 among_few owners actor (r ∷ rs) all =
     let range = in_range owners r.number (record { 0 = actor }) (All-head (IsFor owners actor) r rs all) in
-    let both = total_both (λ n. one_if (r.number == n)) (λ n. times_among n (Some rs)) (λ n. times_among n (Some (r ∷ rs))) (length owners) (λ n. times-cons n r rs) in
+    let both = total_both (λ n. one_if (r.number == n)) (λ n. times_among n (Some rs)) (λ n. times_among n (Some (r ∷ rs))) (length owners) (λ n. times-cons (is_numbered n) r rs) in
     omega (arith, both, total_met r.number (length owners) range.0 range.1, among_few owners actor rs (All-tail (IsFor owners actor) r rs all))
 
 -- one actor of those

@@ -1,5 +1,5 @@
 -- One actor has other regions.
-use Rattle.std.proofs.Common.{◌≡◌, ◌==◌, ℕ, ◌-◌, ◌≤◌, not, List, set, Option, Some, None, refl, sym, ap, subst, ◌∙◌}
+use Rattle.std.proofs.Common.{◌≡◌, ◌==◌, ℕ, ◌-◌, not, List, set, Option, Some, None, refl, sym, ap, subst, ◌∙◌}
 use Rattle.std.specs.Prelude.{IsSome, IsSomeAnd, OnErr, Result, Ok, Err, count_by, is_some, option_map}
 use Rattle.std.specs.List.{All}
 use Rattle.std.proofs.lemmas.List.{map-set}
@@ -12,7 +12,7 @@ use Rattle.vm_model.specs.Machine as model
 use Rattle.vm_model.specs.Machine.{numbered}
 use Rattle.vm_model.proofs.Parts.Lists.{at_number, numbered-map, numbered_place}
 use Rattle.regions.specs.AddressSpace.{AddressSpace}
-use Rattle.contexts.specs.Layout.{IsChanged, IsKept, IsListed, regions_in, times_listed}
+use Rattle.contexts.specs.Layout.{IsChanged, IsKept, regions_in}
 use Rattle.contexts.proofs.Living.{regions_of, stays}
 use Rattle.contexts.proofs.Places.{Numbered, numbered_replaced}
 use Rattle.contexts.proofs.Owners.{IsFor}
@@ -40,11 +40,6 @@ module _ (n : ℕ) (by : model.Actor → model.Actor) (xs ys : List (Option Addr
 
   pub changed_living : count_by is_some ys ≡ count_by is_some xs
   changed_living = ap (count_by is_some) e.there ∙ stays xs n then (subst IsSome (sym e.here) refl)
-
-  pub changed_listed : (listed : List ActorId) → IsListed listed xs → IsListed listed ys
-  changed_listed listed all =
-      subst (IsListed listed) (sym e.there)
-      (numbered_replaced (λ k _. 1 ≤ times_listed k listed) xs n (Some then) (numbered_place xs n e.space e.here).0 (λ s is. all n e.space e.here) all)
 
   pub changed_kept : (page : ℕ) (owners more : List ActorId) → ((k : ℕ) (s : AddressSpace) → IsKept page owners k s → IsKept page more k s) → (All (IsFor owners n) e.space.regions → All (IsFor more n) (by e.space.regions))
       → (All (IsFor owners n) e.space.regions → AreOnce e.space.regions → AreOnce (by e.space.regions)) → Numbered (IsKept page owners) xs → Numbered (IsKept page more) ys

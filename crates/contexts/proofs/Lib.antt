@@ -4,10 +4,11 @@ pub mod Owners
 pub mod Once
 pub mod Few
 pub mod Kept
-pub mod Listing
-pub mod Sound
+pub mod Counted
 pub mod Gone
 pub mod Told
+pub mod Starts
+pub mod Sound
 pub mod Replaced
 pub mod Changing
 pub mod RegionRows

@@ -1,6 +1,7 @@
 -- How many actors live, after one came or went or its regions changed.
-use Rattle.std.proofs.Common.{◌≡◌, ℕ, ◌+◌, ◌-◌, cond, List, [], ◌∷◌, ◌++◌, length, set, Option, Some, None, refl, sym, ap, ◌∙◌, arith}
+use Rattle.std.proofs.Common.{◌≡◌, ℕ, ◌+◌, ◌-◌, ◌<◌, Bool, true, false, cond, List, [], ◌∷◌, ◌++◌, length, set, Option, Some, None, refl, sym, ap, ◌∙◌, arith}
 use Rattle.std.specs.Prelude.{◌||◌, IsSome, count_by, is_some, nat_le, option_map}
+use Rattle.std.proofs.lemmas.Bool.Decides.{nat_tests}
 use Rattle.std.proofs.lemmas.List.{length-map}
 use Rattle.std.proofs.lemmas.List.Sums.{sum_by-cons, sum_by_push}
 use Rattle.vm_model.specs.Machine as model
@@ -43,6 +44,15 @@ pub full_by : (page living : ℕ) (xs : List (Option AddressSpace)) (made : ℕ)
 full_by page living xs made counted =
     ap (λ (n : ℕ). nat_le LIVING_ACTORS n || nat_le MOST_MADE (length (regions_in xs))) (seen_living xs ∙ sym counted)
     ∙ ap (λ (n : ℕ). nat_le LIVING_ACTORS living || nat_le MOST_MADE n) (length-map xs (option_map regions_of))
+
+-- where more can be made, few live
+pub few_living : (page living : ℕ) (xs : List (Option AddressSpace)) (made : ℕ) → living ≡ count_by is_some xs
+    → is_full (record { page_bytes = page; actors = regions_in xs; regions_made = made }) ≡ false → living < LIVING_ACTORS
+few_living page living xs made counted free = go (nat_le LIVING_ACTORS living) refl (sym (full_by page living xs made counted) ∙ free)
+  where
+    go : (c : Bool) → nat_le LIVING_ACTORS living ≡ c → (c || nat_le MOST_MADE (length xs)) ≡ false → living < LIVING_ACTORS
+    go true e f = absurd (cc f)
+    go false e f = grind (arith, nat_tests)
 
 pub more_living : (xs : List (Option AddressSpace)) (s : AddressSpace) → count_by is_some (xs ++ Some s ∷ []) ≡ count_by is_some xs + 1
 more_living xs s = sum_by_push lives_in xs (Some s)

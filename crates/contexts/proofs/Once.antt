@@ -1,6 +1,6 @@
 -- Each number stands at most once among the regions of an actor, and so among those of all.
 use Rattle.std.proofs.Common.{◌≡◌, ◌==◌, ℕ, zero, suc, ◌+◌, ◌-◌, ◌≤◌, Bool, true, false, cond, not, List, [], ◌∷◌, ◌++◌, length, Option, Some, None, refl, sym, ap, subst, ◌∙◌, arith}
-use Rattle.std.specs.Prelude.{nat_lt, option_map, slice_get, sum_by}
+use Rattle.std.specs.Prelude.{count_by, nat_lt, option_map, slice_get, sum_by}
 use Rattle.std.specs.List.{All}
 use Rattle.std.proofs.lemmas.Bool.Decides.{nat_tests}
 use Rattle.std.proofs.lemmas.List.Elements.{All-head, All-tail}
@@ -25,17 +25,21 @@ AreOnce rs = (region : ℕ) → times_among region (Some rs) ≤ 1
 abbrev one_if : Bool → ℕ
 one_if c = cond c 1 0
 
--- How often a number stands among regions that change
+-- this is its number
+abbrev pub is_numbered : ℕ → model.Region → Bool
+is_numbered n r = r.number == n
 
-module _ (n : ℕ) where
-  abbrev has : model.Region → ℕ
-  has r = one_if (r.number == n)
+-- How many regions pass a test, after some changed
+
+module _ (p : model.Region → Bool) where
+  abbrev passes : model.Region → ℕ
+  passes r = one_if (p r)
 
   abbrev times : model.Actor → ℕ
-  times rs = times_among n (Some rs)
+  times rs = count_by p rs
 
-  pub times-cons : (r : model.Region) (rs : model.Actor) → times (r ∷ rs) ≡ has r + times rs
-  times-cons r rs = sum_by-cons has r rs
+  pub times-cons : (r : model.Region) (rs : model.Actor) → times (r ∷ rs) ≡ passes r + times rs
+  times-cons r rs = sum_by-cons passes r rs
 
   -- one more
   pub times_insert : (r : model.Region) (rs : model.Actor) → times (insert_region r rs) ≡ times (r ∷ rs)
@@ -48,42 +52,73 @@ module _ (n : ℕ) where
 
   -- one less
   pub times_without : (region : ℕ) (rs : model.Actor) → times (without_region region rs) ≤ times rs
-  times_without region rs = omega (arith, sum_by-filter_both (λ (r : model.Region). r.number == region) (λ r. not (r.number == region)) (λ _. refl) has rs)
+  times_without region rs = omega (arith, sum_by-filter_both (λ (r : model.Region). r.number == region) (λ r. not (r.number == region)) (λ _. refl) passes rs)
 
   -- one becomes others
-  times_replaced : (region : ℕ) (by : model.Region → List model.Region) (r : model.Region) (rs : model.Actor) → region_among region rs ≡ Some r → times (replace_region region by rs) + has r ≡ times (by r) + times rs
+  pub times_replaced : (region : ℕ) (by : model.Region → List model.Region) (r : model.Region) (rs : model.Actor) → region_among region rs ≡ Some r → times (replace_region region by rs) + passes r ≡ times (by r) + times rs
   times_replaced region by r [] e = absurd (cc e)
   times_replaced region by r (x ∷ xs) e = go (x.number == region) e (times_replaced region by r xs)
     where
-      go : (c : Bool) → cond c (Some x) (region_among region xs) ≡ Some r → (region_among region xs ≡ Some r → times (replace_region region by xs) + has r ≡ times (by r) + times xs)
-          → times (cond c (by x ++ xs) (x ∷ replace_region region by xs)) + has r ≡ times (by r) + times (x ∷ xs)
+      go : (c : Bool) → cond c (Some x) (region_among region xs) ≡ Some r → (region_among region xs ≡ Some r → times (replace_region region by xs) + passes r ≡ times (by r) + times xs)
+          → times (cond c (by x ++ xs) (x ∷ replace_region region by xs)) + passes r ≡ times (by r) + times (x ∷ xs)
       go true found rest =
           let same : x ≡ r = cc found in
-          subst (λ (y : model.Region). times (by x ++ xs) + has y ≡ times (by y) + times (x ∷ xs)) same
-          (omega (arith, sum_by-append has (by x) xs, times-cons x xs))
+          subst (λ (y : model.Region). times (by x ++ xs) + passes y ≡ times (by y) + times (x ∷ xs)) same
+          (omega (arith, sum_by-append passes (by x) xs, times-cons x xs))
       go false found rest = omega (arith, rest found, times-cons x (replace_region region by xs), times-cons x xs)
 
-  -- it becomes one of the same number
-  times_same : (region : ℕ) (by : model.Region → List model.Region) (r : model.Region) (rs : model.Actor) → region_among region rs ≡ Some r → times (by r) ≡ has r → times (replace_region region by rs) ≡ times rs
+  -- it becomes one that passes where it does
+  pub times_same : (region : ℕ) (by : model.Region → List model.Region) (r : model.Region) (rs : model.Actor) → region_among region rs ≡ Some r → times (by r) ≡ passes r → times (replace_region region by rs) ≡ times rs
   times_same region by r rs e same = omega (arith, same, times_replaced region by r rs e)
 
-  -- it becomes two, of which the first has the same number
-  pub times_split : (region page pages fresh : ℕ) (r : model.Region) (rs : model.Actor) → region_among region rs ≡ Some r → times (replace_region region (split_at page pages fresh) rs) ≡ times (back_of page pages fresh r ∷ rs)
-  times_split region page pages fresh r rs e =
+  -- it becomes two, of which the first passes where it does
+  pub times_split : (region page pages fresh : ℕ) (r : model.Region) (rs : model.Actor) → p (record r { pages = pages }) ≡ p r → region_among region rs ≡ Some r
+      → times (replace_region region (split_at page pages fresh) rs) ≡ times (back_of page pages fresh r ∷ rs)
+  times_split region page pages fresh r rs front_same e =
       let front = record r { pages = pages } in
       let back = back_of page pages fresh r in
-      omega (arith, times_replaced region (split_at page pages fresh) r rs e, times-cons front (back ∷ []), times-cons back [], times-cons back rs)
+      omega (arith, times_replaced region (split_at page pages fresh) r rs e, times-cons front (back ∷ []), times-cons back [], times-cons back rs, ap one_if front_same)
 
-  -- what was made for another actor, or for none yet
-  times_other : (owners : List ActorId) (actor : ℕ) → (owner_of owners n ≡ Some (record { 0 = actor }) → ⊥) → (rs : model.Actor) → All (IsFor owners actor) rs → times rs ≡ 0
-  times_other owners actor other [] all = refl
-  times_other owners actor other (r ∷ rs) all = omega (arith, times-cons r rs, none (r.number == n) refl, times_other owners actor other rs (All-tail (IsFor owners actor) r rs all))
-    where
-      none : (c : Bool) → (r.number == n) ≡ c → one_if c ≡ 0
-      none false e = refl
-      none true e =
-          let same : r.number ≡ n = grind (arith, nat_tests) in
-          absurd (other (subst (λ (k : ℕ). owner_of owners k ≡ Some (record { 0 = actor })) same (All-head (IsFor owners actor) r rs all)))
+  -- one with the number passes, so there is one that does
+  pub times_some : (region : ℕ) (r : model.Region) (rs : model.Actor) → region_among region rs ≡ Some r → p r ≡ true → 1 ≤ times rs
+  times_some region r rs e is = omega (arith, times_replaced region (λ _. []) r rs e, ap one_if is)
+
+-- where none has the number, none goes
+none_goes : (n : ℕ) (rs : model.Actor) → times_among n (Some rs) ≤ 0 → without_region n rs ≡ rs
+none_goes n [] few = refl
+none_goes n (x ∷ xs) few = go (x.number == n) refl (none_goes n xs)
+  where
+    go : (c : Bool) → (x.number == n) ≡ c → (times_among n (Some xs) ≤ 0 → without_region n xs ≡ xs) → cond (not c) (x ∷ without_region n xs) (without_region n xs) ≡ x ∷ xs
+    go true e rest = absurd (omega (arith, few, times-cons (is_numbered n) x xs, ap one_if e))
+    go false e rest = ap (λ (ys : model.Actor). x ∷ ys) (rest (omega (arith, few, times-cons (is_numbered n) x xs)))
+
+-- the only one with the number goes
+pub times_gone : (p : model.Region → Bool) (n : ℕ) (r : model.Region) (rs : model.Actor) → region_among n rs ≡ Some r → times_among n (Some rs) ≤ 1
+    → count_by p (without_region n rs) + one_if (p r) ≡ count_by p rs
+times_gone p n r [] e few = absurd (cc e)
+times_gone p n r (x ∷ xs) e few = go (x.number == n) refl e (times_gone p n r xs)
+  where
+    go : (c : Bool) → (x.number == n) ≡ c → cond c (Some x) (region_among n xs) ≡ Some r
+        → (region_among n xs ≡ Some r → times_among n (Some xs) ≤ 1 → count_by p (without_region n xs) + one_if (p r) ≡ count_by p xs)
+        → count_by p (cond (not c) (x ∷ without_region n xs) (without_region n xs)) + one_if (p r) ≡ count_by p (x ∷ xs)
+    go true is found rest =
+        let same : x ≡ r = cc found in
+        let left : without_region n xs ≡ xs = none_goes n xs (omega (arith, few, times-cons (is_numbered n) x xs, ap one_if is)) in
+        omega (arith, ap (count_by p) left, times-cons p x xs, ap (λ (y : model.Region). one_if (p y)) same)
+    go false is found rest =
+        omega (arith, rest found (omega (arith, few, times-cons (is_numbered n) x xs)), times-cons p x (without_region n xs), times-cons p x xs)
+
+-- what was made for another actor, or for none yet
+times_other : (n : ℕ) (owners : List ActorId) (actor : ℕ) → (owner_of owners n ≡ Some (record { 0 = actor }) → ⊥) → (rs : model.Actor) → All (IsFor owners actor) rs → times_among n (Some rs) ≡ 0
+times_other n owners actor other [] all = refl
+times_other n owners actor other (r ∷ rs) all =
+    omega (arith, times-cons (is_numbered n) r rs, none (r.number == n) refl, times_other n owners actor other rs (All-tail (IsFor owners actor) r rs all))
+  where
+    none : (c : Bool) → (r.number == n) ≡ c → one_if c ≡ 0
+    none false e = refl
+    none true e =
+        let same : r.number ≡ n = grind (arith, nat_tests) in
+        absurd (other (subst (λ (k : ℕ). owner_of owners k ≡ Some (record { 0 = actor })) same (All-head (IsFor owners actor) r rs all)))
 
 -- Once among an actor's regions
 
@@ -91,11 +126,11 @@ pub once_none : AreOnce []
 once_none n = omega arith
 
 pub once_without : (region : ℕ) (rs : model.Actor) → AreOnce rs → AreOnce (without_region region rs)
-once_without region rs once n = let few = once n in omega (arith, few, times_without n region rs)
+once_without region rs once n = let few = once n in omega (arith, few, times_without (is_numbered n) region rs)
 
 pub once_same : (region : ℕ) (by : model.Region → List model.Region) (r : model.Region) (rs : model.Actor) → region_among region rs ≡ Some r
     → ((n : ℕ) → times_among n (Some (by r)) ≡ one_if (r.number == n)) → AreOnce rs → AreOnce (replace_region region by rs)
-once_same region by r rs e same once n = let few = once n in omega (arith, few, times_same n region by r rs e (same n))
+once_same region by r rs e same once n = let few = once n in omega (arith, few, times_same (is_numbered n) region by r rs e (same n))
 
 -- no region has the next number
 no_owner : (owners : List ActorId) (n : ℕ) → n ≡ length owners + 1 → owner_of owners n ≡ None
@@ -115,11 +150,11 @@ pub once_more : (owners : List ActorId) (actor : ℕ) (fresh : model.Region) (rs
 once_more owners actor fresh rs ms next all more once n = go (fresh.number == n) refl
   where
     go : (c : Bool) → (fresh.number == n) ≡ c → times_among n (Some ms) ≤ 1
-    go false e = let few = once n in omega (arith, few, more n, times-cons n fresh rs, ap one_if e)
+    go false e = let few = once n in omega (arith, few, more n, times-cons (is_numbered n) fresh rs, ap one_if e)
     go true e =
         let number : n ≡ length owners + 1 = grind (arith, nat_tests) in
         let none = times_other n owners actor (λ f. absurd (let g = sym (no_owner owners n number) ∙ f in cc g)) rs all in
-        omega (arith, none, more n, times-cons n fresh rs, ap one_if e)
+        omega (arith, none, more n, times-cons (is_numbered n) fresh rs, ap one_if e)
 
 -- Once among those of all
 

@@ -1,5 +1,5 @@
 -- Each region of a living actor was made for that actor.
-use Rattle.std.proofs.Common.{◌≡◌, ◌==◌, ℕ, zero, suc, ◌+◌, ◌-◌, Bool, true, false, cond, List, [], ◌∷◌, ◌++◌, length, Option, Some, None, refl, sym, ap, subst, ◌∙◌, arith, rules}
+use Rattle.std.proofs.Common.{◌≡◌, ◌==◌, ℕ, ◌+◌, ◌-◌, Bool, true, false, cond, List, [], ◌∷◌, ◌++◌, length, Option, Some, None, refl, sym, ap, subst, ◌∙◌, arith, rules}
 use Rattle.std.specs.Prelude.{MatchOption, is_some, nat_lt, option_map, slice_get}
 use Rattle.std.specs.List.{All}
 use Rattle.std.proofs.lemmas.Bool.Decides.{nat_tests}
@@ -14,29 +14,20 @@ use Rattle.regions.specs.AddressSpace.{AddressSpace}
 use Rattle.contexts.specs.Actors.{has_region}
 use Rattle.contexts.specs.Layout.{IsKept, owner_of, regions_in}
 use Rattle.contexts.proofs.Living.{regions_of}
-use Rattle.contexts.proofs.Places.{Numbered}
+use Rattle.contexts.proofs.Places.{Numbered, get_before, get_last}
 
 pub owner_before : (owners : List ActorId) (a : ActorId) (region : ℕ) (x : ActorId) → owner_of owners region ≡ Some x → owner_of (owners ++ a ∷ []) region ≡ Some x
 owner_before owners a region x e = go (region == 0) e
   where
-    push : (xs : List ActorId) (j : ℕ) → slice_get xs j ≡ Some x → slice_get (xs ++ a ∷ []) j ≡ Some x
-    push [] j f = absurd (cc f)
-    push (y ∷ ys) zero f = f
-    push (y ∷ ys) (suc j) f = push ys j f
-
     go : (zeroth : Bool) → cond zeroth None (slice_get owners (region - 1)) ≡ Some x → cond zeroth None (slice_get (owners ++ a ∷ []) (region - 1)) ≡ Some x
     go true f = f
-    go false f = push owners (region - 1) f
+    go false f = get_before owners (region - 1) x a f
 
 pub owner_next : (owners : List ActorId) (a : ActorId) → owner_of (owners ++ a ∷ []) (length owners + 1) ≡ Some a
 owner_next owners a =
     let other : (length owners + 1 == 0) ≡ false = grind (arith, nat_tests) in
     let place : length owners + 1 - 1 ≡ length owners = omega arith in
-    ap (λ (c : Bool). cond c None (slice_get (owners ++ a ∷ []) (length owners + 1 - 1))) other ∙ ap (slice_get (owners ++ a ∷ [])) place ∙ last owners
-  where
-    last : (xs : List ActorId) → slice_get (xs ++ a ∷ []) (length xs) ≡ Some a
-    last [] = refl
-    last (x ∷ xs) = last xs
+    ap (λ (c : Bool). cond c None (slice_get (owners ++ a ∷ []) (length owners + 1 - 1))) other ∙ ap (slice_get (owners ++ a ∷ [])) place ∙ get_last owners a
 
 abbrev pub IsFor : List ActorId → ℕ → model.Region → Type 0
 IsFor owners actor r = owner_of owners r.number ≡ Some (record { 0 = actor })

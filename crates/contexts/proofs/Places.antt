@@ -24,6 +24,16 @@ get_push [] (suc j) v = inl refl
 get_push (x ∷ xs) zero v = inl refl
 get_push (x ∷ xs) (suc j) v = one_deeper (xs ++ v ∷ []) xs x x v (length xs) j (get_push xs j v)
 
+-- what stood there stands there after one came, and that one stands last
+pub get_before : {A : Type 0} (xs : List A) (j : ℕ) (x v : A) → slice_get xs j ≡ Some x → slice_get (xs ++ v ∷ []) j ≡ Some x
+get_before [] j x v e = absurd (cc e)
+get_before (y ∷ ys) zero x v e = e
+get_before (y ∷ ys) (suc j) x v e = get_before ys j x v e
+
+pub get_last : {A : Type 0} (xs : List A) (v : A) → slice_get (xs ++ v ∷ []) (length xs) ≡ Some v
+get_last [] v = refl
+get_last (x ∷ xs) v = get_last xs v
+
 -- what is told of each that has a number
 abbrev pub Numbered : {A : Type 0} → (ℕ → A → Type 0) → List (Option A) → Type 0
 Numbered {A} P xs = (n : ℕ) (x : A) → numbered xs n ≡ Some x → P n x

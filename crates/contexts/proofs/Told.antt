@@ -1,6 +1,6 @@
 -- What is told of the region with a number, and what becomes of it.
-use Rattle.std.proofs.Common.{◌≡◌, ℕ, suc, ◌+◌, ◌-◌, ◌<◌, ◌≤◌, Bool, true, false, cond, List, [], ◌∷◌, set, Option, Some, None, refl, sym, ap, subst, ◌∙◌, arith}
-use Rattle.std.specs.Prelude.{IsSome, MatchOption, is_some, nat_le, option_map, slice_get}
+use Rattle.std.proofs.Common.{◌≡◌, ℕ, suc, ◌+◌, ◌-◌, ◌*◌, ◌<◌, ◌≤◌, Bool, true, false, cond, List, [], ◌∷◌, set, Option, Some, None, refl, sym, ap, subst, ◌∙◌, arith}
+use Rattle.std.specs.Prelude.{IsSome, IsSomeAnd, MatchOption, is_some, nat_le, option_map, slice_get}
 use Rattle.std.specs.Option.{option_or}
 use Rattle.std.proofs.lemmas.Bool.Decides.{nat_tests}
 use Rattle.vm_ids.specs.declared.numbers.ActorId.{ActorId}
@@ -172,6 +172,14 @@ module _ (n : ℕ) (xs : List (Option AddressSpace)) (s : RegionStatus) (t : IsT
   told_page page owners by ys kept change =
       let space = is_there (numbered xs s.actor.0) told_alive in
       subst (λ (b : ℕ). IsChanged s.actor.0 (by b) xs ys) (kept s.actor.0 space.0 space.1).page_bytes (change space.0 space.1)
+
+  -- where the others start that are cut off, by the bytes of a page of its space
+  pub told_back : (page : ℕ) (owners : List ActorId) (pages start : ℕ) → Numbered (IsKept page owners) xs
+      → ((space : AddressSpace) → numbered xs s.actor.0 ≡ Some space → IsSomeAnd (region_among n space.regions) (λ r. start ≡ r.start + space.page_bytes * pages)) → start ≡ t.region.start + page * pages
+  told_back page owners pages start kept back =
+      let space = is_there (numbered xs s.actor.0) told_alive in
+      subst (λ (b : ℕ). start ≡ t.region.start + b * pages) (kept s.actor.0 space.0 space.1).page_bytes
+      (subst (λ (o : Option model.Region). IsSomeAnd o (λ r. start ≡ r.start + space.0.page_bytes * pages)) (told_among space.0 space.1) (back space.0 space.1))
 
 -- How a cut is refused
 

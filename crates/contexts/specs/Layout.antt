@@ -1,11 +1,11 @@
 -- What the fields of `Contexts` stand for. No public clause cites this module.
-use Rattle.std.specs.Prelude.{◌≡◌, ℕ, ◌-◌, ◌==◌, ◌≤◌, ◌^◌, Bool, List, All, Option, Some, None, count_by, is_some, length, map, option_map, slice_get, slice_set, if◌then◌else◌}
+use Rattle.std.specs.Prelude.{◌≡◌, ℕ, ◌-◌, ◌==◌, ◌≤◌, ◌^◌, List, All, Option, Some, None, count_by, is_some, length, map, option_map, slice_get, slice_set, if◌then◌else◌}
 use Rattle.vm_ids.specs.declared.numbers.ActorId.{ActorId}
-use Rattle.vm_model.specs.Answering.{maps_in}
-use Rattle.vm_model.specs.Machine.{Actor, numbered}
+use Rattle.vm_model.specs.Machine.{Actor, Region, numbered}
 use Rattle.vm_model.specs.declared.limits.TheConstants.{MOST_MADE}
 use Rattle.regions.specs.AddressSpace.{AddressSpace}
 use Rattle.contexts.specs.Actors.{Actors, times_among}
+use Rattle.contexts.specs.Counting.{count_of, times_mapped}
 use Rattle.contexts.specs.declared.contexts.Contexts.TheInside.{Inside}
 
 -- the regions of each actor, by its address space
@@ -30,30 +30,28 @@ pub record IsKept (page : ℕ) (owners : List ActorId) (actor : ℕ) (s : Addres
   pub owned : All (λ r. owner_of owners r.number ≡ Some (record { 0 = actor })) s.regions
   pub once : (region : ℕ) → times_among region (Some s.regions) ≤ 1
 
--- how often an actor stands in a list
-abbrev pub times_listed : ℕ → List ActorId → ℕ
-times_listed actor listed = count_by (λ (a : ActorId). a.0 == actor) listed
+-- a region starts where it is kept that it does
+abbrev pub StartsAs : List ℕ → Region → Type 0
+StartsAs starts r = slice_get starts (r.number - 1) ≡ Some r.start
 
--- a list has each actor that is alive
-abbrev pub IsListed : List ActorId → List (Option AddressSpace) → Type 0
-IsListed listed spaces = (actor : ℕ) (s : AddressSpace) → numbered spaces actor ≡ Some s
-    → 1 ≤ times_listed actor listed
+-- so does each region of the living
+abbrev pub AllStartAs : List ℕ → List (Option AddressSpace) → Type 0
+AllStartAs starts spaces = (actor : ℕ) (s : AddressSpace) → numbered spaces actor ≡ Some s
+    → All (StartsAs starts) s.regions
 
--- the actor is alive and has a region that maps the cache
-abbrev pub maps_at : List (Option AddressSpace) → ℕ → ActorId → Bool
-maps_at spaces cache actor =
-    maps_in cache (option_map (λ (s : AddressSpace). s.regions) (numbered spaces actor.0))
-
--- a page has 1 to 65,536 bytes, the living are listed and no others, so many regions can have
--- numbers, and each space is kept
+-- a page has 1 to 65,536 bytes, the living are counted, so many regions can have numbers, of each
+-- cache the regions that map it are counted, each space is kept, and so is where each region starts
 pub record IsSound (a : Inside) : Type 0 where
   pub some : 1 ≤ a.page
   pub most : a.page ≤ 2 ^ 16
-  pub living : length a.living.items ≡ count_by is_some a.actors.items
-  pub listed : IsListed a.living.items a.actors.items
+  pub living : a.living ≡ count_by is_some a.actors.items
   pub few : length a.owners.items ≤ MOST_MADE
+  pub mapped : (cache : ℕ)
+      → count_of a.mapped cache ≡ times_mapped cache (regions_in a.actors.items)
   pub kept : (actor : ℕ) (s : AddressSpace) → numbered a.actors.items actor ≡ Some s
       → IsKept a.page a.owners.items actor s
+  pub starts : length a.starts.items ≡ length a.owners.items
+  pub started : AllStartAs a.starts.items a.actors.items
 
 -- a living actor has other regions, and all else is as it was but for room
 pub record IsChanged (actor : ℕ) (by : Actor → Actor) (old new : List (Option AddressSpace))

@@ -1,4 +1,5 @@
 pub mod Actors
+pub mod Counting
 pub mod Layout
 pub mod Maps
 pub mod Placed

@@ -1,5 +1,5 @@
 // Actors under their numbers.
-ghost use Rattle.std.specs.Prelude.{◌≡◌, ◌≢◌, ◌==◌, ℕ, ◌+◌, ◌-◌, ◌≤◌, ◌<◌, ◌^◌, [], ◌∷◌, ◌++◌, true, false, is_some, map, None, Some, Err, length, slice_set, option_map, position, IfOk, IfSome, IsSome, IsSomeAnd, OnErr, OnOk, MatchOption, MatchResult};
+ghost use Rattle.std.specs.Prelude.{◌≡◌, ℕ, ◌+◌, ◌-◌, ◌≤◌, ◌<◌, ◌^◌, [], ◌∷◌, ◌++◌, true, false, is_some, map, None, Some, Err, length, slice_set, option_map, IfOk, IfSome, IsSome, IsSomeAnd, OnErr, OnOk, MatchOption, MatchResult};
 ghost use Rattle.std.specs.List.{list_any};
 ghost use Rattle.vm_ids.specs.declared.refusal.Refusal.TheVariants.{TooMany};
 ghost use Rattle.vm_ids.specs.declared.reply.Trouble.TheVariants.{Memory, Refused};
@@ -9,23 +9,17 @@ ghost use Rattle.vm_model.specs.Regions.{region_with, replace_in, status_with, w
 ghost use Rattle.vm_model.specs.Machine.{numbered};
 ghost use Rattle.vm_model.specs.Place.{place_of_actor};
 ghost use Rattle.contexts.specs.Actors.{has_region, holder_of, is_full, next_region, region_count, split_refusal, times_made, with_region, with_split};
-ghost use Rattle.contexts.specs.Layout.{owner_of, times_listed};
+ghost use Rattle.contexts.specs.Layout.{owner_of};
 
+use crate::counts::RegionCounts;
 use crate::spaces::{
-    add_region, lock_region, maps_any, protect_region, remove_region, split_region,
+    add_region, forget_regions, lock_region, protect_region, remove_region, split_region,
 };
 use regions::{Place, RegionMap};
 use std::alloc::Global;
 use std::marker::Model;
 use vm_ids::{ActorId, CacheId, Mapping, NoMemory, Prot, Refusal, RegionId, RegionStatus, Trouble};
 use vm_model::{LIVING_ACTORS, MOST_MADE, numbered};
-
-// The place of an actor in a list.
-fn place_in(listed: &[ActorId], actor: ActorId) -> Option<usize>
-    ensures { result ≡ position (λ a. a.0 == actor.0) listed.now }
-{
-    listed.iter().position(|other| other.0 == actor.0)
-}
 
 // The actor for which a region was made.
 fn owner_in(owners: &[ActorId], region: RegionId) -> Option<ActorId>
@@ -37,21 +31,6 @@ fn owner_in(owners: &[ActorId], region: RegionId) -> Option<ActorId>
     owners.get(region.0 as usize - 1).copied()
 }
 
-// Takes an actor off a list that has it.
-fn strike(listed: &mut Vec<ActorId>, actor: ActorId)
-    requires { 1 ≤ times_listed actor.0 listed.old.items }
-    ensures shorter { length listed.new.items + 1 ≡ length listed.old.items }
-    ensures others { (n : ℕ) → n ≢ actor.0
-        → times_listed n listed.new.items ≡ times_listed n listed.old.items }
-{
-    match place_in(listed, actor) {
-        Some(place) => {
-            listed.remove(place);
-        }
-        None => unreachable!(),
-    }
-}
-
 /// The actors made so far, each with its regions while it is alive.
 #[derive(Drop)]
 pub struct Contexts {
@@ -59,10 +38,14 @@ pub struct Contexts {
     page: u32,
     // Actors stand at their number less 1.
     actors: Vec<Option<RegionMap>>,
-    // The living actors, in the order of making.
-    living: Vec<ActorId>,
+    // How many actors are alive.
+    living: u32,
     // The actor of region n stands at place n less 1, also when the region is gone.
     owners: Vec<ActorId>,
+    // There stands too at which address it starts, in a list of its own.
+    starts: Vec<u64>,
+    // How many regions of living actors map each cache.
+    mapped: RegionCounts,
 }
 
 impl Model for Contexts {
@@ -90,8 +73,10 @@ impl Contexts {
             alloc,
             page,
             actors: Vec::new(alloc),
-            living: Vec::new(alloc),
+            living: 0,
             owners: Vec::new(alloc),
+            starts: Vec::new(alloc),
+            mapped: RegionCounts::new(alloc),
         }
     }
 
@@ -133,7 +118,7 @@ impl Contexts {
     fn is_full(&self) -> bool
         ensures { result ≡ is_full self.now }
     {
-        self.living.len() >= LIVING_ACTORS as usize || self.actors.len() >= MOST_MADE as usize
+        self.living >= LIVING_ACTORS || self.actors.len() >= MOST_MADE as usize
     }
 
     /// Makes an actor without regions. `TooMany` exactly where 256 actors are alive or 65,535 were
@@ -149,12 +134,10 @@ impl Contexts {
         if self.is_full() {
             return Err(Trouble::Refused(Refusal::TooMany));
         }
-        self.living.reserve(1)?;
         self.actors
             .push(Some(RegionMap::new(self.alloc, self.page)))?;
-        let made = ActorId(self.actors.len() as u32);
-        self.living.push_reserved(made);
-        Ok(made)
+        self.living += 1;
+        Ok(ActorId(self.actors.len() as u32))
     }
 
     /// Takes a living actor away, with its regions.
@@ -164,8 +147,9 @@ impl Contexts {
           actors = slice_set self.old.actors (actor.0 - 1) None;
         } }
     {
+        forget_regions(&mut self.mapped, &self.actors, actor);
         self.actors[actor.0 as usize - 1] = None;
-        strike(&mut self.living, actor);
+        self.living -= 1;
     }
 
     /// Maps pages into a living actor, as the next region, unlocked. They fit where they are
@@ -182,8 +166,12 @@ impl Contexts {
     {
         let region = self.next_region();
         self.owners.reserve(1)?;
+        self.starts.reserve(1)?;
+        self.mapped.make_place(mapping.extent.cache)?;
         add_region(&mut self.actors, actor, region, mapping)?;
+        self.mapped.add(mapping.extent.cache);
         self.owners.push_reserved(actor);
+        self.starts.push_reserved(mapping.address);
         Ok(region)
     }
 
@@ -229,9 +217,20 @@ impl Contexts {
         ensures err { OnErr result (self.new ≡ self.old) }
     {
         let fresh = self.next_region();
+        let address = status.mapping.address;
         self.owners.reserve(1)?;
-        split_region(&mut self.actors, status.actor, region, pages, fresh)?;
+        self.starts.reserve(1)?;
+        let start = split_region(
+            &mut self.actors,
+            status.actor,
+            region,
+            address,
+            pages,
+            fresh,
+        )?;
+        self.mapped.add(status.mapping.extent.cache);
         self.owners.push_reserved(status.actor);
+        self.starts.push_reserved(start);
         Ok(fresh)
     }
 
@@ -247,7 +246,13 @@ impl Contexts {
         let Some(status) = self.status(region) else {
             return false;
         };
-        protect_region(&mut self.actors, status.actor, region, prot);
+        protect_region(
+            &mut self.actors,
+            status.actor,
+            region,
+            status.mapping.address,
+            prot,
+        );
         true
     }
 
@@ -263,7 +268,13 @@ impl Contexts {
         let Some(status) = self.status(region) else {
             return false;
         };
-        lock_region(&mut self.actors, status.actor, region, locked);
+        lock_region(
+            &mut self.actors,
+            status.actor,
+            region,
+            status.mapping.address,
+            locked,
+        );
         true
     }
 
@@ -277,10 +288,16 @@ impl Contexts {
         } }
         ensures none { result ≡ false → self.new ≡ self.old }
     {
-        let Some(actor) = self.actor_of(region) else {
+        let Some(status) = self.status(region) else {
             return false;
         };
-        remove_region(&mut self.actors, actor, region);
+        self.mapped.take(status.mapping.extent.cache);
+        remove_region(
+            &mut self.actors,
+            status.actor,
+            region,
+            status.mapping.address,
+        );
         true
     }
 
@@ -303,7 +320,8 @@ impl Contexts {
         let Some(regions) = self.regions(actor) else {
             return None;
         };
-        let view = regions.status(region)?;
+        let start = self.starts[region.0 as usize - 1];
+        let view = regions.status(region, start)?;
         Some(RegionStatus {
             actor,
             mapping: view.mapping,
@@ -330,7 +348,7 @@ impl Contexts {
     pub fn maps(&self, cache: CacheId) -> bool
         ensures { result ≡ list_any (maps_in cache.0) self.now.actors }
     {
-        maps_any(&self.actors, &self.living, cache)
+        self.mapped.has(cache)
     }
 
     /// The place of an access of `length` bytes of an actor. `NoActor` where it isn't alive, else

@@ -16,7 +16,8 @@ use Rattle.vm_model.specs.Run.{AnswerIs, CallIs, State}
 use Rattle.vm_port.specs.declared.traits.mapper.Mapper.{Ghosts as GhostsOfMapper}
 use Rattle.gmi_calls.specs.Backing.{eager, eager_state}
 use Rattle.gmi_calls.specs.Calling.{AnswersWithin, CallDone, MapperCall}
-use Rattle.gmi_calls.specs.Parking.{AccessCall, NoPull}
+use Rattle.gmi_calls.specs.Parking.{AccessCall}
+use Rattle.gmi_calls.specs.Reaching.{NoPages}
 use Rattle.gmi_calls.specs.Room.{AnswerWithin, LimitedCall, pages_needed}
 use Rattle.gmi_calls.proofs.Still.{made_still}
 use Rattle.flat_mm.proofs.NeverFull.{never_full}
@@ -91,6 +92,6 @@ module _ {X : Type 0} (M : GhostsOfMapper X) (before after : X) (p q : Manager) 
     page = E.page;
   }
 
-  -- an access
-  pub flat_access : AccessCall M eager NoPull before (machine_in p) command a after (machine_in q) → AccessCall M flat NoPull before p command a after q
+  -- one in which no page comes or goes
+  pub flat_access : AccessCall M eager NoPages before (machine_in p) command a after (machine_in q) → AccessCall M flat NoPages before p command a after q
   flat_access E = record { call = flat_call E.call; so = E.so }

@@ -14,28 +14,29 @@ use Rattle.vm_model.proofs.Machines.Locks.{lock_taken_back}
 use Rattle.vm_port.specs.declared.traits.mapper.Mapper.{Ghosts as GhostsOfMapper}
 use Rattle.contexts.specs.Actors.{Actors, machine_with}
 use Rattle.contexts.proofs.RegionRows.{with_locked}
-use Rattle.gmi_calls.specs.Calling.{MapperCall}
-use Rattle.gmi_calls.proofs.Called.{eager_left}
+use Rattle.gmi_calls.specs.Parking.{AccessCall}
+use Rattle.gmi_calls.specs.Reaching.{NoPages}
+use Rattle.gmi_calls.proofs.Called.{eager_quiet}
 use Rattle.flat_mm.specs.Manager.{IsManagerSound, IsValid, Manager, caches_in, flat, machine_in}
 use Rattle.flat_mm.specs.Store.{Store}
 use Rattle.flat_mm.proofs.Acting.{IsOfActors, fits_less, whole_machine}
-use Rattle.flat_mm.proofs.Calls.{flat_call}
+use Rattle.flat_mm.proofs.Calls.{flat_access}
 
 module _ {X : Type 0} (M : GhostsOfMapper X) (x : X) (s : Store) (t : Actors) (n : ℕ) (k : IsManagerSound s t n) (p : Manager) (view : (let q : Manager = record { store = s; actors = t } in q) ≡ p) (command : Command) (of : IsOfActors command) (valid : IsValid p (M.held x)) (a : Answer) where
   -- a call that changes actors
   pub handed : (u : Actors) → u.page_bytes ≡ t.page_bytes → ((h : Segments) → Outcome (machine_with (caches_in s) s.frames t) None command h a (machine_with (caches_in s) s.frames u) no_counts)
-      → MapperCall M flat x p command a x (record { store = s; actors = u })
+      → AccessCall M flat NoPages x p command a x (record { store = s; actors = u })
   handed u page outcome =
       let old : Manager = record { store = s; actors = t } in
       let new : Manager = record { store = s; actors = u } in
       let v : IsValid old (M.held x) = subst (λ (q : Manager). IsValid q (M.held x)) (sym view) valid in
-      subst (λ (q : Manager). MapperCall M flat x q command a x new) view
-      (flat_call M x x old new command a (fits_less old new command a of.needs (omega arith)) v.kept
-      (eager_left M x (machine_in old) (machine_in new) command a of.reaches v.ready (whole_machine s u (page ∙ k.page) k.whole) outcome (of.said (machine_in old) (segments_of (M.held x)) a)))
+      subst (λ (q : Manager). AccessCall M flat NoPages x q command a x new) view
+      (flat_access M x x old new command a (fits_less old new command a of.needs (omega arith)) v.kept
+      (eager_quiet M x (machine_in old) (machine_in new) command a of.reaches v.ready (whole_machine s u (page ∙ k.page) k.whole) outcome (of.said (machine_in old) (segments_of (M.held x)) a)))
 
   -- one that changes nothing
-  pub handed_back : ((h : Segments) → Outcome (machine_with (caches_in s) s.frames t) None command h a (machine_with (caches_in s) s.frames t) no_counts) → MapperCall M flat x p command a x p
-  handed_back outcome = subst (λ (q : Manager). MapperCall M flat x p command a x q) view (handed t refl outcome)
+  pub handed_back : ((h : Segments) → Outcome (machine_with (caches_in s) s.frames t) None command h a (machine_with (caches_in s) s.frames t) no_counts) → AccessCall M flat NoPages x p command a x p
+  handed_back outcome = subst (λ (q : Manager). AccessCall M flat NoPages x p command a x q) view (handed t refl outcome)
 
 -- A lock that is taken back
 

@@ -5,6 +5,8 @@ pub mod Loosening
 pub mod NeverFull
 -- Calls of the manager, from those of the machine.
 pub mod Calls
+-- Calls in which no page comes or goes.
+pub mod Alone
 -- Calls that change actors alone.
 pub mod Acting
 -- Caches are made.

@@ -3,16 +3,12 @@ use Rattle.std.proofs.Common.{◌≡◌, ◌-◌, ℕ, Option, Some, None, refl,
 use Rattle.vm_ids.specs.Held.{Held}
 use Rattle.vm_model.specs.Machine.{Machine, start}
 use Rattle.vm_model.specs.Outcome.{seen_at}
-use Rattle.flat_mm.specs.Manager.{Manager, machine_in, room_of}
 use Rattle.flat_mm.specs.TwoManagers.{frames_left}
 use Rattle.flat_mm.proofs.Calls.{seen_live}
 
-same_left : (told : Option Held) (m : Machine) → frames_left m ≡ frames_left (seen_at told m)
+pub same_left : (told : Option Held) (m : Machine) → frames_left m ≡ frames_left (seen_at told m)
 same_left None m = ap (λ n. m.frames - n) (sym (seen_live None m))
 same_left (Some h) m = refl
-
-pub frames_are_room : (p : Manager) (told : Option Held) → (let room : Option ℕ = Some (room_of p) in room) ≡ Some (frames_left (seen_at told (machine_in p)))
-frames_are_room p told = ap (λ n. Some n) (same_left told (machine_in p))
 
 pub seen_start : (told : Option Held) (frames page_bytes : ℕ) → seen_at told (start frames page_bytes) ≡ start frames page_bytes
 seen_start None frames page_bytes = refl

@@ -22,8 +22,8 @@ use Rattle.vm_model.proofs.Parts.Lists.{at_number, sum_by_same}
 use Rattle.vm_port.specs.declared.traits.mapper.Mapper.{Ghosts as GhostsOfMapper}
 use Rattle.regions.specs.declared.region.Place as regions
 use Rattle.contexts.specs.Actors.{machine_with}
-use Rattle.gmi_calls.specs.Parking.{AccessCall, NoPull}
-use Rattle.gmi_calls.specs.Reaching.{Asked}
+use Rattle.gmi_calls.specs.Parking.{AccessCall}
+use Rattle.gmi_calls.specs.Reaching.{Asked, NoPages}
 use Rattle.gmi_calls.proofs.Accessing.{denied_call, failed_call, granted_call, range_allowed, range_denied, segments_for}
 use Rattle.gmi_calls.proofs.Called.{eager_quiet}
 use Rattle.flat_mm.specs.Accessing.{IsPlacedAt, place_at}
@@ -51,7 +51,7 @@ module _ {X : Type 0} (M : GhostsOfMapper X) (actor : ActorId) (address : ℕ) (
 
   -- it is refused before
   pub store_quiet : (a : X) (p : Manager) (r : Refusal) → IsValid p (M.held a) → ((h : Segments) → store_of (machine_in p) actor.0 address piece h ≡ refuse (machine_in p) r)
-      → AccessCall M flat NoPull a p command (Err (troubles.Refused r)) a p
+      → AccessCall M flat NoPages a p command (Err (troubles.Refused r)) a p
   store_quiet a p r valid row =
       let answer : Answer = Err (troubles.Refused r) in
       flat_access M a a p p command answer (fits_less p p command answer (λ m next. refl) (omega arith)) valid.kept
@@ -75,7 +75,7 @@ module _ {X : Type 0} (M : GhostsOfMapper X) (actor : ActorId) (address : ℕ) (
 
     -- the mapper denies it
     pub store_denied : (may : Bool) → may ≡ false → (may ≡ false → IsNamed m at.cache.0) → IfSome (M.held before) (λ h. may ≡ not (list_any (is_denied_page m (segments_in h) at.cache.0) (range_with_len at.page.0 1)))
-        → AccessCall M flat NoPull before p command (Err (troubles.Refused refusals.WriteDenied)) after p
+        → AccessCall M flat NoPages before p command (Err (troubles.Refused refusals.WriteDenied)) after p
     store_denied may f named answer =
         let D = range_denied m at.cache.0 at.page.0 1 (M.held before) may f (omega arith) named answer in
         let a : Answer = Err (troubles.Refused refusals.WriteDenied) in
@@ -83,7 +83,7 @@ module _ {X : Type 0} (M : GhostsOfMapper X) (actor : ActorId) (address : ℕ) (
         (denied_call M before after m command r asked valid.ready tt waits (D.0, D.1, ap (is_denied_place m D.0) F.is ∙ one_denied (is_denied_page m D.0 at.cache.0) at.page.0 true D.2) tt)
 
     -- the mapper fails
-    pub store_failed : 0 < asked.reached.rises.faults → IsNamed m at.cache.0 → AccessCall M flat NoPull before p command (Err (troubles.Mapper (faults.Access at.page))) after p
+    pub store_failed : 0 < asked.reached.rises.faults → IsNamed m at.cache.0 → AccessCall M flat NoPages before p command (Err (troubles.Mapper (faults.Access at.page))) after p
     store_failed failed named =
         let a : Answer = Err (troubles.Mapper (faults.Access at.page)) in
         flat_access M before after p p command a (fits_less p p command a (λ m next. refl) (omega arith)) stays
@@ -93,7 +93,7 @@ module _ {X : Type 0} (M : GhostsOfMapper X) (actor : ActorId) (address : ℕ) (
     -- it is carried out
     pub store_granted : (n : ℕ) → IsManagerSound p.store p.actors n → (may : Bool) → may ≡ true → IfSome (M.held before) (λ h. may ≡ not (list_any (is_denied_page m (segments_in h) at.cache.0) (range_with_len at.page.0 1)))
         → (q : Page) → IsPageAt p.store.caches at.cache.0 at.page.0 q → (u : Store) → u ≡ with_page at.cache.0 at.page.0 (record { bytes = overwrite at.at piece q.bytes; changed = true }) p.store → AreWhole u
-        → AccessCall M flat NoPull before p command (Ok replies.Done) after (record { store = u; actors = p.actors })
+        → AccessCall M flat NoPages before p command (Ok replies.Done) after (record { store = u; actors = p.actors })
     store_granted n k may t answer q P u is whole =
         let new : Manager = record { store = u; actors = p.actors } in
         let x : Page = record { bytes = overwrite at.at piece q.bytes; changed = true } in

@@ -15,7 +15,7 @@ use Rattle.vm_model.specs.Outcome.{IsNamed}
 use Rattle.vm_port.specs.declared.traits.mapper.Mapper.{Ghosts as GhostsOfMapper}
 use Rattle.gmi_calls.specs.Calling.{NoTraffic}
 use Rattle.gmi_calls.specs.Reaching.{Asked, HasPages}
-use Rattle.gmi_calls.proofs.Rising.{rise_then}
+use Rattle.gmi_calls.proofs.Rising.{no_pages_sum, rise_then}
 use Rattle.gmi_calls.proofs.Asking.{denied_is, granted_is}
 
 -- none of the pages that were passed is denied
@@ -90,7 +90,7 @@ module _ {X : Type 0} (M : GhostsOfMapper X) (a b c : X) where
   asked_ok p q x = record {
     held = q.held ∙ p.held;
     reached = record { rises = counts_sum p.reached.rises q.reached.rises; rose = rise_then (M.counts a) (M.counts b) (M.counts c) p.reached.rises q.reached.rises p.reached.rose q.reached.rose; failed = tt };
-    no_pull = omega (arith, p.no_pull, q.no_pull);
+    no_pages = no_pages_sum p.reached.rises q.reached.rises p.no_pages q.no_pages;
     quiet = quiet_both (M.counts a) (M.counts b) (M.counts c) p.quiet q.quiet;
     page = q.page ∙ p.page;
   }
@@ -103,7 +103,7 @@ module _ {X : Type 0} (M : GhostsOfMapper X) (a b c : X) where
       rose = rise_then (M.counts a) (M.counts b) (M.counts c) p.reached.rises q.reached.rises p.reached.rose q.reached.rose;
       failed = omega (arith, q.reached.failed);
     };
-    no_pull = omega (arith, p.no_pull, q.no_pull);
+    no_pages = no_pages_sum p.reached.rises q.reached.rises p.no_pages q.no_pages;
     quiet = quiet_both (M.counts a) (M.counts b) (M.counts c) p.quiet q.quiet;
     page = q.page ∙ p.page;
   }

@@ -1,4 +1,5 @@
 pub mod Accessing
+pub mod Alone
 pub mod Extents
 pub mod FramedAnswers
 pub mod Frames

@@ -5,9 +5,10 @@ ghost use Rattle.vm_model.specs.Answering.{answer_by};
 ghost use Rattle.vm_model.specs.Asking.{IsWellFormed};
 ghost use Rattle.vm_model.specs.Place.{place};
 ghost use Rattle.gmi_calls.specs.Calling.{Fits, done_by};
-ghost use Rattle.gmi_calls.specs.Parking.{AccessCall, NoPull};
+ghost use Rattle.gmi_calls.specs.Reaching.{NoPages};
 ghost use Rattle.flat_mm.specs.Accessing.{IsPlacedAt};
-ghost use Rattle.flat_mm.specs.Manager.{IsValid, flat, machine_in};
+ghost use Rattle.flat_mm.specs.Alone.{FlatCall};
+ghost use Rattle.flat_mm.specs.Manager.{IsValid, machine_in};
 
 use crate::FlatMm;
 use regions::Place;
@@ -39,7 +40,7 @@ impl FlatMm {
     }
 
     /// Loads so many bytes, 1 to 64, at an address of an actor. Refused as `NoActor`, `Crosses` or
-    /// `BadAddress`, in this order.
+    /// `BadAddress`, in this order. No page is pulled or pushed.
     pub fn load<M: Mapper>(
         &mut self,
         actor: ActorId,
@@ -50,7 +51,7 @@ impl FlatMm {
         requires some { 1 ≤ bytes }
         requires few { bytes ≤ 64 }
         requires valid { IsValid self.old (M.held mapper.old) }
-        ensures call { AccessCall M.Mapper flat NoPull mapper.old self.old
+        ensures call { FlatCall M.Mapper NoPages mapper.old self.old
             (Command.Load actor address bytes) (answer_by Reply.Bytes result) mapper.new self.new }
         ensures length { IfOk result (λ piece. length piece ≡ bytes) }
     {
@@ -61,7 +62,7 @@ impl FlatMm {
     }
 
     /// Stores bytes at an address of an actor. Refused as `NoActor`, `Crosses`, `BadAddress`,
-    /// `Protection` or `WriteDenied`, in this order.
+    /// `Protection` or `WriteDenied`, in this order. No page is pulled or pushed.
     pub fn store<M: Mapper>(
         &mut self,
         actor: ActorId,
@@ -71,7 +72,7 @@ impl FlatMm {
     ) -> Result<(), Trouble>
         requires valid { IsValid self.old (M.held mapper.old) }
         requires fits { Fits (M.page_bytes mapper.old) (machine_in self.old) }
-        ensures { AccessCall M.Mapper flat NoPull mapper.old self.old
+        ensures { FlatCall M.Mapper NoPages mapper.old self.old
             (Command.Store actor address piece.now) (done_by result) mapper.new self.new }
     {
         let bytes = piece.as_slice();
@@ -88,7 +89,7 @@ impl FlatMm {
         Ok(())
     }
 
-    /// Carries out a load or a store.
+    /// Carries out a load or a store. No page is pulled or pushed.
     pub(crate) fn carry_out<M: Mapper>(
         &mut self,
         actor: ActorId,
@@ -98,7 +99,7 @@ impl FlatMm {
         requires formed { IsWellFormed (command_for actor access.now) }
         requires valid { IsValid self.old (M.held mapper.old) }
         requires fits { Fits (M.page_bytes mapper.old) (machine_in self.old) }
-        ensures { AccessCall M.Mapper flat NoPull mapper.old self.old
+        ensures { FlatCall M.Mapper NoPages mapper.old self.old
             (command_for actor access.now) result mapper.new self.new }
     {
         match access {

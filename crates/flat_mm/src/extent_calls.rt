@@ -2,6 +2,8 @@
 ghost use Rattle.std.specs.Prelude.{◌≡◌, ◌≤◌, false, IfErr, IfOk, OnOk};
 ghost use Rattle.vm_model.specs.Answering.{is_any_locked};
 ghost use Rattle.gmi_calls.specs.Calling.{Fits, MapperCall, done_by};
+ghost use Rattle.gmi_calls.specs.Reaching.{NoPages};
+ghost use Rattle.flat_mm.specs.Alone.{FlatCall};
 ghost use Rattle.flat_mm.specs.Extents.{IsExtent, RefusesFlush, RefusesSync};
 ghost use Rattle.flat_mm.specs.Manager.{IsValid, flat, machine_in};
 
@@ -107,9 +109,10 @@ impl FlatMm {
 
     /// Locks a region. Refused as `NoRegion`, as `Locked` where it is locked, or as `LockLimit`
     /// where fewer than three page frames would be left that no locked page takes, in this order.
+    /// No page is pulled or pushed.
     pub fn lock<M: Mapper>(&mut self, region: RegionId, mapper: &mut M) -> Result<(), Trouble>
         requires { IsValid self.old (M.held mapper.old) }
-        ensures { MapperCall M.Mapper flat mapper.old self.old
+        ensures { FlatCall M.Mapper NoPages mapper.old self.old
             (Command.Lock region) (done_by result) mapper.new self.new }
     {
         let _ = mapper;
@@ -127,10 +130,10 @@ impl FlatMm {
         Ok(())
     }
 
-    /// Evicts nothing: each page keeps its frame.
+    /// Evicts nothing: each page keeps its frame, and none is pulled or pushed.
     pub fn page_out<M: Mapper>(&mut self, count: u32, mapper: &mut M) -> Result<(), Trouble>
         requires { IsValid self.old (M.held mapper.old) }
-        ensures { MapperCall M.Mapper flat mapper.old self.old
+        ensures { FlatCall M.Mapper NoPages mapper.old self.old
             (Command.PageOut count) (done_by result) mapper.new self.new }
     {
         let _ = count;

@@ -110,6 +110,7 @@ impl<M: Mapper, C: Chooser> Gmi<M, C> for FlatMm {
         FlatMm::store(self, actor, address, piece, mapper)
     }
 
+    #[tactic(auto, using(crate::proofs::Alone::none_pulled))]
     fn issue(
         &mut self,
         actor: ActorId,

@@ -15,6 +15,7 @@
 #![tactic(auto)]
 
 mod access_calls;
+mod answering;
 mod cache_calls;
 mod extent_calls;
 mod framed;

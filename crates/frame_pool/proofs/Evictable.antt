@@ -1,5 +1,5 @@
 -- The list of which frames may be evicted, where one frame changes.
-use Rattle.std.proofs.Common.{◌≡◌, ◌≢◌, ℕ, ◌+◌, ◌*◌, ◌^◌, ◌<◌, ◌≤◌, Bool, true, false, cond, not, ◌&&◌, List, [], ◌∷◌, length, get_or, set, replicate, count_by, sym, ◌∙◌, refl, ap, inl, inr, arith, Vec, Global, length-set, get_or-set_same, get_or-set_other}
+use Rattle.std.proofs.Common.{◌≡◌, ◌≢◌, ℕ, ◌+◌, ◌^◌, ◌<◌, ◌≤◌, Bool, true, false, cond, not, ◌&&◌, List, [], ◌∷◌, length, get_or, set, replicate, count_by, sym, ◌∙◌, refl, ap, inl, inr, arith, Vec, Global, length-set, get_or-set_same, get_or-set_other}
 use Rattle.std.proofs.lemmas.Bool.{cases_eq, cases_lt, true≢false}
 use Rattle.std.proofs.lemmas.List.{length-replicate, get_or-replicate, get_or_past}
 use Rattle.std.proofs.lemmas.List.FromFn.{fill_by_all, get_or-map-range_with_len, length-map-range_with_len}
@@ -39,7 +39,7 @@ held_changed a k held mark sound within here =
     let sized = sound.sized in
     record {
       sized = record {
-        region = sized.region ∙ ap (λ (n : ℕ). n * a.page) (sym long);
+        region = sized.region ∙ sym long;
         pinned = sized.pinned ∙ sym long;
         few = let few = sized.few in omega arith;
       };
@@ -86,12 +86,12 @@ none_evictable p count held =
 
 pub sound_opened : (a : Inside) (count : ℕ) → count ≤ 2 ^ 16 → a.held ≡ replicate count false
     → a.pinned.items ≡ replicate count false → a.evictable ≡ replicate count false
-    → a.region.items ≡ replicate {A = ℕ} (count * a.page) 0 → IsSound a
+    → length a.region.bytes ≡ count → IsSound a
 sound_opened a count few held pinned evictable region =
     let long : length a.held ≡ count = ap (λ (hs : List Bool). length hs) held ∙ length-replicate count false in
     record {
       sized = record {
-        region = ap (λ (xs : List ℕ). length xs) region ∙ length-replicate (count * a.page) 0 ∙ ap (λ (n : ℕ). n * a.page) (sym long);
+        region = region ∙ sym long;
         pinned = ap (λ (ps : List Bool). length ps) pinned ∙ length-replicate count false ∙ sym long;
         few = omega (arith, few);
       };
@@ -105,6 +105,9 @@ free_by (true ∷ held) =
     omega (arith, free_by held, sum_by-cons (λ (h : Bool). cond (not h) 1 0) true held, sum_by-cons (λ (h : Bool). cond h 1 0) true held)
 free_by (false ∷ held) =
     omega (arith, free_by held, sum_by-cons (λ (h : Bool). cond (not h) 1 0) false held, sum_by-cons (λ (h : Bool). cond h 1 0) false held)
+
+pub held_inside : (a : Inside) (p : Frames) (k : ℕ) → frames_seen a ≡ p → k < length p.held → k < length a.held
+held_inside a p k seen h = let same = ap (λ (q : Frames). length q.held) seen in omega (arith, h)
 
 -- a held frame is one of the frames
 pub held_within : (a : Inside) (p : Frames) (k : ℕ) → frames_seen a ≡ p → is_held p k ≡ true → k < length a.held

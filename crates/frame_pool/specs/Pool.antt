@@ -1,7 +1,6 @@
 -- A pool of page frames.
-use Rattle.std.specs.Prelude.{◌≡◌, ◌*◌, ◌≤◌, ◌^◌, ℕ, Bool, false, ◌&&◌, not, List, [], length, slice_index_or, slice_set, count_by, map}
+use Rattle.std.specs.Prelude.{◌≡◌, ◌≤◌, ◌^◌, ℕ, Bool, false, ◌&&◌, not, List, [], length, slice_index_or, slice_set, count_by, map}
 use Rattle.std.specs.List.{range_with_len}
-use Rattle.std.specs.Simd.{first_chunks}
 use Rattle.frame_pool.specs.Marks.{set_count}
 use Rattle.frame_pool.specs.declared.pool.FramePool.TheInside.{Inside}
 
@@ -14,7 +13,7 @@ pub record Frames : Type 0 where
 
 -- the lists have an entry for each frame
 pub record IsSized (a : Inside) : Type 0 where
-  pub region : length a.region.items ≡ length a.held * a.page
+  pub region : length a.region.bytes ≡ length a.held
   pub pinned : length a.pinned.items ≡ length a.held
   pub few : length a.held ≤ 2 ^ 16
 
@@ -22,10 +21,10 @@ pub record IsSized (a : Inside) : Type 0 where
 abbrev pub frames_seen : Inside → Frames
 frames_seen a =
     record {
-      page = a.page;
+      page = a.region.page;
       held = a.held;
       pinned = a.pinned.items;
-      bytes = first_chunks a.page (length a.held) a.region.items;
+      bytes = a.region.bytes;
     }
 
 abbrev pub is_held : Frames → ℕ → Bool

@@ -1,4 +1,6 @@
-//! The page frames: memory for so many pages, one region that is taken once at opening.
+//! The page frames: memory for so many pages, one region for which room is taken once at opening.
+//! The bytes of a frame are there from when it, or one behind it, is first written; until then they
+//! are zeros that take no memory.
 //!
 //! A frame is free, or held by someone with the bytes of a page in it. A held frame may be pinned,
 //! which keeps it from being chosen as a victim of eviction. Frames are numbered from 0.
@@ -14,5 +16,6 @@
 mod marks;
 mod part;
 mod pool;
+mod region;
 
 pub use pool::FramePool;

@@ -2,7 +2,7 @@
 ghost use Rattle.std.specs.Prelude.{◌≡◌, ◌+◌, ◌≤◌, ◌⊎◌, slice_range};
 ghost use Rattle.std.specs.Borrow.{sem};
 ghost use Rattle.std.specs.List.{copy_within};
-ghost use Rattle.std.specs.Vec.{vec_len};
+ghost use Rattle.std.specs.Vec.{vec_capacity, vec_len};
 ghost use Rattle.frame_pool.specs.Lending.{LendsPart, LendsRun};
 
 // The bytes from `start` up to `end`. Its clause says what the vector ends as for a list of any
@@ -33,7 +33,8 @@ pub(crate) fn copy_part(bytes: &mut Vec<u8>, from: usize, to: usize, count: usiz
     requires from { from + count ≤ vec_len bytes.old }
     requires to { to + count ≤ vec_len bytes.old }
     requires apart { (from + count ≤ to) ⊎ (to + count ≤ from) }
-    ensures { bytes.new.items ≡ copy_within bytes.old.items from (from + count) to }
+    ensures bytes { bytes.new.items ≡ copy_within bytes.old.items from (from + count) to }
+    ensures room { vec_capacity bytes.new ≡ vec_capacity bytes.old }
 {
     if from < to {
         let (low, high) = bytes.split_at_mut(to);

@@ -5,7 +5,7 @@ ghost use Rattle.frame_pool.specs.Lending.{LendsPage};
 ghost use Rattle.frame_pool.specs.Pool.{bytes_of, evictable_count, evictable_frames, is_evictable, is_held, is_pinned, with_bytes};
 
 use crate::marks::Marks;
-use crate::part::{copy_part, part_mut};
+use crate::region::Region;
 use number_pool::NumberPool;
 use std::alloc::Global;
 use std::marker::Model;
@@ -14,14 +14,13 @@ use vm_ids::{FrameId, NoMemory};
 /// The page frames, each free or held.
 #[derive(Drop)]
 pub struct FramePool {
-    page: usize,
     // The numbers of the frames. Those of held frames are taken.
     held: NumberPool,
     pinned: Vec<bool>,
     // The frames that are held and not pinned.
     evictable: Marks,
-    // The bytes of frame 0, then those of frame 1, and so on.
-    region: Vec<u8>,
+    // Frame k has the k-th page.
+    region: Region,
 }
 
 impl Model for FramePool {
@@ -48,15 +47,13 @@ impl FramePool {
             }) }
     {
         let count = frames as usize;
-        let page = page as usize;
         let mut held = NumberPool::new(alloc);
         held.reserve(frames)?;
         Ok(FramePool {
-            page,
             held,
             pinned: vec![in alloc; false; count]?,
             evictable: Marks::new(alloc, count)?,
-            region: vec![in alloc; 0u8; count * page]?,
+            region: Region::new(alloc, page as usize, count)?,
         })
     }
 
@@ -161,8 +158,7 @@ impl FramePool {
         ensures bytes { result.now ≡ bytes_of self.now frame.0 }
         ensures page { length result.now ≡ self.now.page }
     {
-        let start = frame.0 as usize * self.page;
-        &self.region[start..start + self.page]
+        self.region.page(frame.0 as usize)
     }
 
     /// The bytes of a frame, to be written.
@@ -172,9 +168,7 @@ impl FramePool {
         ensures bytes { result.now ≡ bytes_of self.old frame.0 }
         ensures page { length result.now ≡ self.old.page }
     {
-        let start = frame.0 as usize * self.page;
-        let end = start + self.page;
-        part_mut(&mut self.region, start, end)
+        self.region.page_mut(frame.0 as usize)
     }
 
     /// Makes the bytes of one frame those of another.
@@ -184,13 +178,7 @@ impl FramePool {
         requires apart { from.0 ≢ to.0 }
         ensures { self.new ≡ with_bytes self.old to.0 (bytes_of self.old from.0) }
     {
-        let page = self.page;
-        copy_part(
-            &mut self.region,
-            from.0 as usize * page,
-            to.0 as usize * page,
-            page,
-        );
+        self.region.copy(from.0 as usize, to.0 as usize);
     }
 
     /// Makes the bytes of a frame zeros.

@@ -27,8 +27,8 @@ use Rattle.vm_model.specs.Synchronised.{IsSynchronised}
 use Rattle.vm_model.proofs.Parts.Naming.{segment_cache}
 use Rattle.gmi_calls.specs.Backing.{IsReady, eager}
 use Rattle.vm_port.specs.declared.traits.mapper.Mapper.{Ghosts as GhostsOfMapper}
-use Rattle.gmi_calls.specs.Parking.{AccessCall, NoPull}
-use Rattle.gmi_calls.specs.Reaching.{Asked, HasPages}
+use Rattle.gmi_calls.specs.Parking.{AccessCall}
+use Rattle.gmi_calls.specs.Reaching.{Asked, HasPages, NoPages}
 use Rattle.gmi_calls.proofs.Asking.{denied_is, granted_is}
 use Rattle.gmi_calls.proofs.Called.{OutcomeFor, any_rises, call_reached, eager_call, no_segments, ready_after}
 use Rattle.gmi_calls.proofs.Still.{asks_quiet}
@@ -148,25 +148,25 @@ failed_for told m c p rises A failed may = by_segments told m m c (Err (troubles
 
 -- The call of such a command, after the mapper was asked.
 module _ {X T E : Type 0} (M : GhostsOfMapper X) (before after : X) (m : Machine) (c : Command) (r : Result T E) (asked : Asked M before after r) (ready : IsReady m (M.held before)) (reaches : ReachesMapper c asked.reached.rises) where
-  ended : (next : Machine) (a : Answer) → HasWholePages next → OutcomeFor (M.held before) m c a next asked.reached.rises → IsSynchronised m (segments_of (M.held after)) c a → AccessCall M eager NoPull before m c a after next
+  ended : (next : Machine) (a : Answer) → HasWholePages next → OutcomeFor (M.held before) m c a next asked.reached.rises → IsSynchronised m (segments_of (M.held after)) c a → AccessCall M eager NoPages before m c a after next
   ended next a whole o said =
       record {
-        so = asked.no_pull;
+        so = asked.no_pages;
         call = eager_call M before after m next c a (subst (IsReady next) (sym asked.held) (ready_after (M.held before) m next c a asked.reached.rises ready whole o))
             (call_reached (M.held before) (M.held after) _ _ m next c a r asked.held asked.reached ready.whole whole reaches o said) (asks_quiet c a _ _ asked.quiet) asked.page;
       }
 
   -- the page may be written
-  pub granted_call : (next : Machine) (a : Answer) → HasWholePages next → AllowedOutcome m c a next → is_denied m (segments_for (M.held before)) c ≡ false → IsSynchronised m (segments_of (M.held after)) c a → AccessCall M eager NoPull before m c a after next
+  pub granted_call : (next : Machine) (a : Answer) → HasWholePages next → AllowedOutcome m c a next → is_denied m (segments_for (M.held before)) c ≡ false → IsSynchronised m (segments_of (M.held after)) c a → AccessCall M eager NoPages before m c a after next
   granted_call next a whole f allowed = ended next a whole (granted_for (M.held before) m next c a asked.reached.rises f allowed)
 
   module _ (A : AwaitsAccess m c) where
     -- it is denied
     pub denied_call : (s : Segments) × (IfSome (M.held before) (λ h. s ≡ segments_in h)) × (is_denied m s c ≡ true) → IsSynchronised m (segments_of (M.held after)) c (Err (troubles.Refused refusals.WriteDenied))
-        → AccessCall M eager NoPull before m c (Err (troubles.Refused refusals.WriteDenied)) after m
+        → AccessCall M eager NoPages before m c (Err (troubles.Refused refusals.WriteDenied)) after m
     denied_call D = ended m (Err (troubles.Refused refusals.WriteDenied)) ready.whole (denied_for (M.held before) m c asked.reached.rises A D.0 D.1 D.2)
 
     -- the mapper fails
     pub failed_call : (p : PageNo) → 0 < asked.reached.rises.faults → MayFault m None c (segments_for (M.held before)) (faults.Access p) asked.reached.rises → IsSynchronised m (segments_of (M.held after)) c (Err (troubles.Mapper (faults.Access p)))
-        → AccessCall M eager NoPull before m c (Err (troubles.Mapper (faults.Access p))) after m
+        → AccessCall M eager NoPages before m c (Err (troubles.Mapper (faults.Access p))) after m
     failed_call p failed may = ended m (Err (troubles.Mapper (faults.Access p))) ready.whole (failed_for (M.held before) m c p asked.reached.rises A failed may)

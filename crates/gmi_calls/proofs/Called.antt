@@ -25,9 +25,9 @@ use Rattle.vm_model.specs.Run.{AnswerIs, CallIs}
 use Rattle.vm_model.specs.Synchronised.{ArePushed, IsCachePushed, IsExtentPushed, IsSynchronised}
 use Rattle.gmi_calls.specs.Backing.{IsReady, eager, eager_state}
 use Rattle.vm_port.specs.declared.traits.mapper.Mapper.{Ghosts as GhostsOfMapper}
-use Rattle.gmi_calls.specs.Calling.{AsksFirst, CallDone, MapperCall}
+use Rattle.gmi_calls.specs.Calling.{AsksFirst, CallDone, MapperCall, Meanings}
 use Rattle.gmi_calls.specs.Parking.{AccessCall, NoPull}
-use Rattle.gmi_calls.specs.Reaching.{Pushed, Reached}
+use Rattle.gmi_calls.specs.Reaching.{NoPages, Pushed, Reached}
 use Rattle.gmi_calls.proofs.Backing.{backed_after}
 use Rattle.gmi_calls.proofs.Pushing.{pushed_none}
 use Rattle.gmi_calls.proofs.Rising.{quiet_none, rise_none}
@@ -210,14 +210,18 @@ module _ {X : Type 0} (M : GhostsOfMapper X) where
 
   -- a call that is handed the mapper and leaves it
   pub eager_quiet : (a : X) (m next : Machine) (c : Command) (answer : Answer) → ReachesMapper c no_counts → IsReady m (M.held a) → HasWholePages next → PlainOutcome m c answer next → IsSynchronised m (segments_of (M.held a)) c answer
-      → AccessCall M eager NoPull a m c answer a next
+      → AccessCall M eager NoPages a m c answer a next
   eager_quiet a m next c answer reaches ready whole f said =
       let is : CallIs (M.counts a) (M.counts a) (eager_state (M.held a) m) c answer (eager_state (M.held a) next) = record { pushes = []; rises = no_counts; rose = rise_none (M.counts a); is = answer_each (M.held a) m next c answer reaches ready whole f said } in
-      record { call = eager_call a a m next c answer (ready_plain (M.held a) m next c answer f whole ready) is (asks_quiet c answer _ _ (quiet_none (M.counts a))) refl; so = refl }
+      record { call = eager_call a a m next c answer (ready_plain (M.held a) m next c answer f whole ready) is (asks_quiet c answer _ _ (quiet_none (M.counts a))) refl; so = record { pulled = refl; pushed = refl } }
 
   pub eager_left : (a : X) (m next : Machine) (c : Command) (answer : Answer) → ReachesMapper c no_counts → IsReady m (M.held a) → HasWholePages next → PlainOutcome m c answer next → IsSynchronised m (segments_of (M.held a)) c answer
       → MapperCall M eager a m c answer a next
   eager_left a m next c answer reaches ready whole f said = (eager_quiet a m next c answer reaches ready whole f said).call
+
+-- where no page came or went, none was pulled
+pub no_pull : {Manager X : Type 0} (M : GhostsOfMapper X) (G : Meanings Manager) (a : X) (p : Manager) (c : Command) (answer : Answer) (b : X) (q : Manager) → AccessCall M G NoPages a p c answer b q → AccessCall M G NoPull a p c answer b q
+no_pull M G a p c answer b q E = record { call = E.call; so = E.so.pulled }
 
 -- a call that takes none
 pub eager_done : (m next : Machine) (c : Command) (answer : Answer) → ReachesMapper c no_counts → HasWholePages next → PlainOutcome m c answer next → ((h : Option Segments) → IsSynchronised m h c answer) → CallDone eager m c answer next

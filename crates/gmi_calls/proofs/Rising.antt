@@ -4,7 +4,7 @@ use Rattle.std.specs.Prelude.{Result, Ok, Err, OnErr}
 use Rattle.vm_ids.specs.Counting.{Counted, MapperCounts, Rise, counts_sum, no_counts}
 use Rattle.vm_port.specs.declared.traits.mapper.Mapper.{Ghosts as GhostsOfMapper}
 use Rattle.gmi_calls.specs.Calling.{NoTraffic}
-use Rattle.gmi_calls.specs.Reaching.{Asked, Reached}
+use Rattle.gmi_calls.specs.Reaching.{Asked, NoPages, Reached}
 
 pub rise_none : (a : MapperCounts) → Rise a a no_counts
 rise_none a = record {
@@ -53,6 +53,14 @@ one_pulls : {T E : Type 0} (pulls pushes : ℕ) (r : Result T E) → (one_call p
 one_pulls pulls pushes (Ok x) = refl
 one_pulls pulls pushes (Err e) = refl
 
+one_pushes : {T E : Type 0} (pulls pushes : ℕ) (r : Result T E) → (one_call pulls pushes r).pushes ≡ pushes
+one_pushes pulls pushes (Ok x) = refl
+one_pushes pulls pushes (Err e) = refl
+
+-- no page came or went in either of two calls
+pub no_pages_sum : (x y : MapperCounts) → NoPages x → NoPages y → NoPages (counts_sum x y)
+no_pages_sum x y p q = record { pulled = omega (arith, p.pulled, q.pulled); pushed = omega (arith, p.pushed, q.pushed) }
+
 pub one_failed : {T E : Type 0} (pulls pushes : ℕ) (r : Result T E) → OnErr r (0 < (one_call pulls pushes r).faults)
 one_failed pulls pushes (Ok x) = tt
 one_failed pulls pushes (Err e) = omega arith
@@ -95,7 +103,7 @@ quiet_then a b c r q k = record {
 module _ {X : Type 0} (M : GhostsOfMapper X) where
   -- the mapper wasn't asked yet
   pub asked_none : {T E : Type 0} (a : X) (x : T) → Asked M a a (let r : Result T E = Ok x in r)
-  asked_none a x = record { held = refl; reached = reached_none (M.counts a) x; no_pull = refl; quiet = quiet_none (M.counts a); page = refl }
+  asked_none a x = record { held = refl; reached = reached_none (M.counts a) x; no_pages = record { pulled = refl; pushed = refl }; quiet = quiet_none (M.counts a); page = refl }
 
   -- it was asked once more, after which all is said
   pub asked_then : {T U V E F : Type 0} (a b c : X) (r : Result T F) (s : Result U V) → Asked M a b (let o : Result (Unit {0}) E = Ok tt in o) → M.held c ≡ M.held b → Counted 0 0 (M.counts b) (M.counts c) r → M.page_bytes c ≡ M.page_bytes b
@@ -103,11 +111,11 @@ module _ {X : Type 0} (M : GhostsOfMapper X) where
   asked_then a b c r s A held k page failed = record {
     held = held ∙ A.held;
     reached = reached_then (M.counts a) (M.counts b) (M.counts c) _ s A.reached (one_call 0 0 r) (counted 0 0 (M.counts b) (M.counts c) r k) failed;
-    no_pull = omega (arith, A.no_pull, one_pulls 0 0 r);
+    no_pages = no_pages_sum A.reached.rises (one_call 0 0 r) A.no_pages (record { pulled = one_pulls 0 0 r; pushed = one_pushes 0 0 r });
     quiet = quiet_then (M.counts a) (M.counts b) (M.counts c) r A.quiet k;
     page = page ∙ A.page;
   }
 
   -- whatever it tells then
   pub asked_alike : {T U E : Type 0} {r : Result T E} (a b : X) (x : U) → Asked M a b r → Asked M a b (let o : Result U E = Ok x in o)
-  asked_alike a b x A = record { held = A.held; reached = record { rises = A.reached.rises; rose = A.reached.rose; failed = tt }; no_pull = A.no_pull; quiet = A.quiet; page = A.page }
+  asked_alike a b x A = record { held = A.held; reached = record { rises = A.reached.rises; rose = A.reached.rose; failed = tt }; no_pages = A.no_pages; quiet = A.quiet; page = A.page }

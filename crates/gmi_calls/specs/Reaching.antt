@@ -15,13 +15,18 @@ pub record Reached {T E : Type 0} (before now : MapperCounts) (result : Result T
   pub rose : Rise before now rises
   pub failed : OnErr result (0 < rises.faults)
 
+-- no page was pulled or pushed
+pub record NoPages (rises : MapperCounts) : Type 0 where
+  pub pulled : rises.pulls ≡ 0
+  pub pushed : rises.pushes ≡ 0
+
 -- The mapper was asked about its pages, and no more: it holds what it held, and no page came or
 -- went. Where the result is an error, a call failed.
 pub record Asked {Mapper T E : Type 0} (M : GhostsOfMapper Mapper) (before after : Mapper)
     (result : Result T E) : Type 0 where
   pub held : M.held after ≡ M.held before
   pub reached : Reached (M.counts before) (M.counts after) result
-  pub no_pull : reached.rises.pulls ≡ 0
+  pub no_pages : NoPages reached.rises
   pub quiet : NoTraffic (M.counts before) (M.counts after)
   pub page : M.page_bytes after ≡ M.page_bytes before
 

@@ -3,7 +3,8 @@ ghost use Rattle.vm_ids.specs.Accessing.{command_for};
 ghost use Rattle.vm_model.specs.Asking.{IsWellFormed};
 ghost use Rattle.gmi_calls.specs.Backing.{IsReady, eager};
 ghost use Rattle.gmi_calls.specs.Calling.{done_by};
-ghost use Rattle.gmi_calls.specs.Parking.{AccessCall, NoPull};
+ghost use Rattle.gmi_calls.specs.Parking.{AccessCall};
+ghost use Rattle.gmi_calls.specs.Reaching.{NoPages};
 
 use crate::segments::may_store;
 use vm_ids::{Access, ActorId, Answer, Command, FaultAt, Piece, Refusal, Reply, Trouble};
@@ -11,7 +12,7 @@ use vm_model::EagerMachine;
 use vm_port::Mapper;
 
 /// Stores bytes at an address of an actor, where the mapper lets the page be written. No page is
-/// pulled.
+/// pulled or pushed.
 pub(crate) fn store_asking<M: Mapper>(
     machine: &mut EagerMachine,
     actor: ActorId,
@@ -20,7 +21,7 @@ pub(crate) fn store_asking<M: Mapper>(
     mapper: &mut M,
 ) -> Result<(), Trouble>
     requires ready { IsReady machine.old (M.held mapper.old) }
-    ensures { AccessCall M.Mapper eager NoPull mapper.old machine.old
+    ensures { AccessCall M.Mapper eager NoPages mapper.old machine.old
         (Command.Store actor address piece.now) (done_by result) mapper.new machine.new }
 {
     let place = machine.check_store(actor, address, piece)?;
@@ -31,7 +32,7 @@ pub(crate) fn store_asking<M: Mapper>(
     }
 }
 
-/// Carries a load or a store out. No page is pulled.
+/// Carries a load or a store out. No page is pulled or pushed.
 #[tactic(auto, using(crate::proofs::Called::eager_quiet))]
 pub(crate) fn carry_out<M: Mapper>(
     machine: &mut EagerMachine,
@@ -41,7 +42,7 @@ pub(crate) fn carry_out<M: Mapper>(
 ) -> Answer
     requires formed { IsWellFormed (command_for actor access.now) }
     requires ready { IsReady machine.old (M.held mapper.old) }
-    ensures { AccessCall M.Mapper eager NoPull mapper.old machine.old
+    ensures { AccessCall M.Mapper eager NoPages mapper.old machine.old
         (command_for actor access.now) result mapper.new machine.new }
 {
     match access {

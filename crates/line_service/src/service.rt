@@ -68,8 +68,8 @@ pub trait Service<M: Mapper, C: Chooser> {
             (state self.new (M.held mapper.new)) };
 
     /// Issues an access: it is answered, or has to wait for its page, which is `None`. It waits
-    /// exactly where nothing refuses it, no call of the mapper failed and it isn't ready. No page
-    /// is pulled. It takes no memory.
+    /// only where nothing refuses it and it isn't ready; a call of the mapper may have failed all
+    /// the same. No page is pulled. It takes no memory.
     fn issue(
         &mut self,
         actor: ActorId,

@@ -1,7 +1,7 @@
 -- The last process gets what an image has: its text, its data, and a stack.
 use Rattle.std.proofs.Common.{◌≡◌, ℕ, ◌+◌, ◌*◌, ◌^◌, ◌≤◌, ◌<◌, Bool, true, false, cond, List, [], ◌∷◌, ◌++◌, length, set, take, drop, replicate, Option, Some, None, refl, sym, ap, subst, ◌∙◌, arith}
 use Rattle.std.specs.Prelude.{Ok, Err, Result, option_map, slice_get}
-use Rattle.std.proofs.lemmas.List.{length-append, length-map}
+use Rattle.std.proofs.lemmas.List.{length-append, length-drop, length-map, length-take-le}
 use Rattle.vm_ids.specs.Counting.{MapperCounts, Rise, counts_sum, no_counts}
 use Rattle.vm_ids.specs.Held.{Held, segments_of}
 use Rattle.vm_ids.specs.declared.reply.Trouble.{Trouble}
@@ -17,7 +17,7 @@ use Rattle.mix_process.specs.Loaded.{IsLoaded, MayLoad, loaded, usage_to_load}
 use Rattle.mix_process.specs.Outcome.{Usage, usage_of, usage_to_grow}
 use Rattle.mix_process.specs.ProcessMachine as model
 use Rattle.mix_process.specs.ProcessMachine.{ProcessMachine}
-use Rattle.mix_process.specs.Seen.{area_seen, cache_pages, pages_in, part_seen, parts_in, process_seen, processes_seen, same_area}
+use Rattle.mix_process.specs.Seen.{area_seen, cache_pages, pages_in, part_seen, process_seen, processes_seen, same_area, sizes_in}
 use Rattle.mix_process.specs.Tying.{CanCall, IsOwnPart, IsPart, none_spare}
 use Rattle.mix_process.specs.Use.{IsLack, IsWithin, usage_sum}
 use Rattle.mix_process.specs.declared.area.Area.{Area}
@@ -155,8 +155,8 @@ module _ {Manager X Chooser : Type 0} (M : GhostsOfMapper X) (G : GhostsOfGmi Ma
     is_part = subst (λ (a : Area). IsPart m a text) (sym may.area) may.image;
   }
 
-  bare_seen : process_seen m may.child ≡ record { text_pages = []; data_pages = []; stack_pages = []; pieces = 0 }
-  bare_seen = λ i. record { text_pages = area_seen m Text (may.bare i); data_pages = area_seen m Data (may.bare i); stack_pages = area_seen m Stack (may.bare i); pieces = parts_in Data (may.bare i) }
+  bare_seen : process_seen m may.child ≡ record { text_pages = []; data_pages = []; stack_pages = []; pieces = [] }
+  bare_seen = λ i. record { text_pages = area_seen m Text (may.bare i); data_pages = area_seen m Data (may.bare i); stack_pages = area_seen m Stack (may.bare i); pieces = sizes_in Data (may.bare i) }
 
   pub no_text : (t : Trouble) (new : Mix Manager) → IsUnmapped G (M.held before) (M.page_bytes before) old last may.child text t new → IsLoaded M G before old front text data_pages stack (Err t) before new
   no_text t new i = record {
@@ -181,7 +181,7 @@ module _ {Manager X Chooser : Type 0} (M : GhostsOfMapper X) (G : GhostsOfGmi Ma
     m1 = G.machine s1.gmi (M.held before)
 
     abbrev seen1 : model.Process
-    seen1 = record { text_pages = take text.pages file; data_pages = []; stack_pages = []; pieces = 0 }
+    seen1 = record { text_pages = take text.pages file; data_pages = []; stack_pages = []; pieces = [] }
 
     so_far1 : IsSoFar M G before old front usage_to_map (8 * (text.pages + length file) + 8) before s1 child1
     so_far1 = record {
@@ -263,7 +263,10 @@ module _ {Manager X Chooser : Type 0} (M : GhostsOfMapper X) (G : GhostsOfGmi Ma
       m2 = G.machine s2.gmi (M.held now)
 
       abbrev seen2 : model.Process
-      seen2 = record { text_pages = take text.pages file; data_pages = take data_pages (drop text.pages file); stack_pages = []; pieces = 1 }
+      seen2 = record { text_pages = take text.pages file; data_pages = take data_pages (drop text.pages file); stack_pages = []; pieces = data_pages ∷ [] }
+
+      data_long : length (take data_pages (drop text.pages file)) ≡ data_pages
+      data_long = length-take-le data_pages (drop text.pages file) (omega (arith, may.enough, length-drop text.pages file))
 
       so_far2 : IsSoFar M G before old front (usage_sum usage_to_map (usage_to_grow data_pages)) (8 * (text.pages + length file) + 8 + own_budget m1 behind data_pages) now s2 child2
       so_far2 = further M G before old front usage_to_map (8 * (text.pages + length file) + 8) before s1 child1 so_far1 Data data_pages behind (Ok u) now s2 a child2 a.adds.put.processes a.adds.put.images
@@ -271,6 +274,7 @@ module _ {Manager X Chooser : Type 0} (M : GhostsOfMapper X) (G : GhostsOfGmi Ma
       is2 : processes_seen m2 s2.processes.items s2.images.items ≡ put_at s last seen2
       is2 = a.adds.seen
           ∙ (λ j. put_at (is1 j) last (with_more Data (take data_pages (drop text.pages (file1 j))) (child1_seen j)))
+          ∙ ap (λ (n : ℕ). put_at (put_at s last seen1) last (record seen2 { pieces = n ∷ [] })) data_long
           ∙ put_twice s last seen1 seen2
 
       child2_seen : process_seen m2 child2 ≡ seen2

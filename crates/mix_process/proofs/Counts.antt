@@ -8,7 +8,7 @@ use Rattle.mix_process.specs.Adding.{usage_to_map}
 use Rattle.mix_process.specs.Copying.{copy_budget, cost_to_copy, usage_of_parts}
 use Rattle.mix_process.specs.Outcome.{Usage, usage_to_fork, usage_to_grow}
 use Rattle.mix_process.specs.ProcessMachine.{may_write}
-use Rattle.mix_process.specs.Seen.{pages_in, parts_in, process_seen, same_area}
+use Rattle.mix_process.specs.Seen.{pages_in, process_seen, same_area, sizes_in}
 use Rattle.mix_process.specs.Tying.{IsPart, IsRun}
 use Rattle.mix_process.specs.Use.{IsWithin, usage_sum}
 use Rattle.mix_process.specs.declared.area.Area.{Area}
@@ -24,6 +24,18 @@ cost_of_parts [] = 0
 cost_of_parts (p ∷ ps) = cost_to_copy p + cost_of_parts ps
 
 -- Parts of an area
+
+abbrev parts_in : Area → List Part → ℕ
+parts_in area [] = 0
+parts_in area (p ∷ ps) = cond (same_area p.area area) 1 0 + parts_in area ps
+
+many_sizes : (area : Area) (xs : List Part) → length (sizes_in area xs) ≡ parts_in area xs
+many_sizes area [] = refl
+many_sizes area (x ∷ xs) = by (same_area x.area area) (many_sizes area xs)
+  where
+    by : (b : Bool) → length (sizes_in area xs) ≡ parts_in area xs → length (cond b (x.pages ∷ []) [] ++ sizes_in area xs) ≡ cond b 1 0 + parts_in area xs
+    by true rest = omega (arith, rest)
+    by false rest = omega (arith, rest)
 
 none_later : (area : Area) (xs : List Part) → ((mid behind : List Part) (part : Part) → xs ≡ mid ++ part ∷ behind → part.area ≡ area → ⊥) → parts_in area xs ≡ 0
 none_later area [] h = refl
@@ -138,7 +150,7 @@ module _ (m : Machine) (p : Process) (run : IsRun m p) where
   used_to_fork = let u = usage_all p.parts.items in record {
     living = omega (arith, u.living);
     actors = omega (arith, u.actors);
-    caches = omega (arith, u.caches, one_stack);
-    regions = omega (arith, u.regions, one_stack, one_text);
+    caches = omega (arith, u.caches, one_stack, many_sizes Data p.parts.items);
+    regions = omega (arith, u.regions, one_stack, one_text, many_sizes Data p.parts.items);
     pages = omega (arith, u.pages, seen_length m Data p.parts.items run.parts, seen_length m Stack p.parts.items run.parts);
   }

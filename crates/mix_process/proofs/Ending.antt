@@ -37,6 +37,7 @@ use Rattle.mix_process.specs.declared.process.Part.{Part}
 use Rattle.mix_process.specs.declared.process.Process.{Process}
 use Rattle.mix_process.proofs.Able.{AreRenamed, able_after, ended, is_call, own_caches, parts_apart, respared, sync_after, tied_ended, tied_renamed}
 use Rattle.mix_process.proofs.Clearing.{own_kept}
+use Rattle.mix_process.proofs.Having.{had}
 use Rattle.mix_process.proofs.Lists.{number_at}
 use Rattle.mix_process.proofs.Putting.{number_other}
 use Rattle.mix_process.proofs.Single.{none_here, refused_called}
@@ -243,7 +244,7 @@ module _ {Manager X Chooser : Type 0} (M : GhostsOfMapper X) (G : GhostsOfGmi Ma
     made = omega (arith, e.made, ap G.made gmi);
     rises = e.rises;
     rose = e.rose;
-    is = record { step = go (segments_of (M.held after)) refl; segments = e.segments };
+    is = record { step = go (segments_of (M.held after)) refl; has = had G new (M.held after) (M.page_bytes after) e.able; segments = e.segments };
   }
     where
       n : Machine
@@ -270,7 +271,7 @@ module _ {Manager X Chooser : Type 0} (M : GhostsOfMapper X) (G : GhostsOfGmi Ma
       }
 
       go : (told : Option Segments) → segments_of (M.held after) ≡ told → StepAt told (state_of G old (M.held mapper)) (commands.Exit of) (Ok replies.Done) e.rises (state_of G new (M.held after))
-      go None untold = step_filled (segments_of (M.held mapper)) (segments_of (M.held after)) s (processes_seen n new.processes.items new.images.items) _ _ (commands.Exit of) (Ok replies.Done) e.rises
+      go None untold = step_filled (segments_of (M.held mapper)) (segments_of (M.held after)) s (processes_seen n new.processes.items new.images.items) _ _ (commands.Exit of) (Ok replies.Done) e.rises can.tied.page
           (seen_filled (G.machine old.gmi (M.held mapper)) old.processes.items old.images.items (as_untold (M.held mapper) (sym e.segments ∙ untold) can.blank))
           (seen_filled n new.processes.items new.images.items (as_untold (M.held after) untold e.able.blank))
           (λ h. (let there = (like_filled s).somebody of.0 (process_seen (G.machine old.gmi (M.held mapper)) p) living in record {

@@ -41,13 +41,14 @@ use Rattle.mix_process.specs.declared.process.Process.{Process}
 use Rattle.mix_process.proofs.Back.{one_end}
 use Rattle.mix_process.proofs.Executing.{image_filled, process_filled, row_large, segments_for, step_bad, step_fault, step_good, step_lacks, step_many, step_memory, step_nothing, with_image_filled}
 use Rattle.mix_process.proofs.Forking.{seen_kept}
+use Rattle.mix_process.proofs.Having.{had}
 use Rattle.mix_process.proofs.Imaging.{image_seen_for, image_there, map_snoc}
 use Rattle.mix_process.proofs.Inheriting.{set_last}
 use Rattle.mix_process.proofs.Seeing.{pages_there}
 use Rattle.mix_process.proofs.Single.{refused_called}
-use Rattle.mix_process.proofs.Untold.{as_untold, filled_up, seen_filled, zeros}
+use Rattle.mix_process.proofs.Untold.{as_untold, filled_up, seen_filled, step_with, zeros}
 use Rattle.mix_process.proofs.Using.{lack_still}
-use Rattle.mix_process.proofs.ExecSteps.{alive_one, fit_sizes, made_sum, step_with, told_holds}
+use Rattle.mix_process.proofs.ExecSteps.{alive_one, fit_sizes, made_sum, told_holds}
 
 module _ {Manager X Chooser : Type 0} (M : GhostsOfMapper X) (G : GhostsOfGmi Manager X Chooser) (old : Mix Manager) (before : X) (can : CanCall G old (M.held before) (M.page_bytes before)) (seg : SegId) (text data_pages stack : ℕ) where
   abbrev m : Machine
@@ -91,7 +92,7 @@ module _ {Manager X Chooser : Type 0} (M : GhostsOfMapper X) (G : GhostsOfGmi Ma
           → (now ≡ None → (h : Segments) × StepOver h (record { processes = filled_up s; usage = u; segments = base }) command a rises (record { processes = filled_up next; usage = v; segments = now }))
           → (told : Option Segments) → now ≡ told → StepAt told (state_of G old (M.held before)) command a rises (state_of G new (M.held after))
       lift a f g (Some h) e = f h e
-      lift a f g None e = let k = g e in step_with k.0 base now s next u v command a rises (bare_before e) (bare_after e) k.1
+      lift a f g None e = let k = g e in step_with k.0 base now s next u v command a rises can.tied.page (bare_before e) (bare_after e) k.1
 
       over : (h : Segments) (x z w : ProcessMachine) (a : Answer) → w ≡ z → StepOver h (record { processes = x; usage = u; segments = base }) command a rises (record { processes = z; usage = v; segments = now })
           → StepOver h (record { processes = x; usage = u; segments = base }) command a rises (record { processes = w; usage = v; segments = now })
@@ -159,7 +160,7 @@ module _ {Manager X Chooser : Type 0} (M : GhostsOfMapper X) (G : GhostsOfGmi Ma
 
         -- the process that is made
         abbrev pub made_of : Option Segments → model.Process
-        made_of told = record { text_pages = take text pages; data_pages = take data_pages (drop text pages); stack_pages = replicate stack (fresh_page told 4096); pieces = 1 }
+        made_of told = record { text_pages = take text pages; data_pages = take data_pages (drop text pages); stack_pages = replicate stack (fresh_page told 4096); pieces = data_pages ∷ [] }
 
         as_told : (h : Segments) → now ≡ Some h → made_of now ≡ process_from s.page_bytes pages text data_pages stack
         as_told h e = ap (λ (o : Option Segments). made_of o) e ∙ ap (λ (b : ℕ). process_from b pages text data_pages stack) (sym can.tied.page)
@@ -200,6 +201,7 @@ module _ {Manager X Chooser : Type 0} (M : GhostsOfMapper X) (G : GhostsOfGmi Ma
         step = unopened new after op.rises op.can op.segments (opened_raise (usage_for 3 0) (usage_of (G.machine new.gmi (M.held after))) u (ap usage_of op.opens.machine))
             (image_seen_for m old.images.items seg.0 ∙ ap (option_map (λ (i : Image). cache_pages m i.cache.0)) op.opens.none)
             (λ i. processes_seen (op.opens.machine i) (op.processes i).items (op.opens.images i)) (opened_raise one_cache (usage_of (G.machine new.gmi (M.held after))) u (ap usage_of op.opens.machine)) t op.opens.why;
+        has = had G new (M.held after) (M.page_bytes after) op.can;
         segments = op.segments;
       };
     }
@@ -249,14 +251,14 @@ module _ {Manager X Chooser : Type 0} (M : GhostsOfMapper X) (G : GhostsOfGmi Ma
         made = omega (arith, op.made);
         rises = op.rises;
         rose = op.rose;
-        is = record { step = lacks mid after op.rises op.can op.segments mid_raise pages holds has troubles.Memory seen_mid tt; segments = op.segments };
+        is = record { step = lacks mid after op.rises op.can op.segments mid_raise pages holds has troubles.Memory seen_mid tt; has = had G mid (M.held after) (M.page_bytes after) op.can; segments = op.segments };
       }
       not_checked (troubles.Refused refusals.BadImage) h = record {
         can = op.can;
         made = omega (arith, op.made);
         rises = op.rises;
         rose = op.rose;
-        is = record { step = bad mid after op.rises op.can op.segments mid_raise pages holds has mid_one seen_mid (omega (arith, h, ap (λ (xs : List Page). length xs) pages_is)); segments = op.segments };
+        is = record { step = bad mid after op.rises op.can op.segments mid_raise pages holds has mid_one seen_mid (omega (arith, h, ap (λ (xs : List Page). length xs) pages_is)); has = had G mid (M.held after) (M.page_bytes after) op.can; segments = op.segments };
       }
       not_checked t h = absurd h
 
@@ -274,6 +276,7 @@ module _ {Manager X Chooser : Type 0} (M : GhostsOfMapper X) (G : GhostsOfGmi Ma
           step = lacks new after op.rises st.can op.segments (subst (λ (x : Machine). RaisedBy (usage_for 3 0) u (usage_of x)) (sym st.starts.machine) mid_raise) pages holds has t
               ((λ i. processes_seen (st.starts.machine i) (st.starts.table i) (st.images i).items) ∙ seen_mid)
               (lack_still u (usage_for 3 (length pages + data_pages + stack)) (usage_of n) usage_to_start start_less t st.starts.why);
+          has = had G new (M.held after) (M.page_bytes after) st.can;
           segments = op.segments;
         };
       }
@@ -353,25 +356,26 @@ module _ {Manager X Chooser : Type 0} (M : GhostsOfMapper X) (G : GhostsOfGmi Ma
           rose = rise_then (M.counts before) (M.counts after) (M.counts now) op.rises f.rises op.rose f.rose;
           is = record {
             step = good next now (counts_sum op.rises f.rises) f.can (f.segments ∙ op.segments) (raise_now (Ok tt) next now f) pages (holds_at now f.segments) has (length next.processes.items) many seen (omega (arith, enough, ap (λ (xs : List Page). length xs) pages_is));
+            has = had G next (M.held now) (M.page_bytes now) f.can;
             segments = f.segments ∙ op.segments;
           };
         }
           where
-            child_is : loaded (segments_of (M.held after)) k text_part data_pages stack ≡ record { text_pages = take text pages; data_pages = take data_pages (drop text pages); stack_pages = replicate stack (fresh_page (segments_of (M.held now)) 4096); pieces = 1 }
+            child_is : loaded (segments_of (M.held after)) k text_part data_pages stack ≡ record { text_pages = take text pages; data_pages = take data_pages (drop text pages); stack_pages = replicate stack (fresh_page (segments_of (M.held now)) 4096); pieces = data_pages ∷ [] }
             child_is = λ i. record {
               text_pages = take text (pages_now i);
               data_pages = take data_pages (drop text (pages_now i));
               stack_pages = replicate stack (fresh_page (sym f.segments i) (st.can.tied.page i));
-              pieces = 1;
+              pieces = data_pages ∷ [];
             }
 
             seen : processes_seen (G.machine next.gmi (M.held now)) next.processes.items next.images.items
-                ≡ record whole { processes = whole.processes ++ Some (record { text_pages = take text pages; data_pages = take data_pages (drop text pages); stack_pages = replicate stack (fresh_page (segments_of (M.held now)) 4096); pieces = 1 }) ∷ [] }
+                ≡ record whole { processes = whole.processes ++ Some (record { text_pages = take text pages; data_pages = take data_pages (drop text pages); stack_pages = replicate stack (fresh_page (segments_of (M.held now)) 4096); pieces = data_pages ∷ [] }) ∷ [] }
             seen = f.loads
                 ∙ (λ i. put_at (processes_seen (st.starts.machine i) (st.starts.table i) (st.images i).items) (length mid.processes.items) (child_is i))
-                ∙ (λ i. record (processes_seen n mid.processes.items mid.images.items) { processes = set (map_snoc (option_map (process_seen n)) mid.processes.items (Some st.starts.process) i) (length mid.processes.items) (Some (record { text_pages = take text pages; data_pages = take data_pages (drop text pages); stack_pages = replicate stack (fresh_page (segments_of (M.held now)) 4096); pieces = 1 })) })
-                ∙ (λ i. record (processes_seen n mid.processes.items mid.images.items) { processes = set_last (map (option_map (process_seen n)) mid.processes.items) (Some (process_seen n st.starts.process)) (Some (record { text_pages = take text pages; data_pages = take data_pages (drop text pages); stack_pages = replicate stack (fresh_page (segments_of (M.held now)) 4096); pieces = 1 })) (length mid.processes.items) (sym (length-map mid.processes.items (option_map (process_seen n)))) i })
-                ∙ ap (λ (x : ProcessMachine). record x { processes = x.processes ++ Some (record { text_pages = take text pages; data_pages = take data_pages (drop text pages); stack_pages = replicate stack (fresh_page (segments_of (M.held now)) 4096); pieces = 1 }) ∷ [] }) seen_mid
+                ∙ (λ i. record (processes_seen n mid.processes.items mid.images.items) { processes = set (map_snoc (option_map (process_seen n)) mid.processes.items (Some st.starts.process) i) (length mid.processes.items) (Some (record { text_pages = take text pages; data_pages = take data_pages (drop text pages); stack_pages = replicate stack (fresh_page (segments_of (M.held now)) 4096); pieces = data_pages ∷ [] })) })
+                ∙ (λ i. record (processes_seen n mid.processes.items mid.images.items) { processes = set_last (map (option_map (process_seen n)) mid.processes.items) (Some (process_seen n st.starts.process)) (Some (record { text_pages = take text pages; data_pages = take data_pages (drop text pages); stack_pages = replicate stack (fresh_page (segments_of (M.held now)) 4096); pieces = data_pages ∷ [] })) (length mid.processes.items) (sym (length-map mid.processes.items (option_map (process_seen n)))) i })
+                ∙ ap (λ (x : ProcessMachine). record x { processes = x.processes ++ Some (record { text_pages = take text pages; data_pages = take data_pages (drop text pages); stack_pages = replicate stack (fresh_page (segments_of (M.held now)) 4096); pieces = data_pages ∷ [] }) ∷ [] }) seen_mid
 
             many : length next.processes.items ≡ length whole.processes + 1
             many = ap (λ (xs : List (Option Process)). length xs) f.table ∙ length-append mid.processes.items (Some f.child ∷ []) ∙ ap (λ (x : ℕ). x + 1) (sym (length-map mid.processes.items (option_map (process_seen n))) ∙ ap (λ (x : ProcessMachine). length x.processes) seen_mid)
@@ -386,6 +390,7 @@ module _ {Manager X Chooser : Type 0} (M : GhostsOfMapper X) (G : GhostsOfGmi Ma
           is = record {
             step = lacks new last (counts_sum op.rises (counts_sum f.rises b.rises)) b.can (b.segments ∙ f.segments ∙ op.segments) all pages (holds_at last (b.segments ∙ f.segments)) has t seen
                 (lack_still u (usage_for 3 (length pages + data_pages + stack)) (usage_of k) (usage_to_load data_pages stack) less t f.loads);
+            has = had G new (M.held last) (M.page_bytes last) b.can;
             segments = b.segments ∙ f.segments ∙ op.segments;
           };
         }

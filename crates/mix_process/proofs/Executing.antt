@@ -176,10 +176,10 @@ module _ (x : ProcessMachine) (seg : SegId) (text data_pages stack : ℕ) where
 -- The process, filled with zeros
 
 pub process_filled : (pages : List Page) (text data_pages stack : ℕ)
-    → each_of zeros (record { text_pages = take text pages; data_pages = take data_pages (drop text pages); stack_pages = replicate stack []; pieces = 1 }) ≡ process_from 4096 (map zeros pages) text data_pages stack
+    → each_of zeros (record { text_pages = take text pages; data_pages = take data_pages (drop text pages); stack_pages = replicate stack []; pieces = data_pages ∷ [] }) ≡ process_from 4096 (map zeros pages) text data_pages stack
 process_filled pages text data_pages stack = λ i. record {
   text_pages = sym (take-map zeros text pages) i;
   data_pages = (sym (take-map zeros data_pages (drop text pages)) ∙ ap (take data_pages) (sym (drop-map zeros text pages))) i;
   stack_pages = map-replicate zeros stack [] i;
-  pieces = 1;
+  pieces = data_pages ∷ [];
 }

@@ -36,6 +36,7 @@ use Rattle.mix_process.specs.declared.mix.Mix.{Mix}
 use Rattle.mix_process.specs.declared.process.Process.{Process}
 use Rattle.mix_process.proofs.Back.{one_end}
 use Rattle.mix_process.proofs.Counts.{used_to_fork}
+use Rattle.mix_process.proofs.Having.{had}
 use Rattle.mix_process.proofs.Imaging.{map_snoc}
 use Rattle.mix_process.proofs.Inheriting.{set_last}
 use Rattle.mix_process.proofs.Keeping.{images_kept, numbered_at, processes_kept}
@@ -92,7 +93,7 @@ module _ (x : ProcessMachine) (of : ProcId) where
     step_forks = record { outcome = row_some p there; raised = raised }
 
 zeros_to_fork : (p : model.Process) → usage_to_fork (each_of zeros p) ≡ usage_to_fork p
-zeros_to_fork p = λ i. usage_for (2 + p.pieces) (length-map p.text_pages zeros i + length-map p.data_pages zeros i + length-map p.stack_pages zeros i)
+zeros_to_fork p = λ i. usage_for (2 + length p.pieces) (length-map p.text_pages zeros i + length-map p.data_pages zeros i + length-map p.stack_pages zeros i)
 
 module _ {Manager X Chooser : Type 0} (M : GhostsOfMapper X) (G : GhostsOfGmi Manager X Chooser) (old : Mix Manager) (before : X) (can : CanCall G old (M.held before) (M.page_bytes before)) (of : ProcId) where
   abbrev m : Machine
@@ -154,7 +155,7 @@ module _ {Manager X Chooser : Type 0} (M : GhostsOfMapper X) (G : GhostsOfGmi Ma
       pub lacks : (t : Trouble) → next ≡ s → IsLack u (usage_to_fork P) t → (told : Option Segments) → segments_of (M.held after) ≡ told → StepAt told (state_of G old (M.held before)) (commands.Fork of) (Err t) rises (state_of G new (M.held after))
       lacks t is lack (Some h) e = subst (λ (y : ProcessMachine). StepOver h (state_of G old (M.held before)) (commands.Fork of) (Err t) rises (record { processes = y; usage = v; segments = segments_of (M.held after) })) (sym is)
           (step_lacks s of P process_is u v h (segments_of (M.held before)) (segments_of (M.held after)) rises within.actors within.caches within.regions t lack)
-      lacks t is lack None e = step_filled (segments_of (M.held before)) (segments_of (M.held after)) s next u v (commands.Fork of) (Err t) rises (bare_before e) (bare_after e) (λ h.
+      lacks t is lack None e = step_filled (segments_of (M.held before)) (segments_of (M.held after)) s next u v (commands.Fork of) (Err t) rises can.tied.page (bare_before e) (bare_after e) (λ h.
           subst (λ (y : ProcessMachine). StepOver h (record { processes = filled_up s; usage = u; segments = segments_of (M.held before) }) (commands.Fork of) (Err t) rises (record { processes = y; usage = v; segments = segments_of (M.held after) })) (ap (λ (y : ProcessMachine). filled_up y) (sym is))
           (step_lacks (filled_up s) of (each_of zeros P) zeros_there u v h (segments_of (M.held before)) (segments_of (M.held after)) rises within.actors within.caches within.regions t (subst (λ (more : Usage). IsLack u more t) (sym (zeros_to_fork P)) lack)))
 
@@ -164,7 +165,7 @@ module _ {Manager X Chooser : Type 0} (M : GhostsOfMapper X) (G : GhostsOfGmi Ma
           (subst (λ (k : ℕ). StepOver h (state_of G old (M.held before)) (commands.Fork of) (Ok (replies.Process (record { 0 = k }))) rises (state_of G new (M.held after))) (sym many)
           (subst (λ (y : ProcessMachine). StepOver h (state_of G old (M.held before)) (commands.Fork of) (Ok (replies.Process (record { 0 = length s.processes + 1 }))) rises (record { processes = y; usage = v; segments = segments_of (M.held after) })) (sym is)
           (step_forks s of P process_is u v h (segments_of (M.held before)) (segments_of (M.held after)) rises within.actors within.caches within.regions)))
-      forks n many is None e = step_filled (segments_of (M.held before)) (segments_of (M.held after)) s next u v (commands.Fork of) (Ok (replies.Process (record { 0 = n }))) rises (bare_before e) (bare_after e) (λ h.
+      forks n many is None e = step_filled (segments_of (M.held before)) (segments_of (M.held after)) s next u v (commands.Fork of) (Ok (replies.Process (record { 0 = n }))) rises can.tied.page (bare_before e) (bare_after e) (λ h.
           (subst (λ (k : ℕ). StepOver h (record { processes = filled_up s; usage = u; segments = segments_of (M.held before) }) (commands.Fork of) (Ok (replies.Process (record { 0 = k }))) rises (record { processes = filled_up next; usage = v; segments = segments_of (M.held after) }))
           (ap (λ (k : ℕ). k + 1) (length-map s.processes (option_map (each_of zeros))) ∙ sym many)
           (subst (λ (y : ProcessMachine). StepOver h (record { processes = filled_up s; usage = u; segments = segments_of (M.held before) }) (commands.Fork of) (Ok (replies.Process (record { 0 = length (filled_up s).processes + 1 }))) rises (record { processes = y; usage = v; segments = segments_of (M.held after) }))
@@ -181,6 +182,7 @@ module _ {Manager X Chooser : Type 0} (M : GhostsOfMapper X) (G : GhostsOfGmi Ma
       is = record {
         step = lacks new before no_counts st.can refl (subst (λ (x : Machine). RaisedBy (usage_to_fork P) u (usage_of x)) (sym st.starts.machine) (record { actors = omega arith; caches = omega arith; regions = omega arith })) t
             (λ i. processes_seen (st.starts.machine i) (st.starts.table i) (st.images i).items) (lack_still u (usage_to_fork P) u usage_to_start start_less t st.starts.why) (segments_of (M.held before)) refl;
+        has = had G new (M.held before) (M.page_bytes before) st.can;
         segments = refl;
       };
     }
@@ -227,7 +229,7 @@ module _ {Manager X Chooser : Type 0} (M : GhostsOfMapper X) (G : GhostsOfGmi Ma
         made = omega (arith, st.made, f.made);
         rises = f.rises;
         rose = f.rose;
-        is = record { step = forks next now f.rises f.can f.segments (let w = used next now (Ok tt) f in record { actors = w.actors; caches = w.caches; regions = w.regions }) (length next.processes.items) many seen (segments_of (M.held now)) refl; segments = f.segments };
+        is = record { step = forks next now f.rises f.can f.segments (let w = used next now (Ok tt) f in record { actors = w.actors; caches = w.caches; regions = w.regions }) (length next.processes.items) many seen (segments_of (M.held now)) refl; has = had G next (M.held now) (M.page_bytes now) f.can; segments = f.segments };
       }
         where
           child_same : process_seen k p ≡ P
@@ -250,7 +252,7 @@ module _ {Manager X Chooser : Type 0} (M : GhostsOfMapper X) (G : GhostsOfGmi Ma
         made = omega (arith, st.made, f.made, b.made);
         rises = counts_sum f.rises b.rises;
         rose = rise_then (M.counts before) (M.counts now) (M.counts after) f.rises b.rises f.rose b.rose;
-        is = record { step = lacks new after (counts_sum f.rises b.rises) b.can (b.segments ∙ f.segments) all t seen (lack_still u (usage_to_fork P) (usage_of k) (usage_of_parts p.parts.items) less t f.inherits) (segments_of (M.held after)) refl; segments = b.segments ∙ f.segments };
+        is = record { step = lacks new after (counts_sum f.rises b.rises) b.can (b.segments ∙ f.segments) all t seen (lack_still u (usage_to_fork P) (usage_of k) (usage_of_parts p.parts.items) less t f.inherits) (segments_of (M.held after)) refl; has = had G new (M.held after) (M.page_bytes after) b.can; segments = b.segments ∙ f.segments };
       }
         where
           items : new.processes.items ≡ old.processes.items

@@ -1,8 +1,8 @@
 -- How the data of a process grow.
-use Rattle.std.proofs.Common.{◌≡◌, ℕ, ◌+◌, ◌-◌, ◌≤◌, ◌<◌, Bool, true, false, List, [], ◌++◌, length, map, replicate, Option, Some, None, refl, sym, ap, subst, ◌∙◌, arith}
+use Rattle.std.proofs.Common.{◌≡◌, ℕ, ◌+◌, ◌-◌, ◌≤◌, ◌<◌, Bool, true, false, List, [], ◌∷◌, ◌++◌, length, map, replicate, Option, Some, None, refl, sym, ap, subst, ◌∙◌, arith}
 use Rattle.std.specs.Prelude.{Ok, Err, Result, nat_lt, option_map, slice_get}
 use Rattle.std.proofs.lemmas.Bool.Decides.{nat_tests}
-use Rattle.std.proofs.lemmas.List.{length-map, map-append}
+use Rattle.std.proofs.lemmas.List.{length-map, length-replicate, map-append}
 use Rattle.vm_ids.specs.Counting.{MapperCounts}
 use Rattle.vm_ids.specs.Held.{Segments, segments_of}
 use Rattle.vm_ids.specs.declared.command.MixCommand.TheVariants as commands
@@ -32,6 +32,7 @@ use Rattle.mix_process.specs.declared.area.Area.TheVariants.{Data}
 use Rattle.mix_process.specs.declared.area.TheConstants.{MOST_DATA}
 use Rattle.mix_process.specs.declared.mix.Mix.{Mix}
 use Rattle.mix_process.specs.declared.process.Process.{Process}
+use Rattle.mix_process.proofs.Having.{had}
 use Rattle.mix_process.proofs.Mapped.{at_place}
 use Rattle.mix_process.proofs.Seeing.{seen_length}
 use Rattle.mix_process.proofs.Single.{none_here, refused_called}
@@ -129,7 +130,9 @@ module _ {Manager X Chooser : Type 0} (M : GhostsOfMapper X) (G : GhostsOfGmi Ma
         number = omega (arith, at)
 
         grows : (h : Segments) (r : Result (Unit {0}) Trouble) → Adds m n (Some h) old place p Data pages None r new → GrowsTo s (usage_of m) of.0 pages (process_seen m p) r next
-        grows h (Ok u) adds = adds.seen ∙ ap (λ (k : ℕ). put_at s k (with_more Data (replicate pages (fresh_page (Some h) m.page_bytes)) (process_seen m p))) number
+        grows h (Ok u) adds = adds.seen
+            ∙ ap (λ (k : ℕ). put_at s k (with_more Data (replicate pages (fresh_page (Some h) m.page_bytes)) (process_seen m p))) number
+            ∙ ap (λ (n : ℕ). put_process s of.0 (Some (record (grown_by m.page_bytes pages (process_seen m p)) { pieces = (process_seen m p).pieces ++ n ∷ [] }))) (length-replicate {A = Page} pages (zero_page m.page_bytes))
         grows h (Err t) adds = (adds.seen, adds.lack)
 
         raised : RaisedBy (usage_to_grow pages) (usage_of m) (usage_of n)
@@ -142,7 +145,7 @@ module _ {Manager X Chooser : Type 0} (M : GhostsOfMapper X) (G : GhostsOfGmi Ma
         more_filled : each_of zeros (with_more Data (replicate pages (fresh_page None m.page_bytes)) (process_seen m p)) ≡ grown_by m.page_bytes pages (each_of zeros (process_seen m p))
         more_filled = λ i. record (each_of zeros (process_seen m p)) {
           data_pages = (map-append zeros (process_seen m p).data_pages (replicate pages []) ∙ ap (λ (xs : List Page). map zeros (process_seen m p).data_pages ++ xs) (map-replicate zeros pages [] ∙ ap (λ (b : ℕ). replicate pages (zero_page b)) (sym can.tied.page))) i;
-          pieces = (process_seen m p).pieces + 1;
+          pieces = (process_seen m p).pieces ++ length-replicate {A = Page} pages [] i ∷ [];
         }
 
         grows_filled : (r : Result (Unit {0}) Trouble) → Adds m n None old place p Data pages None r new → GrowsTo (filled_up s) (usage_of m) of.0 pages (each_of zeros (process_seen m p)) r (filled_up next)
@@ -153,7 +156,7 @@ module _ {Manager X Chooser : Type 0} (M : GhostsOfMapper X) (G : GhostsOfGmi Ma
         grows_filled (Err t) adds = (ap filled_up adds.seen, adds.lack)
 
         step : (told : Option Segments) → segments_of (M.held after) ≡ told → Adds m n told old place p Data pages None result new → StepAt told (state_of G old (M.held mapper)) (commands.Grow of pages) (done_by result) a.rises (state_of G new (M.held after))
-        step None untold adds = step_filled (segments_of (M.held mapper)) (segments_of (M.held after)) s next (usage_of m) (usage_of n) (commands.Grow of pages) (done_by result) a.rises
+        step None untold adds = step_filled (segments_of (M.held mapper)) (segments_of (M.held after)) s next (usage_of m) (usage_of n) (commands.Grow of pages) (done_by result) a.rises can.tied.page
             (seen_filled m old.processes.items old.images.items (as_untold (M.held mapper) (sym a.segments ∙ untold) can.blank))
             (seen_filled n new.processes.items new.images.items (as_untold (M.held after) untold a.can.blank))
             (λ h. record {
@@ -173,6 +176,7 @@ module _ {Manager X Chooser : Type 0} (M : GhostsOfMapper X) (G : GhostsOfGmi Ma
           rose = a.rose;
           is = record {
             step = step (segments_of (M.held after)) refl (subst (λ (told : Option Segments). Adds m n told old place p Data pages None result new) (sym a.segments) a.adds);
+            has = had G new (M.held after) (M.page_bytes after) a.can;
             segments = a.segments;
           };
         }

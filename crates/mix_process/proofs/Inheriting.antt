@@ -1,13 +1,13 @@
 -- The last process gets what its parent has, part by part.
-use Rattle.std.proofs.Common.{◌≡◌, ℕ, zero, suc, ◌+◌, ◌-◌, ◌≤◌, ◌<◌, Bool, true, false, cond, List, [], ◌∷◌, ◌++◌, length, map, set, take, Option, Some, None, refl, sym, ap, subst, ◌∙◌, arith}
+use Rattle.std.proofs.Common.{◌≡◌, ℕ, zero, suc, ◌+◌, ◌-◌, ◌≤◌, ◌<◌, Bool, cond, List, [], ◌∷◌, ◌++◌, length, map, set, take, Option, Some, None, refl, sym, ap, subst, ◌∙◌, arith}
 use Rattle.std.specs.Prelude.{IfSome, Ok, Err, option_map, slice_get}
 use Rattle.std.specs.Option.{option_map_or}
-use Rattle.std.proofs.lemmas.List.{append-nil, length-append, length-map}
+use Rattle.std.proofs.lemmas.List.{length-append, length-map}
 use Rattle.std.proofs.lemmas.Option.{slice_get_within}
 use Rattle.vm_ids.specs.Counting.{MapperCounts, Rise, counts_sum, no_counts}
 use Rattle.vm_ids.specs.Held.{segments_of}
 use Rattle.vm_ids.specs.declared.reply.Trouble.{Trouble}
-use Rattle.vm_model.specs.Machine.{Cache, Machine, Page, cache_of, numbered}
+use Rattle.vm_model.specs.Machine.{Cache, Machine, cache_of, numbered}
 use Rattle.vm_model.proofs.Parts.Lists.{get_set_same}
 use Rattle.vm_port.specs.declared.traits.mapper.Mapper.{Ghosts as GhostsOfMapper}
 use Rattle.gmi_calls.specs.declared.gmi.Gmi.{Ghosts as GhostsOfGmi}
@@ -16,24 +16,23 @@ use Rattle.mix_process.specs.Adding.{AreKept, most_of, put_at, with_more}
 use Rattle.mix_process.specs.Copying.{IsCopied, IsInherited, MayCopy, MayInherit, copy_budget, cost_to_copy, usage_of_parts, usage_to_copy}
 use Rattle.mix_process.specs.Outcome.{Usage, usage_of}
 use Rattle.mix_process.specs.ProcessMachine as model
-use Rattle.mix_process.specs.ProcessMachine.{ProcessMachine, may_write}
-use Rattle.mix_process.specs.Seen.{area_seen, pages_in, part_seen, parts_in, process_seen, processes_seen, same_area}
+use Rattle.mix_process.specs.ProcessMachine.{ProcessMachine}
+use Rattle.mix_process.specs.Seen.{pages_in, part_seen, process_seen, processes_seen, same_area}
 use Rattle.mix_process.specs.Tying.{CanCall, IsPart, IsRun}
 use Rattle.mix_process.specs.Use.{IsWithin, usage_sum}
 use Rattle.mix_process.specs.declared.area.Area.{Area}
-use Rattle.mix_process.specs.declared.area.Area.TheVariants.{Data, Stack, Text}
 use Rattle.mix_process.specs.declared.mix.Mix.{Mix}
 use Rattle.mix_process.specs.declared.process.Part.{Part}
 use Rattle.mix_process.specs.declared.process.Process.{Process}
 use Rattle.mix_process.proofs.Clearing.{parts_kept}
 use Rattle.mix_process.proofs.Counts.{cheap, cost_of_parts, have_some}
-use Rattle.mix_process.proofs.Joining.{map_place, set_same}
+use Rattle.mix_process.proofs.Joining.{map_place, one_more_seen, parts_seen, set_same}
 use Rattle.mix_process.proofs.Keeping.{numbered_at}
 use Rattle.mix_process.proofs.Lists.{get_append, get_last, take_none}
 use Rattle.mix_process.proofs.Looking.{pages-append, same_self}
 use Rattle.mix_process.proofs.Mapping.{small_in}
 use Rattle.mix_process.proofs.Putting.{all_at}
-use Rattle.mix_process.proofs.Seeing.{seen-append}
+use Rattle.mix_process.proofs.Seeing.{part_length}
 use Rattle.mix_process.proofs.Taking.{part_cache}
 use Rattle.mix_process.proofs.Using.{lack_still}
 
@@ -65,59 +64,6 @@ pub set_again : {A : Type 0} (xs : List A) (k : ℕ) (x y : A) → set (set xs k
 set_again [] k x y = refl
 set_again (z ∷ xs) zero x y = refl
 set_again (z ∷ xs) (suc k) x y = ap (λ zs. z ∷ zs) (set_again xs k x y)
-
--- What parts show
-
-abbrev pub parts_seen : Machine → List Part → model.Process
-parts_seen m parts = record {
-  text_pages = area_seen m Text parts;
-  data_pages = area_seen m Data parts;
-  stack_pages = area_seen m Stack parts;
-  pieces = parts_in Data parts;
-}
-
-parts-append : (area : Area) (xs ys : List Part) → parts_in area (xs ++ ys) ≡ parts_in area xs + parts_in area ys
-parts-append area [] ys = omega arith
-parts-append area (p ∷ xs) ys = omega (arith, parts-append area xs ys)
-
-module _ (m : Machine) (xs : List Part) (part : Part) where
-  shows : (area : Area) (b : Bool) → same_area part.area area ≡ b → area_seen m area (xs ++ part ∷ []) ≡ area_seen m area xs ++ cond b (part_seen m part) []
-  shows area b e = seen-append m area xs (part ∷ []) ∙ ap (λ (c : Bool). area_seen m area xs ++ (cond c (part_seen m part) [] ++ [])) e ∙ ap (λ (ys : List Page). area_seen m area xs ++ ys) (append-nil (cond b (part_seen m part) []))
-
-  more : (area : Area) → same_area part.area area ≡ true → area_seen m area (xs ++ part ∷ []) ≡ area_seen m area xs ++ part_seen m part
-  more area e = shows area true e
-
-  same : (area : Area) → same_area part.area area ≡ false → area_seen m area (xs ++ part ∷ []) ≡ area_seen m area xs
-  same area e = shows area false e ∙ append-nil (area_seen m area xs)
-
-  pieces_by : (b : Bool) → same_area part.area Data ≡ b → parts_in Data (xs ++ part ∷ []) ≡ parts_in Data xs + cond b 1 0
-  pieces_by b e = parts-append Data xs (part ∷ []) ∙ ap (λ (c : Bool). parts_in Data xs + (cond c 1 0 + 0)) e ∙ (let z : parts_in Data xs + (cond b 1 0 + 0) ≡ parts_in Data xs + cond b 1 0 = omega arith in z)
-
-  no_piece : same_area part.area Data ≡ false → parts_in Data (xs ++ part ∷ []) ≡ parts_in Data xs
-  no_piece e = pieces_by false e ∙ (let z : parts_in Data xs + 0 ≡ parts_in Data xs = omega arith in z)
-
-  seen_by : (a : Area) → part.area ≡ a → parts_seen m (xs ++ part ∷ []) ≡ with_more a (part_seen m part) (parts_seen m xs)
-  seen_by Text e = λ i. record {
-    text_pages = more Text (ap (λ (a : Area). same_area a Text) e) i;
-    data_pages = same Data (ap (λ (a : Area). same_area a Data) e) i;
-    stack_pages = same Stack (ap (λ (a : Area). same_area a Stack) e) i;
-    pieces = no_piece (ap (λ (a : Area). same_area a Data) e) i;
-  }
-  seen_by Data e = λ i. record {
-    text_pages = same Text (ap (λ (a : Area). same_area a Text) e) i;
-    data_pages = more Data (ap (λ (a : Area). same_area a Data) e) i;
-    stack_pages = same Stack (ap (λ (a : Area). same_area a Stack) e) i;
-    pieces = pieces_by true (ap (λ (a : Area). same_area a Data) e) i;
-  }
-  seen_by Stack e = λ i. record {
-    text_pages = same Text (ap (λ (a : Area). same_area a Text) e) i;
-    data_pages = same Data (ap (λ (a : Area). same_area a Data) e) i;
-    stack_pages = more Stack (ap (λ (a : Area). same_area a Stack) e) i;
-    pieces = no_piece (ap (λ (a : Area). same_area a Data) e) i;
-  }
-
-  pub one_more_seen : parts_seen m (xs ++ part ∷ []) ≡ with_more part.area (part_seen m part) (parts_seen m xs)
-  one_more_seen = seen_by part.area refl
 
 -- What parts use and cost
 
@@ -352,7 +298,7 @@ module _ {Manager X Chooser : Type 0} (M : GhostsOfMapper X) (G : GhostsOfGmi Ma
         seen = h.copies.seen
             ∙ (λ i. put_at (a.seen i) (a.at i) (with_more part.area (part_as i) (child_seen i)))
             ∙ (λ i. record S { processes = set_again S.processes L (Some (parts_seen m (take next p.parts.items))) (Some (with_more part.area (part_seen m part) (parts_seen m (take next p.parts.items)))) i })
-            ∙ ap (put_at S L) (sym (ap (parts_seen m) next_is ∙ one_more_seen m (take next p.parts.items) part));
+            ∙ ap (put_at S L) (sym (ap (parts_seen m) next_is ∙ one_more_seen m (take next p.parts.items) part (part_length m part was_part)));
         kept = λ k c e. h.kept k c (a.kept k c e);
         used = used_then (usage_of m) (usage_of n) (usage_of (G.machine new.gmi (M.held after))) (usage_of_parts (take next p.parts.items)) (usage_to_copy part) (usage_of_parts (take (next + 1) p.parts.items)) a.used h.used used_less;
         made = omega (arith, a.made, h.made, cost_is);

@@ -1,12 +1,12 @@
 -- What is seen of a process that has one part more, and of processes whose caches are kept.
-use Rattle.std.proofs.Common.{◌≡◌, ℕ, zero, suc, ◌+◌, ◌-◌, Bool, true, false, cond, List, [], ◌∷◌, ◌++◌, map, set, Option, Some, None, refl, sym, ap, ◌∙◌, arith}
+use Rattle.std.proofs.Common.{◌≡◌, ℕ, zero, suc, ◌+◌, ◌-◌, Bool, true, false, cond, List, [], ◌∷◌, ◌++◌, length, map, set, Option, Some, None, refl, sym, ap, ◌∙◌, append_assoc, arith}
 use Rattle.std.specs.Prelude.{option_map, slice_get}
 use Rattle.std.proofs.lemmas.List.{append-nil, map-set}
 use Rattle.vm_model.specs.Machine.{Cache, Machine, Page, cache_of, numbered}
 use Rattle.mix_process.specs.Adding.{IsPutAt, put_at, with_more}
 use Rattle.mix_process.specs.ProcessMachine as model
 use Rattle.mix_process.specs.ProcessMachine.{ProcessMachine}
-use Rattle.mix_process.specs.Seen.{area_seen, cache_pages, image_seen, part_seen, parts_in, process_seen, processes_seen, same_area}
+use Rattle.mix_process.specs.Seen.{area_seen, cache_pages, image_seen, part_seen, process_seen, processes_seen, same_area, sizes_in}
 use Rattle.mix_process.specs.Tying.{AreTied, IsPart}
 use Rattle.mix_process.specs.declared.area.Area.{Area}
 use Rattle.mix_process.specs.declared.area.Area.TheVariants.{Data, Stack, Text}
@@ -28,61 +28,68 @@ seen_snoc m a xs part b e =
     ∙ ap (λ (c : Bool). area_seen m a xs ++ (cond c (part_seen m part) [] ++ [])) e
     ∙ ap (λ (pages : List Page). area_seen m a xs ++ pages) (append-nil (cond b (part_seen m part) []))
 
-parts-append : (a : Area) (xs ys : List Part) → parts_in a (xs ++ ys) ≡ parts_in a xs + parts_in a ys
-parts-append a [] ys = omega arith
-parts-append a (x ∷ xs) ys = omega (arith, parts-append a xs ys)
+sizes-append : (a : Area) (xs ys : List Part) → sizes_in a (xs ++ ys) ≡ sizes_in a xs ++ sizes_in a ys
+sizes-append a [] ys = refl
+sizes-append a (x ∷ xs) ys = ap (λ (ns : List ℕ). cond (same_area x.area a) (x.pages ∷ []) [] ++ ns) (sizes-append a xs ys) ∙ sym (append_assoc (cond (same_area x.area a) (x.pages ∷ []) []) (sizes_in a xs) (sizes_in a ys))
 
-parts_snoc : (a : Area) (xs : List Part) (part : Part) (b : Bool) → same_area part.area a ≡ b → parts_in a (xs ++ part ∷ []) ≡ parts_in a xs + cond b 1 0
-parts_snoc a xs part b e =
-    parts-append a xs (part ∷ [])
-    ∙ ap (λ (c : Bool). parts_in a xs + (cond c 1 0 + 0)) e
-    ∙ (let same : parts_in a xs + (cond b 1 0 + 0) ≡ parts_in a xs + cond b 1 0 = omega arith in same)
+sizes_snoc : (a : Area) (xs : List Part) (part : Part) (b : Bool) → same_area part.area a ≡ b → sizes_in a (xs ++ part ∷ []) ≡ sizes_in a xs ++ cond b (part.pages ∷ []) []
+sizes_snoc a xs part b e =
+    sizes-append a xs (part ∷ [])
+    ∙ ap (λ (c : Bool). sizes_in a xs ++ (cond c (part.pages ∷ []) [] ++ [])) e
+    ∙ ap (λ (ns : List ℕ). sizes_in a xs ++ ns) (append-nil (cond b (part.pages ∷ []) []))
 
-module _ (m : Machine) (p q : Process) (part : Part) (is : q.parts.items ≡ p.parts.items ++ part ∷ []) where
-  abbrev had : Area → List Page
-  had a = area_seen m a p.parts.items
+-- what these parts show
+abbrev pub parts_seen : Machine → List Part → model.Process
+parts_seen m parts = record {
+  text_pages = area_seen m Text parts;
+  data_pages = area_seen m Data parts;
+  stack_pages = area_seen m Stack parts;
+  pieces = sizes_in Data parts;
+}
 
-  more : (a : Area) → same_area part.area a ≡ true → area_seen m a q.parts.items ≡ had a ++ part_seen m part
-  more a e = ap (area_seen m a) is ∙ seen_snoc m a p.parts.items part true e
+module _ (m : Machine) (xs : List Part) (part : Part) (long : length (part_seen m part) ≡ part.pages) where
+  more : (a : Area) → same_area part.area a ≡ true → area_seen m a (xs ++ part ∷ []) ≡ area_seen m a xs ++ part_seen m part
+  more a e = seen_snoc m a xs part true e
 
-  same : (a : Area) → same_area part.area a ≡ false → area_seen m a q.parts.items ≡ had a
-  same a e = ap (area_seen m a) is ∙ seen_snoc m a p.parts.items part false e ∙ append-nil (had a)
+  same : (a : Area) → same_area part.area a ≡ false → area_seen m a (xs ++ part ∷ []) ≡ area_seen m a xs
+  same a e = seen_snoc m a xs part false e ∙ append-nil (area_seen m a xs)
 
-  one_more : same_area part.area Data ≡ true → parts_in Data q.parts.items ≡ parts_in Data p.parts.items + 1
-  one_more e = ap (parts_in Data) is ∙ parts_snoc Data p.parts.items part true e
+  one_piece : same_area part.area Data ≡ true → sizes_in Data (xs ++ part ∷ []) ≡ sizes_in Data xs ++ length (part_seen m part) ∷ []
+  one_piece e = sizes_snoc Data xs part true e ∙ ap (λ (n : ℕ). sizes_in Data xs ++ n ∷ []) (sym long)
 
-  no_more : same_area part.area Data ≡ false → parts_in Data q.parts.items ≡ parts_in Data p.parts.items
-  no_more e = ap (parts_in Data) is ∙ parts_snoc Data p.parts.items part false e ∙ (let none : parts_in Data p.parts.items + 0 ≡ parts_in Data p.parts.items = omega arith in none)
+  no_piece : same_area part.area Data ≡ false → sizes_in Data (xs ++ part ∷ []) ≡ sizes_in Data xs
+  no_piece e = sizes_snoc Data xs part false e ∙ append-nil (sizes_in Data xs)
 
-  seen_by : (area : Area) → part.area ≡ area → process_seen m q ≡ with_more area (part_seen m part) (process_seen m p)
+  seen_by : (area : Area) → part.area ≡ area → parts_seen m (xs ++ part ∷ []) ≡ with_more area (part_seen m part) (parts_seen m xs)
   seen_by Text e = λ i. record {
     text_pages = more Text (ap (λ (a : Area). same_area a Text) e) i;
     data_pages = same Data (ap (λ (a : Area). same_area a Data) e) i;
     stack_pages = same Stack (ap (λ (a : Area). same_area a Stack) e) i;
-    pieces = no_more (ap (λ (a : Area). same_area a Data) e) i;
+    pieces = no_piece (ap (λ (a : Area). same_area a Data) e) i;
   }
   seen_by Data e = λ i. record {
     text_pages = same Text (ap (λ (a : Area). same_area a Text) e) i;
     data_pages = more Data (ap (λ (a : Area). same_area a Data) e) i;
     stack_pages = same Stack (ap (λ (a : Area). same_area a Stack) e) i;
-    pieces = one_more (ap (λ (a : Area). same_area a Data) e) i;
+    pieces = one_piece (ap (λ (a : Area). same_area a Data) e) i;
   }
   seen_by Stack e = λ i. record {
     text_pages = same Text (ap (λ (a : Area). same_area a Text) e) i;
     data_pages = same Data (ap (λ (a : Area). same_area a Data) e) i;
     stack_pages = more Stack (ap (λ (a : Area). same_area a Stack) e) i;
-    pieces = no_more (ap (λ (a : Area). same_area a Data) e) i;
+    pieces = no_piece (ap (λ (a : Area). same_area a Data) e) i;
   }
 
-  -- a process with one part more
-  pub seen_with : process_seen m q ≡ with_more part.area (part_seen m part) (process_seen m p)
-  seen_with = seen_by part.area refl
+  pub one_more_seen : parts_seen m (xs ++ part ∷ []) ≡ with_more part.area (part_seen m part) (parts_seen m xs)
+  one_more_seen = seen_by part.area refl
+
+-- a process with one part more
+pub seen_with : (m : Machine) (p q : Process) (part : Part) → length (part_seen m part) ≡ part.pages → q.parts.items ≡ p.parts.items ++ part ∷ [] → process_seen m q ≡ with_more part.area (part_seen m part) (process_seen m p)
+seen_with m p q part long is = ap (λ (parts : List Part). parts_seen m parts) is ∙ one_more_seen m p.parts.items part long
 
 -- a process with the same parts
 pub seen_alike : (m : Machine) (p q : Process) → q.parts.items ≡ p.parts.items ++ [] → process_seen m q ≡ process_seen m p
-seen_alike m p q is =
-    let same : q.parts.items ≡ p.parts.items = is ∙ append-nil p.parts.items in
-    λ i. record { text_pages = area_seen m Text (same i); data_pages = area_seen m Data (same i); stack_pages = area_seen m Stack (same i); pieces = parts_in Data (same i) }
+seen_alike m p q is = ap (λ (parts : List Part). parts_seen m parts) (is ∙ append-nil p.parts.items)
 
 -- In the table
 

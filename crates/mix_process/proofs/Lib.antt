@@ -11,6 +11,7 @@ pub mod Pushes
 pub mod Loading
 pub mod Putting
 pub mod Storing
+pub mod Having
 pub mod Single
 pub mod Temporary
 pub mod Clearing

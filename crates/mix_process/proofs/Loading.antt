@@ -1,7 +1,8 @@
 -- A load of a process is the load of its actor.
-use Rattle.std.proofs.Common.{◌≡◌, ◌≢◌, ◌⊎◌, inl, inr, ℕ, ◌+◌, ◌%◌, ◌<◌, Bool, true, false, cond, List, [], length, take, drop, Option, Some, None, refl, sym, ap, subst, ◌∙◌, arith}
+use Rattle.std.proofs.Common.{◌≡◌, ◌⊎◌, inl, inr, ℕ, ◌+◌, ◌-◌, ◌%◌, ◌<◌, Bool, true, false, cond, List, [], ◌∷◌, ◌++◌, length, take, drop, Option, Some, None, refl, sym, ap, subst, ◌∙◌, arith}
 use Rattle.std.specs.Prelude.{Ok, Err, Result, IsOkAnd, nat_lt, slice_get, option_map, unwrap_or}
 use Rattle.std.specs.Option.{option_map_or}
+use Rattle.std.proofs.lemmas.Bool.Decides.{nat_tests}
 use Rattle.vm_ids.specs.Counting.{MapperCounts}
 use Rattle.vm_ids.specs.Held.{Segments}
 use Rattle.vm_ids.specs.declared.command.Command.TheVariants as vm_commands
@@ -26,8 +27,8 @@ use Rattle.vm_model.proofs.Parts.Lists.{numbered-map}
 use Rattle.mix_process.specs.ProcessMachine as model
 use Rattle.mix_process.specs.ProcessMachine.{ProcessMachine, area_at, area_start, may_write, pages_of}
 use Rattle.mix_process.specs.Answering as mix
-use Rattle.mix_process.specs.Outcome.{IsPageIn, Outcome, Usage}
-use Rattle.mix_process.specs.Seen.{area_seen, cache_pages, pages_in, process_seen, processes_seen}
+use Rattle.mix_process.specs.Outcome.{Outcome, Usage, page_below, page_in_piece}
+use Rattle.mix_process.specs.Seen.{area_seen, cache_pages, pages_in, process_seen, processes_seen, same_area, sizes_in}
 use Rattle.mix_process.specs.Tying.{IsRun}
 use Rattle.mix_process.specs.declared.area.Area.{Area}
 use Rattle.mix_process.specs.declared.area.Area.TheVariants.{Data, Stack, Text}
@@ -95,10 +96,29 @@ unwrapped : (o : Option Cache) (k : ℕ) → option_map_or (λ (c : Cache). unwr
 unwrapped None k = refl
 unwrapped (Some c) k = refl
 
-below : (a : Area) (before page number : ℕ) → number ≡ before + page → (a ≢ Data → before ≡ 0) → IsPageIn a number page
-below Text before page number e first = let none : before ≡ 0 = first (λ e. cc) in omega (arith, e, none)
-below Data before page number e first = omega (arith, e)
-below Stack before page number e first = let none : before ≡ 0 = first (λ e. cc) in omega (arith, e, none)
+-- Its number among those of its piece
+
+first_piece : (size : ℕ) (sizes : List ℕ) (page : ℕ) → page < size → page_in_piece (size ∷ sizes) page ≡ page
+first_piece size sizes page h = ap (λ (b : Bool). cond b page (page_in_piece sizes (page - size))) (let e : nat_lt page size ≡ true = grind (arith, nat_tests) in e)
+
+past_piece : (size : ℕ) (sizes : List ℕ) (page : ℕ) → page_in_piece (size ∷ sizes) (size + page) ≡ page_in_piece sizes page
+past_piece size sizes page =
+    ap (λ (b : Bool). cond b (size + page) (page_in_piece sizes (size + page - size))) (let e : nat_lt (size + page) size ≡ false = grind (arith, nat_tests) in e)
+    ∙ ap (page_in_piece sizes) (let e : size + page - size ≡ page = omega arith in e)
+
+in_piece : (area : Area) (before : List Part) (part : Part) (behind : List Part) (page : ℕ) → same_area part.area area ≡ true → page < part.pages → page_in_piece (sizes_in area (before ++ part ∷ behind)) (pages_in area before + page) ≡ page
+in_piece area [] part behind page own h =
+    ap (λ (b : Bool). page_in_piece (cond b (part.pages ∷ []) [] ++ sizes_in area behind) (0 + page)) own
+    ∙ ap (page_in_piece (part.pages ∷ sizes_in area behind)) (let e : 0 + page ≡ page = omega arith in e)
+    ∙ first_piece part.pages (sizes_in area behind) page h
+in_piece area (x ∷ xs) part behind page own h = by (same_area x.area area) (in_piece area xs part behind page own h)
+  where
+    by : (b : Bool) → page_in_piece (sizes_in area (xs ++ part ∷ behind)) (pages_in area xs + page) ≡ page
+        → page_in_piece (cond b (x.pages ∷ []) [] ++ sizes_in area (xs ++ part ∷ behind)) (cond b x.pages 0 + pages_in area xs + page) ≡ page
+    by true rest =
+        ap (page_in_piece (x.pages ∷ sizes_in area (xs ++ part ∷ behind))) (let e : x.pages + pages_in area xs + page ≡ x.pages + (pages_in area xs + page) = omega arith in e)
+        ∙ past_piece x.pages (sizes_in area (xs ++ part ∷ behind)) (pages_in area xs + page) ∙ rest
+    by false rest = ap (page_in_piece (sizes_in area (xs ++ part ∷ behind))) (let e : 0 + pages_in area xs + page ≡ pages_in area xs + page = omega arith in e) ∙ rest
 
 module _ (m : Machine) (p : Process) (run : IsRun m p) (address : ℕ) where
   -- the page of the spot among the pages of its area
@@ -121,11 +141,17 @@ module _ (m : Machine) (p : Process) (run : IsRun m p) (address : ℕ) where
       ∙ sym (ap mix.page_at s.here_is)
 
   -- its number, as the manager counts it
-  pub page_below : (at : vm_place.Place) (here : model.Place) → IsSame m p run.regions address at here → IsPageIn here.area here.page at.page
-  page_below at here s =
-      let f = s.spot.found in
-      let is : IsPageIn f.part.area (page_number f.part.area address) s.spot.page = below f.part.area (pages_in f.part.area f.before) s.spot.page (page_number f.part.area address) s.spot.number (run.single f.before f.behind f.part f.is) in
-      subst (λ (here : model.Place). IsPageIn here.area here.page at.page) (sym s.here_is) (subst (λ (at : vm_place.Place). IsPageIn f.part.area (page_number f.part.area address) at.page) (sym s.at_is) is)
+  below : (s : IsSpot m p run.regions address) (a : Area) → s.found.part.area ≡ a → (byte : ℕ) → s.page ≡ page_below a (record { process = process_seen m p; area = s.found.part.area; page = page_number s.found.part.area address; byte = byte })
+  below s Text e byte = omega (arith, s.number, run.single s.found.before s.found.behind s.found.part s.found.is (λ d. let wrong : Text ≡ Data = sym e ∙ d in cc wrong))
+  below s Stack e byte = omega (arith, s.number, run.single s.found.before s.found.behind s.found.part s.found.is (λ d. let wrong : Stack ≡ Data = sym e ∙ d in cc wrong))
+  below s Data e byte = let f = s.found in sym (
+      ap (λ (parts : List Part). page_in_piece (sizes_in Data parts) (page_number f.part.area address)) f.is
+      ∙ ap (page_in_piece (sizes_in Data (f.before ++ f.part ∷ f.behind))) (s.number ∙ ap (λ (a : Area). pages_in a f.before + s.page) e)
+      ∙ in_piece Data f.before f.part f.behind s.page (ap (λ (a : Area). same_area a Data) e) s.within)
+
+  pub below_same : (at : vm_place.Place) (here : model.Place) → IsSame m p run.regions address at here → at.page ≡ page_below here.area here
+  below_same at here s =
+      ap (λ (at : vm_place.Place). at.page) s.at_is ∙ below s.spot s.spot.found.part.area refl (address % 4096) ∙ sym (ap (λ (here : model.Place). page_below here.area here) s.here_is)
 
   pub byte_same : (at : vm_place.Place) (here : model.Place) → IsSame m p run.regions address at here → at.byte ≡ here.byte
   byte_same at here s = ap (λ (at : vm_place.Place). at.byte) s.at_is ∙ sym (ap (λ (here : model.Place). here.byte) s.here_is)
@@ -162,10 +188,10 @@ module _ (m : Machine) (p : Process) (run : IsRun m p) (address length : ℕ) (s
   load_goes nowhere h = h
   load_goes (same at here is) h = tt
 
-  pub missed : {o : Result vm_place.Place Refusal} {here : Result model.Place Refusal} (page : ℕ) → AreSame m p run.regions address o here → IsOkAnd o (λ (at : vm_place.Place). at.page ≡ page) → IsOkAnd here (λ (at : model.Place). IsPageIn at.area at.page page)
+  pub missed : {o : Result vm_place.Place Refusal} {here : Result model.Place Refusal} (page : ℕ) → AreSame m p run.regions address o here → IsOkAnd o (λ (at : vm_place.Place). at.page ≡ page) → IsOkAnd here (λ (at : model.Place). page ≡ page_below at.area at)
   missed page crosses h = h
   missed page nowhere h = h
-  missed page (same at here is) h = subst (IsPageIn here.area here.page) h (page_below m p run address at here is)
+  missed page (same at here is) h = sym h ∙ below_same m p run address at here is
 
 pub not_refused : (a : Answer) (at : FaultAt) → (at ≡ faults.Victim) ⊎ ((page : PageNo) × (at ≡ faults.Page page)) → vm_outcome.NotRefusedButFor at a → IsNotRefused a
 not_refused (Ok r) at which h = tt

@@ -42,6 +42,7 @@ use Rattle.mix_process.proofs.Lists.{number_at}
 use Rattle.mix_process.proofs.Mapping.{tied_mapped}
 use Rattle.mix_process.proofs.Putting.{number_other}
 use Rattle.mix_process.proofs.Regions.{Maps, mapped_at}
+use Rattle.mix_process.proofs.Seeing.{part_length}
 
 -- Processes with the same actors and parts
 
@@ -279,7 +280,7 @@ module _ {Manager X Chooser : Type 0} (G : GhostsOfGmi Manager X Chooser) (told 
               put = put;
               seen = ap (λ (x : Machine). processes_seen x new.processes.items new.images.items) machine
                   ∙ seen_put m old place p may.room.there (part ∷ []) new put
-                  ∙ ap (λ (x : model.Process). put_at (processes_seen m old.processes.items old.images.items) place x) (seen_with m p put.now part put.parts_now);
+                  ∙ ap (λ (x : model.Process). put_at (processes_seen m old.processes.items old.images.items) place x) (seen_with m p put.now part (part_length m part may.is_part) put.parts_now);
               kept = λ k c e. ap (λ (x : Machine). cache_of x k) machine ∙ e;
               used = record {
                 living = omega (arith, ap living_actors machine, sum_by_less alive m.actors (p.actor.0 - 1) (Some run.regions) (Some (insert_region (region_of (m.regions_made + 1) (mapping_behind p.parts.items part)) run.regions)) at.1 (omega arith));

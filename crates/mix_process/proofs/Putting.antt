@@ -13,7 +13,7 @@ use Rattle.vm_model.proofs.Parts.Lists.{get_set_other, get_set_same, numbered_pl
 use Rattle.mix_process.specs.ProcessMachine as model
 use Rattle.mix_process.specs.ProcessMachine.{ProcessMachine, may_write, pages_of, with_pages}
 use Rattle.mix_process.specs.Answering.{put_process}
-use Rattle.mix_process.specs.Seen.{area_seen, cache_pages, image_seen, pages_in, part_seen, parts_in, process_seen, processes_seen, same_area}
+use Rattle.mix_process.specs.Seen.{area_seen, cache_pages, image_seen, pages_in, part_seen, process_seen, processes_seen, same_area, sizes_in}
 use Rattle.mix_process.specs.Tying.{AreTied, IsImageCache, IsOwnPart, IsPart, Owns}
 use Rattle.mix_process.specs.declared.area.Area.{Area}
 use Rattle.mix_process.specs.declared.area.Area.TheVariants.{Data, Stack, Text}
@@ -148,7 +148,7 @@ process_same m n p h = λ i. record {
   text_pages = seen_same m n Text p.parts.items h i;
   data_pages = seen_same m n Data p.parts.items h i;
   stack_pages = seen_same m n Stack p.parts.items h i;
-  pieces = parts_in Data p.parts.items;
+  pieces = sizes_in Data p.parts.items;
 }
 
 -- The page is of one part
@@ -204,9 +204,9 @@ different Stack Stack other = absurd (other refl)
 
 -- a process with the pages of one area changed
 seen_changed : (m n : Machine) (p : Process) (area : Area) (pages : List Page) → area_seen n area p.parts.items ≡ pages → ((other : Area) → area ≢ other → area_seen n other p.parts.items ≡ area_seen m other p.parts.items) → process_seen n p ≡ with_pages area pages (process_seen m p)
-seen_changed m n p Text pages is others = λ i. record { text_pages = is i; data_pages = others Data (λ e. cc) i; stack_pages = others Stack (λ e. cc) i; pieces = parts_in Data p.parts.items }
-seen_changed m n p Data pages is others = λ i. record { text_pages = others Text (λ e. cc) i; data_pages = is i; stack_pages = others Stack (λ e. cc) i; pieces = parts_in Data p.parts.items }
-seen_changed m n p Stack pages is others = λ i. record { text_pages = others Text (λ e. cc) i; data_pages = others Data (λ e. cc) i; stack_pages = is i; pieces = parts_in Data p.parts.items }
+seen_changed m n p Text pages is others = λ i. record { text_pages = is i; data_pages = others Data (λ e. cc) i; stack_pages = others Stack (λ e. cc) i; pieces = sizes_in Data p.parts.items }
+seen_changed m n p Data pages is others = λ i. record { text_pages = others Text (λ e. cc) i; data_pages = is i; stack_pages = others Stack (λ e. cc) i; pieces = sizes_in Data p.parts.items }
+seen_changed m n p Stack pages is others = λ i. record { text_pages = others Text (λ e. cc) i; data_pages = others Data (λ e. cc) i; stack_pages = is i; pieces = sizes_in Data p.parts.items }
 
 -- a process of which a page of one part changed
 pub process_put : (m n : Machine) (p : Process) (before : List Part) (part : Part) (behind : List Part) → p.parts.items ≡ before ++ part ∷ behind → AreParts m p.parts.items → (page : ℕ) (bytes : Page) → page < part.pages

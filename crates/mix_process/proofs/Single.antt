@@ -44,6 +44,7 @@ use Rattle.mix_process.specs.Tying.{AreSynchronised, AreTied, CanCall, none_spar
 use Rattle.mix_process.specs.declared.mix.Image.{Image}
 use Rattle.mix_process.specs.declared.mix.Mix.{Mix}
 use Rattle.mix_process.specs.declared.process.Process.{Process}
+use Rattle.mix_process.proofs.Having.{had}
 use Rattle.mix_process.proofs.Loading.{IsLiving, load_outcome}
 use Rattle.mix_process.proofs.Pushes.{segments_stay, still_synchronised}
 use Rattle.mix_process.proofs.Shapes.{HasShape, run_like, shape_self, tied_like, whole_shape}
@@ -155,6 +156,7 @@ module _ {Manager X Chooser : Type 0} (M : GhostsOfMapper X) (G : GhostsOfGmi Ma
     rose = call_is.rose;
     is = record {
       step = go (segments_of (M.held after)) call_is.is.outcome;
+      has = had G with_manager (M.held after) (M.page_bytes after) (can_after shape alike);
       segments = segments_stay m (numbered old.processes.items) none_spare old.images.items can.tied (M.held before) (segments_of (M.held after)) call_is.pushes call_is.is.pushed can.synchronised;
     };
   }
@@ -204,13 +206,13 @@ module _ {Manager X Chooser : Type 0} (M : GhostsOfMapper X) (G : GhostsOfGmi Ma
     made = omega arith;
     rises = no_counts;
     rose = rise_none (M.counts before);
-    is = record { step = go (segments_of (M.held before)) refl; segments = refl };
+    is = record { step = go (segments_of (M.held before)) refl; has = had G old (M.held before) (M.page_bytes before) can; segments = refl };
   }
     where
       go : (told : Option Segments) → segments_of (M.held before) ≡ told → StepAt told (state_of G old (M.held before)) command answer no_counts (state_of G old (M.held before))
       go None e =
           let blank_is = seen_filled (G.machine old.gmi (M.held before)) old.processes.items old.images.items (as_untold (M.held before) e can.blank) in
-          step_filled (segments_of (M.held before)) (segments_of (M.held before)) s s u u command answer no_counts blank_is blank_is
+          step_filled (segments_of (M.held before)) (segments_of (M.held before)) s s u u command answer no_counts can.tied.page blank_is blank_is
           (λ h. record { outcome = outcome (filled_up s) (like_filled s) h; raised = raised_none (makes_by (filled_up s) command h answer) u })
       go (Some h) e = record { outcome = outcome s (like_self s) h; raised = raised_none (makes_by s command h answer) u }
 

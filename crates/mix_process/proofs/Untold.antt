@@ -1,32 +1,35 @@
 -- Steps of processes where the mapper doesn't tell what it holds.
-use Rattle.std.proofs.Common.{◌≡◌, ℕ, zero, suc, ◌-◌, Bool, true, false, cond, List, [], ◌∷◌, ◌++◌, length, map, take, replicate, Option, Some, None, refl, sym, ap, ◌∙◌}
-use Rattle.std.specs.Prelude.{Ok, IfNone, option_map}
+use Rattle.std.proofs.Common.{◌≡◌, ℕ, zero, suc, ◌-◌, Bool, true, false, cond, List, [], ◌∷◌, ◌++◌, length, map, take, replicate, Option, Some, None, refl, sym, ap, subst, ◌∙◌}
+use Rattle.std.specs.Prelude.{All, Ok, IfNone, option_map}
 use Rattle.std.specs.FinMap.{empty}
-use Rattle.std.proofs.lemmas.List.{length-map, map-append, map-set, take-map}
+use Rattle.std.specs.Option.{option_map_or}
+use Rattle.std.proofs.lemmas.List.{length-map, length-replicate, map-append, map-set, take-map}
+use Rattle.std.proofs.lemmas.List.Elements.{All-append, All-map, All-nil, All-take}
 use Rattle.vm_ids.specs.Counting.{MapperCounts}
 use Rattle.vm_ids.specs.Held.{Held, Segments, segments_of}
 use Rattle.vm_ids.specs.declared.command.Command.{Command}
 use Rattle.vm_ids.specs.declared.command.MixCommand.{MixCommand}
 use Rattle.vm_ids.specs.declared.reply.Reply.TheVariants as replies
 use Rattle.vm_model.specs.Answering.{Answer}
-use Rattle.vm_model.specs.Machine.{Machine, Page, zero_page}
-use Rattle.vm_model.specs.Outcome.{BlankOutcome, IsAlike, OutcomeAt, blank, blank_cache}
+use Rattle.vm_model.specs.Machine.{Cache, Machine, Page, cache_of, numbered, zero_page}
+use Rattle.vm_model.specs.Outcome.{BlankOutcome, HasWholePages, IsAlike, IsWhole, OutcomeAt, blank, blank_cache}
 use Rattle.vm_model.specs.PageForest.{PageForest}
+use Rattle.vm_model.proofs.Machines.Sound.{numbered-all}
 use Rattle.vm_model.proofs.Parts.Lists.{numbered-map}
 use Rattle.gmi_calls.specs.Untold.{UntoldStep}
 use Rattle.mix_process.specs.Answering.{put_process}
 use Rattle.mix_process.specs.Outcome.{Usage, usage_of}
 use Rattle.mix_process.specs.ProcessMachine as model
-use Rattle.mix_process.specs.ProcessMachine.{ProcessMachine, process_of}
-use Rattle.mix_process.specs.Seen.{area_seen, cache_pages, image_seen, part_seen, parts_in, process_seen, processes_seen, same_area}
-use Rattle.mix_process.specs.Stepping.{State, StepOver, each_in, each_of, each_page, forget, no_bytes}
+use Rattle.mix_process.specs.ProcessMachine.{ProcessMachine, pages_of, process_of}
+use Rattle.mix_process.specs.Seen.{area_seen, cache_pages, image_seen, part_seen, process_seen, processes_seen, same_area, sizes_in}
+use Rattle.mix_process.specs.Stepping.{HasAllBytes, State, StepOver, WholeStep, each_in, each_of, each_page, forget, no_bytes}
 use Rattle.mix_process.specs.Tying.{IsUntoldBlank}
 use Rattle.mix_process.specs.declared.area.Area.{Area}
 use Rattle.mix_process.specs.declared.area.Area.TheVariants.{Data, Stack, Text}
 use Rattle.mix_process.specs.declared.mix.Image.{Image}
 use Rattle.mix_process.specs.declared.process.Part.{Part}
 use Rattle.mix_process.specs.declared.process.Process.{Process}
-use Rattle.mix_process.proofs.Shapes.{blank_live, blank_pages, emptied}
+use Rattle.mix_process.proofs.Shapes.{blank_live, blank_pages, emptied, mapped_some}
 
 -- Lists
 
@@ -80,7 +83,7 @@ process_blank m p = λ i. record {
   text_pages = sym (area_blank m Text p.parts.items) i;
   data_pages = sym (area_blank m Data p.parts.items) i;
   stack_pages = sym (area_blank m Stack p.parts.items) i;
-  pieces = parts_in Data p.parts.items;
+  pieces = sizes_in Data p.parts.items;
 }
 
 pub seen_blank : (m : Machine) (table : List (Option Process)) (images : List Image) → processes_seen (blank m) table images ≡ each_page no_bytes (processes_seen m table images)
@@ -92,6 +95,37 @@ seen_blank m table images = λ i. record {
 
 pub usage_blank : (m : Machine) → usage_of (blank m) ≡ usage_of m
 usage_blank m = λ i. record (usage_of m) { caches = length-map m.caches (option_map blank_cache) i; pages = blank_live m i }
+
+-- where each page of a machine has all its bytes, each page that is seen of it has them
+
+module _ (m : Machine) (whole : HasWholePages m) where
+  abbrev IsLong : Page → Type 0
+  IsLong page = length page ≡ m.page_bytes
+
+  cache_long : (k : ℕ) → All IsLong (cache_pages m k)
+  cache_long k = by (cache_of m k) refl
+    where
+      by : (o : Option Cache) → cache_of m k ≡ o → All IsLong (option_map_or (λ (c : Cache). c.pages) o [])
+      by None e = All-nil IsLong
+      by (Some c) e = numbered-all (IsWhole m.page_bytes) m.caches k c e whole
+
+  area_long : (a : Area) (parts : List Part) → All IsLong (area_seen m a parts)
+  area_long a [] = All-nil IsLong
+  area_long a (p ∷ ps) = All-append IsLong (cond (same_area p.area a) (part_seen m p) []) (area_seen m a ps) (by (same_area p.area a)) (area_long a ps)
+    where
+      by : (b : Bool) → All IsLong (cond b (part_seen m p) [])
+      by true = All-take IsLong p.pages (cache_pages m p.cache.0) (cache_long p.cache.0)
+      by false = All-nil IsLong
+
+  seen_long : (q : Process) (area : Area) → All IsLong (pages_of (process_seen m q) area)
+  seen_long q Text = area_long Text q.parts.items
+  seen_long q Data = area_long Data q.parts.items
+  seen_long q Stack = area_long Stack q.parts.items
+
+  whole_seen : (table : List (Option Process)) (images : List Image) → HasAllBytes (processes_seen m table images)
+  whole_seen table images n p e area =
+      let at = mapped_some (process_seen m) (numbered table n) p (sym (numbered-map (process_seen m) table n) ∙ e) in
+      subst (λ (x : model.Process). All IsLong (pages_of x area)) at.2 (seen_long at.0 area)
 
 -- the state over a machine
 abbrev pub over : Option Segments → Machine → List (Option Process) → List Image → State
@@ -105,7 +139,7 @@ over_blank told m w table images is =
 -- a call of the manager that is the whole step
 pub step_blank : (told now : Option Segments) (m n : Machine) (f : Option PageForest) (c : Command) (a : Answer) (rises : MapperCounts) (command : MixCommand) (table : List (Option Process)) (images : List Image) (o : BlankOutcome m f c a n rises)
     → StepOver o.segments (over told o.whole table images) command o.whole_answer rises (over now o.whole_next table images)
-    → UntoldStep forget (λ h whole x next. StepOver h whole command x rises next) (over told m table images) a (over now n table images)
+    → UntoldStep forget (λ h whole x next. WholeStep h whole command x rises next) (over told m table images) a (over now n table images)
 step_blank told now m n f c a rises command table images o leads = record {
   whole = over told o.whole table images;
   whole_next = over now o.whole_next table images;
@@ -114,7 +148,7 @@ step_blank told now m n f c a rises command table images o leads = record {
   is = over_blank told m o.whole table images o.is;
   is_next = over_blank now n o.whole_next table images o.is_next;
   alike = o.alike;
-  leads = leads;
+  leads = record { bytes = whole_seen o.whole o.pages table images; step = leads };
 }
 
 -- Zeros in place of the missing bytes
@@ -149,20 +183,39 @@ alike_self a = refl
 abbrev pub no_segments : Segments
 no_segments = record { pages = empty; denied = [] }
 
--- a step of states filled with zeros
-pub step_filled : (told now : Option Segments) (s next : ProcessMachine) (u v : Usage) (command : MixCommand) (a : Answer) (rises : MapperCounts) → s ≡ each_page no_bytes (filled_up s) → next ≡ each_page no_bytes (filled_up next)
-    → ((h : Segments) → StepOver h (record { processes = filled_up s; usage = u; segments = told }) command a rises (record { processes = filled_up next; usage = v; segments = now }))
-    → UntoldStep forget (λ h whole x after. StepOver h whole command x rises after) (record { processes = s; usage = u; segments = told }) a (record { processes = next; usage = v; segments = now })
-step_filled told now s next u v command a rises is is_next leads = record {
+zeros_long : (n : ℕ) → 4096 ≡ n → (pages : List Page) → All (λ (page : Page). length page ≡ n) (map zeros pages)
+zeros_long n is pages = All-map (λ (page : Page). length page ≡ n) zeros pages (λ k d less. length-replicate {A = ℕ} 4096 0 ∙ is)
+
+filled_long : (n : ℕ) → 4096 ≡ n → (q : model.Process) (area : Area) → All (λ (page : Page). length page ≡ n) (pages_of (each_of zeros q) area)
+filled_long n is q Text = zeros_long n is q.text_pages
+filled_long n is q Data = zeros_long n is q.data_pages
+filled_long n is q Stack = zeros_long n is q.stack_pages
+
+whole_filled : (s : ProcessMachine) → s.page_bytes ≡ 4096 → HasAllBytes (filled_up s)
+whole_filled s page n p e area =
+    let at = mapped_some (each_of zeros) (process_of s n) p (sym (numbered-map (each_of zeros) s.processes n) ∙ e) in
+    subst (λ (x : model.Process). All (λ (page : Page). length page ≡ s.page_bytes) (pages_of x area)) at.2 (filled_long s.page_bytes (sym page) at.0 area)
+
+-- a step of states filled with zeros, for these segments
+pub step_with : (h : Segments) (told now : Option Segments) (s next : ProcessMachine) (u v : Usage) (command : MixCommand) (a : Answer) (rises : MapperCounts) → s.page_bytes ≡ 4096 → s ≡ each_page no_bytes (filled_up s) → next ≡ each_page no_bytes (filled_up next)
+    → StepOver h (record { processes = filled_up s; usage = u; segments = told }) command a rises (record { processes = filled_up next; usage = v; segments = now })
+    → UntoldStep forget (λ h whole x after. WholeStep h whole command x rises after) (record { processes = s; usage = u; segments = told }) a (record { processes = next; usage = v; segments = now })
+step_with h told now s next u v command a rises page is is_next leads = record {
   whole = record { processes = filled_up s; usage = u; segments = told };
   whole_next = record { processes = filled_up next; usage = v; segments = now };
-  segments = no_segments;
+  segments = h;
   whole_answer = a;
   is = λ i. record { processes = is i; usage = u; segments = told };
   is_next = λ i. record { processes = is_next i; usage = v; segments = now };
   alike = alike_self a;
-  leads = leads no_segments;
+  leads = record { bytes = whole_filled s page; step = leads };
 }
+
+-- and whatever segments there are
+pub step_filled : (told now : Option Segments) (s next : ProcessMachine) (u v : Usage) (command : MixCommand) (a : Answer) (rises : MapperCounts) → s.page_bytes ≡ 4096 → s ≡ each_page no_bytes (filled_up s) → next ≡ each_page no_bytes (filled_up next)
+    → ((h : Segments) → StepOver h (record { processes = filled_up s; usage = u; segments = told }) command a rises (record { processes = filled_up next; usage = v; segments = now }))
+    → UntoldStep forget (λ h whole x after. WholeStep h whole command x rises after) (record { processes = s; usage = u; segments = told }) a (record { processes = next; usage = v; segments = now })
+step_filled told now s next u v command a rises page is is_next leads = step_with no_segments told now s next u v command a rises page is is_next (leads no_segments)
 
 -- a process is put, filled with zeros
 pub filled_put : (s : ProcessMachine) (n : ℕ) (o : Option model.Process) → filled_up (put_process s n o) ≡ put_process (filled_up s) n (option_map (each_of zeros) o)

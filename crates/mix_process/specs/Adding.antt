@@ -58,7 +58,7 @@ pub record IsPutAt {Manager : Type 0} (old : Mix Manager) (place : ℕ) (process
 abbrev pub with_more : Area → List Page → model.Process → model.Process
 with_more Text pages p = record p { text_pages = p.text_pages ++ pages }
 with_more Data pages p =
-    record p { data_pages = p.data_pages ++ pages; pieces = p.pieces + 1 }
+    record p { data_pages = p.data_pages ++ pages; pieces = p.pieces ++ length pages ∷ [] }
 with_more Stack pages p = record p { stack_pages = p.stack_pages ++ pages }
 
 -- the machine with this process at a place

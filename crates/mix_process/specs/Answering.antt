@@ -58,7 +58,7 @@ process_from page_bytes pages text data_pages stack = record {
   text_pages = take text pages;
   data_pages = take data_pages (drop text pages);
   stack_pages = replicate stack (zero_page page_bytes);
-  pieces = 1;
+  pieces = data_pages ∷ [];
 }
 
 -- a new process, under the next number
@@ -99,7 +99,7 @@ abbrev pub grown_by : ℕ → ℕ → Process → Process
 grown_by page_bytes pages p =
     record p {
       data_pages = p.data_pages ++ replicate pages (zero_page page_bytes);
-      pieces = p.pieces + 1;
+      pieces = p.pieces ++ pages ∷ [];
     }
 
 -- grow: zeros are appended to the data of the process

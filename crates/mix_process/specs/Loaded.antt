@@ -40,7 +40,7 @@ loaded told m text data_pages stack_pages = record {
   text_pages = take text.pages (cache_pages m text.cache.0);
   data_pages = take data_pages (drop text.pages (cache_pages m text.cache.0));
   stack_pages = replicate stack_pages (fresh_page told m.page_bytes);
-  pieces = 1;
+  pieces = data_pages ∷ [];
 }
 
 -- three regions, two caches, and the pages of these

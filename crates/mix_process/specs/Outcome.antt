@@ -1,6 +1,6 @@
 -- What a call of the processes may answer: what their machine answers, a mapper fault with its
 -- cause, want of memory, or that the manager has too many.
-use Rattle.std.specs.Prelude.{◌≡◌, ◌⊎◌, ◌<◌, ◌≤◌, ℕ, ◌+◌, ◌||◌, Bool, false, nat_lt, length, None, Ok, Err, IsOkAnd}
+use Rattle.std.specs.Prelude.{◌≡◌, ◌⊎◌, ◌<◌, ◌≤◌, ℕ, ◌+◌, ◌-◌, ◌||◌, Bool, false, nat_lt, List, [], ◌∷◌, length, Option, Some, None, is_some, count_by, sum_by, Ok, Err, IsOkAnd, if◌then◌else◌}
 use Rattle.std.specs.Bool.{IsTrue}
 use Rattle.std.specs.FinMap.{get}
 use Rattle.std.specs.Option.{option_map_or}
@@ -13,7 +13,7 @@ use Rattle.vm_ids.specs.declared.reply.FaultAt.{FaultAt}
 use Rattle.vm_ids.specs.declared.reply.FaultAt.TheVariants as faults
 use Rattle.vm_ids.specs.declared.reply.Trouble.TheVariants as troubles
 use Rattle.vm_model.specs.Answering.{Answer}
-use Rattle.vm_model.specs.Machine.{Machine, live_pages, living_actors}
+use Rattle.vm_model.specs.Machine.{Machine, Page, live_pages, living_actors}
 use Rattle.vm_model.specs.Outcome.{IsNotRefused}
 use Rattle.vm_model.specs.declared.limits.TheConstants.{LIVE_PAGES, LIVING_ACTORS, MOST_MADE}
 use Rattle.mix_process.specs.Answering.{answer_of, is_too_large, with_image}
@@ -39,6 +39,18 @@ usage_of m = record {
   pages = live_pages m;
 }
 
+-- how many pages a process has for itself alone: its text is its image's
+abbrev pub own_pages : Option Process → ℕ
+own_pages None = 0
+own_pages (Some p) = length p.data_pages + length p.stack_pages
+
+-- A manager has these processes and their images, and nothing else: an actor for each living
+-- process, and the pages of images, data and stacks.
+pub record HasThese (m : ProcessMachine) (u : Usage) : Type 0 where
+  pub living : u.living ≡ count_by is_some m.processes
+  pub pages : u.pages
+      ≡ sum_by (λ (image : ℕ × List Page). length image.1) m.images + sum_by own_pages m.processes
+
 abbrev pub no_usage : Usage
 no_usage = record { living = 0; actors = 0; caches = 0; regions = 0; pages = 0 }
 
@@ -50,7 +62,7 @@ usage_for caches pages =
 -- a fork makes as much as the process has
 abbrev pub usage_to_fork : Process → Usage
 usage_to_fork p =
-    usage_for (2 + p.pieces)
+    usage_for (2 + length p.pieces)
     (length p.text_pages + length p.data_pages + length p.stack_pages)
 
 -- a growth makes one cache of so many pages, and its region
@@ -92,17 +104,22 @@ pub record RaisedBy (more before now : Usage) : Type 0 where
   pub caches : now.caches ≤ before.caches + more.caches
   pub regions : now.regions ≤ before.regions + more.regions
 
--- Page p of a cache of the manager is this page of the area: data that were grown are counted from
--- 0 anew.
-abbrev pub IsPageIn : Area → ℕ → ℕ → Type 0
-IsPageIn Text page p = p ≡ page
-IsPageIn Data page p = p ≤ page
-IsPageIn Stack page p = p ≡ page
+-- where a page stands in its piece; pieces of these sizes lie one behind the other
+abbrev pub page_in_piece : List ℕ → ℕ → ℕ
+page_in_piece [] page = page
+page_in_piece (size ∷ sizes) page =
+    if nat_lt page size then page else page_in_piece sizes (page - size)
+
+-- the page of its cache that a place is in: each piece of the data has a cache of its own
+abbrev pub page_below : Area → Place → ℕ
+page_below Text at = at.page
+page_below Data at = page_in_piece at.process.pieces at.page
+page_below Stack at = at.page
 
 -- the page that is accessed couldn't be pulled
 abbrev pub MayMiss : ProcessMachine → ℕ → ℕ → ℕ → ℕ → MapperCounts → Type 0
 MayMiss m process address length p rises =
-    IsOkAnd (place m process address length) (λ (at : Place). IsPageIn at.area at.page p)
+    IsOkAnd (place m process address length) (λ (at : Place). p ≡ page_below at.area at)
     × (0 < rises.pulls)
 
 -- Which faults a call may answer, at which page, and which of the mapper's counts rose with it

@@ -7,13 +7,13 @@ use Rattle.mix_process.specs.declared.area.Area.{Area}
 use Rattle.mix_process.specs.declared.area.Area.TheVariants.{Data, Stack, Text}
 use Rattle.mix_process.specs.declared.area.TheConstants.{DATA_START, STACK_START, TEXT_START}
 
--- What a process has in memory, and of how many pieces its data are made: of one, and one more for
--- each time they were grown.
+-- What a process has in memory, and how many pages each piece of its data has: one piece is there
+-- from the first, and one more for each time they were grown.
 pub record Process : Type 0 where
   pub text_pages : List Page
   pub data_pages : List Page
   pub stack_pages : List Page
-  pub pieces : ℕ
+  pub pieces : List ℕ
 
 -- Processes are numbered from 1 in the order of making, so the number made is the length; one that
 -- ended is None. The image of a segment, beside its number, is what the segment held when a process

@@ -27,10 +27,10 @@ abbrev pub pages_in : Area → List Part → ℕ
 pages_in area [] = 0
 pages_in area (p ∷ ps) = (if same_area p.area area then p.pages else 0) + pages_in area ps
 
--- how many parts an area has
-abbrev pub parts_in : Area → List Part → ℕ
-parts_in area [] = 0
-parts_in area (p ∷ ps) = (if same_area p.area area then 1 else 0) + parts_in area ps
+-- how many pages each part of an area has
+abbrev pub sizes_in : Area → List Part → List ℕ
+sizes_in area [] = []
+sizes_in area (p ∷ ps) = (if same_area p.area area then p.pages ∷ [] else []) ++ sizes_in area ps
 
 -- a part is mapped behind what its area has before it
 abbrev pub mapping_behind : List Part → Part → Mapping
@@ -57,7 +57,7 @@ process_seen m p = record {
   text_pages = area_seen m Text p.parts.items;
   data_pages = area_seen m Data p.parts.items;
   stack_pages = area_seen m Stack p.parts.items;
-  pieces = parts_in Data p.parts.items;
+  pieces = sizes_in Data p.parts.items;
 }
 
 abbrev pub image_seen : Machine → Image → ℕ × List Page

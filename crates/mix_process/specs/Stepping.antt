@@ -1,13 +1,14 @@
 -- One answer after another of processes: what there is between two, and how one leads on.
-use Rattle.std.specs.Prelude.{◌≡◌, ℕ, List, [], map, Option, Some, None, option_map}
+use Rattle.std.specs.Prelude.{◌≡◌, ℕ, List, [], All, length, map, Option, Some, None, option_map}
 use Rattle.vm_ids.specs.Counting.{MapperCounts}
 use Rattle.vm_ids.specs.Held.{Segments}
 use Rattle.vm_ids.specs.declared.command.MixCommand.{MixCommand}
 use Rattle.vm_model.specs.Answering.{Answer}
 use Rattle.vm_model.specs.Machine.{Page}
 use Rattle.gmi_calls.specs.Untold.{UntoldStep}
-use Rattle.mix_process.specs.Outcome.{Outcome, RaisedBy, Usage, makes_by}
-use Rattle.mix_process.specs.ProcessMachine.{Process, ProcessMachine}
+use Rattle.mix_process.specs.Outcome.{HasThese, Outcome, RaisedBy, Usage, makes_by}
+use Rattle.mix_process.specs.ProcessMachine.{Process, ProcessMachine, pages_of, process_of}
+use Rattle.mix_process.specs.declared.area.Area.{Area}
 
 -- What there is between two answers: the processes, what the manager has, and the mapper's segments
 -- where they are told.
@@ -48,14 +49,27 @@ no_bytes page = []
 abbrev pub forget : State → State
 forget s = record s { processes = each_page no_bytes s.processes }
 
+-- each page of the living processes has all its bytes
+abbrev pub HasAllBytes : ProcessMachine → Type 0
+HasAllBytes m = (n : ℕ) (p : Process) → process_of m n ≡ Some p → (area : Area)
+    → All (λ (page : Page). length page ≡ m.page_bytes) (pages_of p area)
+
+-- One answer of processes whose pages have all their bytes.
+pub record WholeStep (h : Segments) (before : State) (command : MixCommand) (answer : Answer)
+    (rises : MapperCounts) (after : State) : Type 0 where
+  pub bytes : HasAllBytes before.processes
+  pub step : StepOver h before command answer rises after
+
 -- One answer, where the mapper tells what it holds and where it doesn't.
 abbrev pub StepAt : Option Segments → State → MixCommand → Answer → MapperCounts → State → Type 0
 StepAt None before command answer rises after =
-    UntoldStep forget (λ h whole a next. StepOver h whole command a rises next) before answer after
+    UntoldStep forget (λ h whole a next. WholeStep h whole command a rises next) before answer after
 StepAt (Some h) before command answer rises after = StepOver h before command answer rises after
 
--- One answer of the processes over a manager. No segment changes.
+-- One answer of the processes over a manager. Behind it the manager has the processes and their
+-- images, and nothing else. No segment changes.
 pub record AnswerIs (before : State) (command : MixCommand) (answer : Answer) (rises : MapperCounts)
     (after : State) : Type 0 where
   pub step : StepAt after.segments before command answer rises after
+  pub has : HasThese after.processes after.usage
   pub segments : after.segments ≡ before.segments

@@ -1,14 +1,14 @@
 -- Entries are dropped, or made read-only, one after another until none is left that passes the
 -- test.
-use Rattle.std.proofs.Common.{◌≡◌, ℕ, suc, ◌+◌, ◌<◌, ◌≤◌, ◌==◌, ◌&&◌, Bool, true, false, not, List, [], ◌∷◌, length, get_or, set, map, Option, Some, None, refl, sym, ap, ◌∙◌, arith, inl, inr}
-use Rattle.std.specs.Prelude.{count_by, is_some, if◌then◌else◌, nat_le, nat_lt}
+use Rattle.std.proofs.Common.{◌≡◌, ℕ, suc, ◌+◌, ◌<◌, ◌≤◌, ◌==◌, ◌&&◌, Bool, true, false, List, [], ◌∷◌, length, set, map, Option, Some, None, refl, sym, ap, ◌∙◌, arith, inl, inr}
+use Rattle.std.specs.Prelude.{count_by, nat_le, nat_lt}
 use Rattle.std.proofs.Math.Seq.{map-set_same}
 use Rattle.std.proofs.lemmas.Bool.{cases_eq, cases_lt, cases_Bool, and_parts, and_from, cond-true, cond-false}
 use Rattle.std.proofs.lemmas.Bool.Decides.{nat_tests}
 use Rattle.std.proofs.lemmas.List.{get_or_past}
-use Rattle.vm_ids.proofs.Places.{bit, bit_true, bit_false, count-set, none_passes, same_number}
+use Rattle.vm_ids.proofs.Places.{none_passes, same_number}
 use Rattle.page_tables.specs.Entries.{is_for, is_in_frame, is_in_range, is_of_actor, is_between, leads_to, read_only}
-use Rattle.page_tables.specs.Translations.{entry_at, entries_for, entry_count, holds, unless, narrowed, read_only_at}
+use Rattle.page_tables.specs.Translations.{entry_at, entries_for, holds, unless, narrowed, read_only_at}
 use Rattle.page_tables.specs.declared.entry.Entry.{Entry}
 use Rattle.page_tables.proofs.EntryPlaces.{equal_from, for_parts}
 use Rattle.page_tables.proofs.Seeing.{emptied}

@@ -1,17 +1,16 @@
 -- What holds of each entry, through entering, dropping and narrowing.
-use Rattle.std.proofs.Common.{◌≡◌, ℕ, ◌<◌, ◌≤◌, Bool, true, false, List, [], ◌∷◌, length, set, map, replicate, Option, Some, None, refl, sym, ap, ◌∙◌, subst, arith, inl, inr}
+use Rattle.std.proofs.Common.{◌≡◌, ℕ, ◌<◌, Bool, true, false, List, length, set, map, replicate, Option, Some, None, refl, sym, ap, ◌∙◌, subst, arith, inl, inr}
 use Rattle.std.specs.Prelude.{position}
 use Rattle.std.specs.List.{position_or_len}
 use Rattle.std.proofs.lemmas.Bool.{cases_eq, cases_lt, cases_Bool, cond_below, cond-true, cond-false}
 use Rattle.std.proofs.lemmas.List.{get_or-set_same, get_or-set_other, get_or_past, get_or-map, length-map}
 use Rattle.std.proofs.lemmas.List.Quantifiers.{position-Some}
-use Rattle.vm_ids.proofs.Places.{same_all, bit_mono, count_cons}
-use Rattle.page_tables.specs.Entries.{is_for, is_in_frame, read_only}
-use Rattle.page_tables.specs.Translations.{entries_for, entry_at, holds, narrowed, seen_in, translation, unless}
+use Rattle.vm_ids.proofs.Places.{same_all}
+use Rattle.page_tables.specs.Entries.{is_for}
+use Rattle.page_tables.specs.Translations.{entry_at, holds, seen_in, translation, unless}
 use Rattle.page_tables.specs.declared.entry.Entry.{Entry}
 use Rattle.page_tables.specs.declared.entry.Translation.{Translation}
 use Rattle.page_tables.proofs.EntryPlaces.{for_parts}
-use Rattle.page_tables.proofs.Seeing.{seen_at}
 
 -- each entry has a property
 abbrev pub EachEntry : (Entry → Type 0) → List (Option Entry) → Type 0

@@ -1,10 +1,10 @@
 -- Places by what they are found by: the index, the lists of frames and of the empty ones.
 use Rattle.std.proofs.Common.{◌≡◌, ◌≢◌, ℕ, suc, ◌+◌, ◌*◌, ◌<◌, ◌≤◌, ◌^◌, ◌==◌, ◌&&◌, Bool, true, false, List, [], ◌∷◌, replicate, length, get_or, set, map, Option, Some, None, refl, sym, ap, ◌∙◌, arith, inl, inr, length-set}
 use Rattle.std.specs.Prelude.{count_by, MatchOption, IfSome, IfNone, if◌then◌else◌, not}
-use Rattle.std.proofs.lemmas.Bool.{cases_eq, cases_lt, cases_Bool, and_parts, and_from}
+use Rattle.std.proofs.lemmas.Bool.{cases_lt, cases_Bool, and_parts, and_from}
 use Rattle.std.proofs.lemmas.Bool.Decides.{Decides-eqb}
-use Rattle.std.proofs.lemmas.List.{get_or-set_same, get_or-set_other, get_or_past, map-set, get_or-map, length-map, set-set, length-replicate, get_or-replicate, ext_get_or}
-use Rattle.vm_ids.proofs.Places.{bit, bit_false, bit-le, count-set, count_cons, same_number, same_all, count-replicate_none}
+use Rattle.std.proofs.lemmas.List.{get_or-set_same, get_or_past, map-set, get_or-map, length-map, set-set, length-replicate}
+use Rattle.vm_ids.proofs.Places.{bit, bit_false, bit-le, count-set, count_cons, same_number, count-replicate_none}
 use Rattle.probe_table.specs.Entries.{hash_of}
 use Rattle.probe_table.specs.Hashes.{hash_of_pair}
 use Rattle.page_tables.specs.Entries.{frame_row, is_for, leads_to}
@@ -148,23 +148,15 @@ put_indexed places index lists place entry is h alone = record {
   on_lists = set-set lists.on place None (Some (place_list entry)) ∙ ap (λ (xs : List (Option ℕ)). set xs place (Some (place_list entry))) is.on_lists ∙ sym (map-set listed_at places place entry);
 }
 
--- the list of the empty places once the first of them are on it
-pub record IsFilled (lists : Membership) (size from : ℕ) : Type 0 where
-  pub same_size : length lists.on ≡ size
-  pub done : (place : ℕ) → place < from → list_of lists place ≡ Some 0
-  pub rest : (place : ℕ) → from ≤ place → list_of lists place ≡ None
-
-filled_by : (on : List (Option ℕ)) (size : ℕ) → length on ≡ size → ((place : ℕ) → place < size → get_or on place None ≡ Some 0) → on ≡ replicate size (Some 0)
-filled_by on size e all =
-    ext_get_or None on (replicate size (Some 0)) (e ∙ sym (length-replicate size (Some 0))) (λ i h. all i (omega arith) ∙ sym (get_or-replicate size i (Some 0) None (omega arith)))
-
-pub empty_places : (frames : ℕ) (lists : Membership) → frames ≤ 2 ^ 16 → lists.lists ≡ 2 * frames + 1 → IsFilled lists (4 * frames) (4 * frames) → IsIndexed (replicate (4 * frames) None) (replicate (4 * frames) None) lists
-empty_places frames lists few room is =
+-- where all places are empty
+pub empty_places : (frames : ℕ) → frames ≤ 2 ^ 16
+    → IsIndexed (replicate (4 * frames) None) (replicate (4 * frames) None) (record { lists = 2 * frames + 1; on = replicate (4 * frames) (Some 0) })
+empty_places frames few =
     let none : Option Entry = None in
     record {
       few = omega (arith, length-replicate (4 * frames) none);
       once = λ actor page. omega (arith, count-replicate_none (holds (is_for actor page)) (4 * frames) none refl);
       entered = sym (map-replicate place_hash (4 * frames) None);
       room = omega (arith, length-replicate (4 * frames) none);
-      on_lists = filled_by lists.on (4 * frames) is.same_size is.done ∙ sym (map-replicate listed_at (4 * frames) None);
+      on_lists = sym (map-replicate listed_at (4 * frames) None);
     }

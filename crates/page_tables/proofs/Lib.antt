@@ -1,6 +1,7 @@
 pub mod Columns
 pub mod Threading
 pub mod LinkReads
+pub mod FirstLinks
 pub mod EntryPlaces
 pub mod Seeing
 pub mod Dropping

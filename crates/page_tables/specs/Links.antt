@@ -1,5 +1,6 @@
 -- The links of entries.
-use Rattle.std.specs.Prelude.{ℕ, List, Option, Some, None, slice_index_or, slice_set}
+use Rattle.std.specs.Prelude.{ℕ, zero, suc, ◌+◌, ◌-◌, ◌++◌, List, length, map, Option, Some, None, nat_lt, if◌then◌else◌, slice_index_or, slice_set}
+use Rattle.std.specs.List.{range_with_len}
 use Rattle.page_tables.specs.declared.lists.Link.{Link}
 
 -- the list of an entry with this link
@@ -30,3 +31,28 @@ with_behind links (Some entry) behind =
 abbrev pub heads_past : List (Option ℕ) → ℕ → Option ℕ → Option ℕ → List (Option ℕ)
 heads_past heads list None behind = slice_set heads list behind
 heads_past heads list (Some _) behind = heads
+
+-- the number before one, if there is one
+abbrev pub number_before : ℕ → Option ℕ
+number_before zero = None
+number_before (suc entry) = Some entry
+
+-- the first of so many entries, if there is one
+abbrev pub first_of : ℕ → Option ℕ
+first_of zero = None
+first_of (suc entries) = Some 0
+
+-- a link that was never written: on no list, or on one with all entries in their order
+abbrev pub first_link : Option ℕ → ℕ → ℕ → Link
+first_link None entries entry = loose
+first_link (Some list) entries entry =
+    record {
+      list = Some list;
+      before = number_before entry;
+      behind = if nat_lt (entry + 1) entries then Some (entry + 1) else None;
+    }
+
+-- so many links, of which these are the first; the others were never written
+abbrev pub links_in : Option ℕ → ℕ → List Link → List Link
+links_in list entries there =
+    there ++ map (first_link list entries) (range_with_len (length there) (entries - length there))

@@ -12,10 +12,13 @@
 //! An entry is found by the hash of its actor and page (`probe_table`). The places of a frame, and
 //! those of a row of actors, are on lists that are threaded through them, so a drop walks along one
 //! list, or looks up the pages that it drops; no call goes through all places, and none but `new`
-//! takes memory. This crate stands on `vm_ids` and `probe_table`.
+//! takes memory. Room for all places is taken there, and those that were never used aren't filled
+//! in. This crate stands on `vm_ids` and `probe_table`.
 #![tactic(auto)]
 
+mod entries;
 mod entry;
+mod links;
 mod lists;
 mod places;
 mod tables;

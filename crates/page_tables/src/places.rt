@@ -7,6 +7,7 @@ ghost use Rattle.page_tables.specs.Indexes as spec;
 ghost use Rattle.page_tables.specs.Membership.{list_of};
 ghost use Rattle.page_tables.specs.Translations.{entry_at, entries_for, holds, IsFrame};
 
+use crate::entries::Entries;
 use crate::entry::{Entry, frame_list};
 use crate::lists::EntryLists;
 use probe_table::{ProbeTable, hash_pair};
@@ -17,7 +18,7 @@ use vm_ids::{ActorId, FrameId, NoMemory};
 /// The places of entries, each empty or with an entry.
 #[derive(Drop)]
 pub struct Places {
-    entries: Vec<Option<Entry>>,
+    entries: Entries,
     index: ProbeTable,
     by_frame: EntryLists,
 }
@@ -30,9 +31,9 @@ impl Model for Places {
 
     ghost use Rattle.page_tables.specs.Indexes.{IsIndexed};
 
-    ghost view = { λ p. p.entries.items };
+    ghost view = { λ p. p.entries };
 
-    ghost invariant = { λ p. IsIndexed p.entries.items p.index p.by_frame };
+    ghost invariant = { λ p. IsIndexed p.entries p.index p.by_frame };
 }
 
 // A place with this entry, or an empty one, is no more in the index.
@@ -69,11 +70,11 @@ fn place_list(entry: Option<Entry>) -> u32
 }
 
 // Whether there is an entry at a place and it is for an actor's page.
-fn is_for(entries: &[Option<Entry>], place: u32, actor: ActorId, page: u64) -> bool
+fn is_for(entries: &Entries, place: u32, actor: ActorId, page: u64) -> bool
     requires { place < length entries.now }
     ensures { result ≡ holds (is_for actor.0 page) (entry_at entries.now place) }
 {
-    match entries[place as usize] {
+    match entries.get(place) {
         Some(entry) => entry.is_for(actor, page),
         None => false,
     }
@@ -86,13 +87,9 @@ impl Places {
         ensures { IfOk result (λ places. places ≡ replicate (4 * frames) None) }
     {
         let count = 4 * frames;
-        let mut entries = Vec::new(alloc);
-        entries.resize(count as usize, None)?;
+        let entries = Entries::new(alloc, count)?;
         let index = ProbeTable::new(alloc, count)?;
-        let mut by_frame = EntryLists::new(alloc, 2 * frames + 1, count)?;
-        for place in 0..count {
-            by_frame.add(0, place);
-        }
+        let by_frame = EntryLists::new_on_first(alloc, 2 * frames + 1, count)?;
         Ok(Places {
             entries,
             index,
@@ -104,7 +101,7 @@ impl Places {
     pub fn count(&self) -> u32
         ensures { result ≡ length self.now }
     {
-        self.entries.len() as u32
+        self.entries.count()
     }
 
     /// What is at a place. No other place has an entry for the same page.
@@ -114,7 +111,7 @@ impl Places {
         ensures alone { IfSome result (λ entry.
             entries_for (slice_set self.now place None) entry.actor.0 entry.page ≡ 0) }
     {
-        self.entries[place as usize]
+        self.entries.get(place)
     }
 
     /// The place with the entry of an actor's page.
@@ -124,7 +121,7 @@ impl Places {
             × (holds (is_for actor.0 page) (entry_at self.now place) ≡ true)) }
         ensures once { entries_for self.now actor.0 page ≤ 1 }
     {
-        let entries = self.entries.as_slice();
+        let entries = &self.entries;
         let hash = hash_pair(actor.0 as u64, page);
         self.index
             .find(hash, |place| is_for(entries, place, actor, page))
@@ -159,10 +156,10 @@ impl Places {
             entries_for (slice_set self.old place None) entry.actor.0 entry.page ≡ 0) }
         ensures { self.new ≡ slice_set self.old place entry }
     {
-        unindex(&mut self.index, place, self.entries[place as usize]);
+        unindex(&mut self.index, place, self.entries.get(place));
         reindex(&mut self.index, place, entry);
         self.by_frame.take_off(place);
         self.by_frame.add(place_list(entry), place);
-        self.entries[place as usize] = entry;
+        self.entries.put(place, entry);
     }
 }

@@ -1,11 +1,17 @@
--- The first region with a number.
-use Rattle.std.proofs.Common.{◌≡◌, ◌≢◌, ◌==◌, ℕ, zero, suc, ◌<◌, Bool, true, false, cond, List, [], ◌∷◌, ◌++◌, length, get_or, set, map, Option, Some, None, refl, ap, subst, ◌∙◌, arith}
+-- The region with a number.
+use Rattle.std.proofs.Common.{◌≡◌, ◌≢◌, ◌==◌, ℕ, zero, suc, ◌-◌, ◌<◌, ◌≤◌, Bool, true, false, cond, not, List, [], ◌∷◌, ◌++◌, length, get_or, set, map, Option, Some, None, refl, sym, ap, inl, inr, subst, ◌∙◌, arith}
 use Rattle.std.specs.Prelude.{insert, IsSome, MatchOption}
+use Rattle.std.specs.List.{remove}
+use Rattle.std.proofs.lemmas.Bool.{cases_lt}
+use Rattle.std.proofs.lemmas.List.{get_or-map, get_or_default, length-map}
 use Rattle.std.proofs.lemmas.Bool.Decides.{nat_tests}
 use Rattle.vm_model.specs.Machine as model
+use Rattle.vm_model.specs.Answering.{without_region}
 use Rattle.vm_model.specs.Regions.{region_among, replace_region}
-use Rattle.regions.specs.Seen.{region_seen, number_at, IsPlaceOf}
+use Rattle.regions.specs.AddressSpace.{AreInOrder, StartsAt, end_of}
+use Rattle.regions.specs.Seen.{region_seen, number_at, start_at, IsCountUpTo, IsPlaceOf}
 use Rattle.regions.specs.declared.region.Region.{Region}
+use Rattle.regions.proofs.Ordered.{some_bytes, start_from}
 
 is_same : (a b : ℕ) → a ≡ b → (a == b) ≡ true
 is_same a b e = grind (arith, nat_tests)
@@ -17,7 +23,7 @@ tail_place : (n : ℕ) (r : Region) (rs : List Region) (k : ℕ) → IsPlaceOf n
 tail_place n r rs k p = record {
   within = omega (arith, p.within);
   here = λ d. p.here d;
-  first = λ j d h. p.first (suc j) d (omega (arith, h));
+  others = λ j d w apart. p.others (suc j) d (omega (arith, w)) (λ e. apart (omega (arith, e)));
 }
 
 among_hit : (n : ℕ) (r : model.Region) (rs : model.Actor) → r.number ≡ n → region_among n (r ∷ rs) ≡ Some r
@@ -30,7 +36,7 @@ pub among_found : (n : ℕ) (rs : List Region) (k : ℕ) (d : Region) → IsPlac
 among_found n [] k d p = absurd (omega (arith, p.within))
 among_found n (r ∷ rs) zero d p = among_hit n (region_seen r) (map region_seen rs) (p.here r)
 among_found n (r ∷ rs) (suc k) d p =
-    among_miss n (region_seen r) (map region_seen rs) (p.first 0 r (omega arith)) ∙ among_found n rs k d (tail_place n r rs k p)
+    among_miss n (region_seen r) (map region_seen rs) (p.others 0 r (omega arith) (λ e. absurd (omega (arith, e)))) ∙ among_found n rs k d (tail_place n r rs k p)
 
 pub among_none : (n : ℕ) (rs : List Region) → ((k : ℕ) (d : Region) → k < length rs → number_at rs k d ≢ n) → region_among n (map region_seen rs) ≡ None
 among_none n [] none = refl
@@ -52,7 +58,7 @@ module _ (n : ℕ) (by : model.Region → List model.Region) where
   one_instead (r ∷ rs) zero d x p e =
       hit (region_seen r) (map region_seen rs) (p.here r) ∙ ap (λ (ys : List model.Region). ys ++ map region_seen rs) e
   one_instead (r ∷ rs) (suc k) d x p e =
-      miss (region_seen r) (map region_seen rs) (p.first 0 r (omega arith))
+      miss (region_seen r) (map region_seen rs) (p.others 0 r (omega arith) (λ e. absurd (omega (arith, e))))
       ∙ ap (λ (ys : model.Actor). region_seen r ∷ ys) (one_instead rs k d x (tail_place n r rs k p) e)
 
   -- it becomes two
@@ -62,8 +68,79 @@ module _ (n : ℕ) (by : model.Region → List model.Region) where
   two_instead (r ∷ rs) zero d x y p e =
       hit (region_seen r) (map region_seen rs) (p.here r) ∙ ap (λ (ys : List model.Region). ys ++ map region_seen rs) e
   two_instead (r ∷ rs) (suc k) d x y p e =
-      miss (region_seen r) (map region_seen rs) (p.first 0 r (omega arith))
+      miss (region_seen r) (map region_seen rs) (p.others 0 r (omega arith) (λ e. absurd (omega (arith, e))))
       ∙ ap (λ (ys : model.Actor). region_seen r ∷ ys) (two_instead rs k d x y (tail_place n r rs k p) e)
+
+-- Where it starts
+
+-- each starts behind those in front of it
+starts_apart : (b from : ℕ) (rs : List Region) → 1 ≤ b → AreInOrder b from (map region_seen rs) → (j k : ℕ) (d : Region) → j < k → k < length rs → start_at rs j d < start_at rs k d
+starts_apart b from [] one o j k d below within = absurd (omega (arith, within))
+starts_apart b from (r ∷ rs) one o j zero d below within = absurd (omega (arith, below))
+starts_apart b from (r ∷ rs) one o zero (suc k) d below within =
+    omega (arith, start_from b (end_of b (region_seen r)) rs o.2 k d (omega (arith, within)), some_bytes b (region_seen r).pages one o.1.some)
+starts_apart b from (r ∷ rs) one o (suc j) (suc k) d below within =
+    starts_apart b (end_of b (region_seen r)) rs one o.2 j k d (omega (arith, below)) (omega (arith, within))
+
+module _ (b n start : ℕ) (rs : List Region) (count : ℕ) (one : 1 ≤ b) (o : AreInOrder b 0 (map region_seen rs)) (at : StartsAt n start (map region_seen rs)) (c : IsCountUpTo start rs count) where
+  starts : (k : ℕ) (d : Region) → k < length rs → number_at rs k d ≡ n → start_at rs k d ≡ start
+  starts k d within e =
+      let seen : get_or (map region_seen rs) k (region_seen d) ≡ region_seen (get_or rs k d) = get_or-map region_seen rs k d (region_seen d) within in
+      subst (λ (x : model.Region). x.number ≡ n → x.start ≡ start) seen (at k (region_seen d) (omega (arith, within, length-map rs region_seen))) e
+
+  -- one that starts there is the last that starts up to there
+  is_last : (k : ℕ) (d : Region) → k < length rs → number_at rs k d ≡ n → suc k ≡ count
+  is_last k d within e =
+      let here = starts k d within e in
+      elim (cases_lt k count) [
+        | inl below ↦ (
+            elim (cases_lt (suc k) count) [
+              | inl more ↦ absurd (omega (arith, here, starts_apart b 0 rs one o k (count - 1) d (omega (arith, more)) (omega (arith, c.within, more)), c.before (count - 1) d (omega (arith, more))))
+              | inr same ↦ omega (arith, below, same)
+            ])
+        | inr past ↦ absurd (omega (arith, here, c.behind k d past within))
+      ]
+
+  -- where none starts up to there, none has the number
+  pub none_starts : count ≡ 0 → (k : ℕ) (d : Region) → k < length rs → number_at rs k d ≢ n
+  none_starts none k d within = λ e. absurd (omega (arith, none, is_last k d within e))
+
+  -- nor where the last of these has another
+  pub last_other : (d : Region) → number_at rs (count - 1) d ≢ n → (k : ℕ) (e : Region) → k < length rs → number_at rs k e ≢ n
+  last_other d other k e within = λ is.
+      let last = is_last k e within is in
+      let place : k ≡ count - 1 = omega (arith, last) in
+      absurd (other (ap (λ (j : ℕ). number_at rs j d) (sym place) ∙ ap (λ (r : Region). r.number.0) (get_or_default rs k d e within) ∙ is))
+
+  -- else it is the one
+  pub last_is : (d : Region) → count ≢ 0 → number_at rs (count - 1) d ≡ n → IsPlaceOf n rs (count - 1)
+  last_is d some is = record {
+    within = omega (arith, c.within, some);
+    here = λ e. ap (λ (r : Region). r.number.0) (get_or_default rs (count - 1) e d (omega (arith, c.within, some))) ∙ is;
+    others = λ k e within apart. λ same. absurd (apart (omega (arith, is_last k e within same)));
+  }
+
+keeps : (n : ℕ) (x : model.Region) (xs : model.Actor) → x.number ≢ n → without_region n (x ∷ xs) ≡ x ∷ without_region n xs
+keeps n x xs ne = ap (λ (c : Bool). cond (not c) (x ∷ without_region n xs) (without_region n xs)) (is_other x.number n ne)
+
+-- where none has the number, none goes
+pub stays : (n : ℕ) (rs : List Region) → ((k : ℕ) (d : Region) → k < length rs → number_at rs k d ≢ n) → without_region n (map region_seen rs) ≡ map region_seen rs
+stays n [] none = refl
+stays n (r ∷ rs) none =
+    keeps n (region_seen r) (map region_seen rs) (none 0 r (omega arith))
+    ∙ ap (λ (xs : model.Actor). region_seen r ∷ xs) (stays n rs (λ k d within. none (suc k) d (omega (arith, within))))
+
+-- it goes, and no other
+pub removed : (n : ℕ) (rs : List Region) (k : ℕ) → IsPlaceOf n rs k → map region_seen (remove rs k) ≡ without_region n (map region_seen rs)
+removed n [] k p = absurd (omega (arith, p.within))
+removed n (r ∷ rs) zero p =
+    sym (drops (region_seen r) (map region_seen rs) (p.here r) ∙ stays n rs (λ k d within. p.others (suc k) d (omega (arith, within)) (λ e. absurd (omega (arith, e)))))
+  where
+    drops : (x : model.Region) (xs : model.Actor) → x.number ≡ n → without_region n (x ∷ xs) ≡ without_region n xs
+    drops x xs e = ap (λ (c : Bool). cond (not c) (x ∷ without_region n xs) (without_region n xs)) (is_same x.number n e)
+removed n (r ∷ rs) (suc k) p =
+    ap (λ (xs : model.Actor). region_seen r ∷ xs) (removed n rs k (tail_place n r rs k p))
+    ∙ sym (keeps n (region_seen r) (map region_seen rs) (p.others 0 r (omega arith) (λ e. absurd (omega (arith, e)))))
 
 -- a search for the place of a region that is there finds one
 pub some_found : (n : ℕ) (rs : List Region) (o : Option ℕ) → MatchOption o ((k : ℕ) (d : Region) → k < length rs → number_at rs k d ≢ n) (IsPlaceOf n rs)

@@ -1,5 +1,5 @@
 -- Regions in order: which one holds an address, where a new one goes, and whether it fits.
-use Rattle.std.proofs.Common.{◌≡◌, ◌≢◌, ℕ, zero, suc, ◌+◌, ◌-◌, ◌*◌, ◌%◌, ◌==◌, ◌<◌, ◌≤◌, Bool, true, false, cond, not, filter, List, [], ◌∷◌, ◌++◌, length, get_or, map, Option, Some, None, refl, sym, ap, ◌∙◌, subst, arith, rules}
+use Rattle.std.proofs.Common.{◌≡◌, ◌≢◌, ℕ, zero, suc, ◌+◌, ◌-◌, ◌*◌, ◌%◌, ◌==◌, ◌<◌, ◌≤◌, Bool, true, false, cond, not, List, [], ◌∷◌, ◌++◌, length, get_or, map, Option, Some, None, refl, sym, ap, ◌∙◌, subst, arith, rules}
 use Rattle.std.specs.Prelude.{nat_lt, insert, ◌||◌}
 use Rattle.std.specs.List.{list_any}
 use Rattle.std.specs.List.Sorted.{IsNonDecreasingBy}
@@ -18,7 +18,7 @@ use Rattle.regions.specs.declared.region.Region.{Region}
 -- Starts rise
 
 -- each region starts at or behind the address that the order begins at
-start_from : (b from : ℕ) (rs : List Region) → AreInOrder b from (map region_seen rs) → (k : ℕ) (d : Region) → k < length rs → from ≤ start_at rs k d
+pub start_from : (b from : ℕ) (rs : List Region) → AreInOrder b from (map region_seen rs) → (k : ℕ) (d : Region) → k < length rs → from ≤ start_at rs k d
 start_from b from [] o k d within = absurd (omega (arith, within))
 start_from b from (r ∷ rs) o zero d within = o.0
 start_from b from (r ∷ rs) o (suc k) d within =
@@ -141,7 +141,7 @@ before_it s z o q e below = grind (arith, nat_tests)
 behind_it : (s z o q : ℕ) → shares s z o q ≡ false → o ≤ s → 1 ≤ z → o + q ≤ s
 behind_it s z o q e above some = grind (arith, nat_tests)
 
-some_bytes : (b p : ℕ) → 1 ≤ b → 1 ≤ p → 1 ≤ b * p
+pub some_bytes : (b p : ℕ) → 1 ≤ b → 1 ≤ p → 1 ≤ b * p
 some_bytes b p h some = omega (arith, mul-le-mul_left b some)
 
 insert_here : (b from : ℕ) (c : Bool) (r x : model.Region) (xs ys : model.Actor) → nat_lt r.start x.start ≡ c → 1 ≤ b → from ≤ r.start → IsWellFormed b r
@@ -261,15 +261,6 @@ drop_here : (b from : ℕ) (c : Bool) (r : model.Region) (rs : model.Actor) → 
     → AreInOrder b from (cond c (r ∷ rs) rs)
 drop_here b from true r rs low f o = (low, f, o)
 drop_here b from false r rs low f o = lower b (end_of b r) from rs (omega (arith, low)) o
-
-drop_seen : (n : ℕ) (c : Bool) (r : Region) (rs ys : List Region) → map region_seen ys ≡ without_region n (map region_seen rs)
-    → map region_seen (cond c (r ∷ ys) ys) ≡ cond c (region_seen r ∷ without_region n (map region_seen rs)) (without_region n (map region_seen rs))
-drop_seen n true r rs ys e = ap (λ (xs : model.Actor). region_seen r ∷ xs) e
-drop_seen n false r rs ys e = e
-
-pub without_seen : (n : ℕ) (rs : List Region) → map region_seen (filter (λ (r : Region). not (r.number.0 == n)) rs) ≡ without_region n (map region_seen rs)
-without_seen n [] = refl
-without_seen n (r ∷ rs) = drop_seen n (not (r.number.0 == n)) r rs (filter (λ (s : Region). not (s.number.0 == n)) rs) (without_seen n rs)
 
 pub without_keeps : (n b from : ℕ) (rs : model.Actor) → AreInOrder b from rs → AreInOrder b from (without_region n rs)
 without_keeps n b from [] o = tt

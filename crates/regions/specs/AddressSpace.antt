@@ -1,5 +1,5 @@
 -- The regions of one actor, in the plain machine's words.
-use Rattle.std.specs.Prelude.{◌≡◌, ℕ, ◌+◌, ◌*◌, ◌%◌, ◌^◌, ◌≤◌, [], ◌∷◌, Result, Ok, Err}
+use Rattle.std.specs.Prelude.{◌≡◌, ℕ, ◌+◌, ◌*◌, ◌%◌, ◌^◌, ◌≤◌, [], ◌∷◌, All, Result, Ok, Err}
 use Rattle.vm_ids.specs.declared.numbers.RegionId.{RegionId}
 use Rattle.vm_ids.specs.declared.refusal.Refusal.{Refusal}
 use Rattle.vm_model.specs.Machine.{Region, Actor}
@@ -30,6 +30,10 @@ abbrev pub AreInOrder : ℕ → ℕ → Actor → Type 0
 AreInOrder page_bytes from [] = Unit {0}
 AreInOrder page_bytes from (r ∷ rs) =
     (from ≤ r.start) × IsWellFormed page_bytes r × AreInOrder page_bytes (end_of page_bytes r) rs
+
+-- a region with this number, where there is one, starts at this address
+abbrev pub StartsAt : ℕ → ℕ → Actor → Type 0
+StartsAt number start regions = All (λ (r : Region). r.number ≡ number → r.start ≡ start) regions
 
 abbrev pub id_of : Region → RegionId
 id_of r = record { 0 = r.number }

@@ -27,8 +27,9 @@ pub record IsCountUpTo (address : ℕ) (regions : List Region) (count : ℕ) : T
 abbrev pub number_at : List Region → ℕ → Region → ℕ
 number_at regions k default = (region_seen (slice_index_or regions k default)).number
 
--- the first region with the number stands at this place
+-- the region with the number stands at this place, and no other has it
 pub record IsPlaceOf (number : ℕ) (regions : List Region) (place : ℕ) : Type 0 where
   pub within : place < length regions
   pub here : (d : Region) → number_at regions place d ≡ number
-  pub first : (k : ℕ) (d : Region) → k < place → number_at regions k d ≢ number
+  pub others : (k : ℕ) (d : Region) → k < length regions → k ≢ place
+      → number_at regions k d ≢ number

@@ -3,8 +3,8 @@
 //! A region is a row of pages of a cache, mapped at an address, with what is allowed there and
 //! whether it is locked. An actor's regions stand in order of start address, and no two of them
 //! share an address, so the one that holds an address is found by a search in halves, and so are
-//! the two that a new one might touch. Regions by number are looked for one after another. Only
-//! `reserve` takes memory, and it makes room for one region more.
+//! the two that a new one might touch, and a region by its number, of which the caller says where
+//! it starts. Only `reserve` takes memory, and it makes room for one region more.
 //!
 //! The model is an address space: the bytes of a page, the spare room, and the list of regions as
 //! the plain machine has it (`vm_model`), in whose words every call says what it does. Of each

@@ -1,18 +1,19 @@
 // The regions of one actor.
-ghost use Rattle.std.specs.Prelude.{◌≡◌, ◌==◌, ℕ, ◌-◌, ◌≤◌, ◌<◌, ◌^◌, ◌∷◌, [], false, length, not, option_map, slice_get, IsOk, OnOk, OnErr, IsSomeAnd, IsSome};
+ghost use Rattle.std.specs.Prelude.{◌≡◌, ◌+◌, ◌-◌, ◌*◌, ◌≤◌, ◌<◌, ◌^◌, ◌∷◌, [], false, length, not, option_map, slice_get, IsOk, OnOk, OnErr, IsSomeAnd, IsSome};
 ghost use Rattle.std.specs.List.{list_any};
 ghost use Rattle.vm_model.specs.Answering.{insert_region, overlaps, region_of, without_region};
 ghost use Rattle.vm_model.specs.Regions.{region_among, replace_region, split_at, with_lock, with_prot};
 ghost use Rattle.vm_model.specs.Place.{place_among, region_at};
-ghost use Rattle.regions.specs.AddressSpace.{id_of, place_told, view_of, IsWellFormed};
+ghost use Rattle.regions.specs.AddressSpace.{id_of, place_told, view_of, IsWellFormed, StartsAt};
 
 use crate::region::{Place, Region, RegionView};
-use crate::search::{count_up_to, known_place, maps_cache, overlaps_any, place_of, region_holding};
+use crate::search::{count_up_to, known_place, overlaps_any, place_of, region_holding};
 use std::alloc::Global;
 use std::marker::Model;
-use vm_ids::{CacheId, Mapping, NoMemory, Prot, Refusal, RegionId};
+use vm_ids::{Mapping, NoMemory, Prot, Refusal, RegionId};
 
-/// The regions of one actor, in order of start address. No two share an address.
+/// The regions of one actor, in order of start address. No two share an address. Whoever names a
+/// region by its number says where it starts, so that it is found by halves.
 #[derive(Drop)]
 pub struct RegionMap {
     page_bytes: u64,
@@ -65,13 +66,6 @@ impl RegionMap {
         !overlaps_any(&self.regions, self.page_bytes, address, pages)
     }
 
-    /// Whether a region maps the cache.
-    pub fn maps(&self, cache: CacheId) -> bool
-        ensures { result ≡ list_any (λ r. r.cache == cache.0) self.now.regions }
-    {
-        maps_cache(&self.regions, cache)
-    }
-
     /// Adds a region, unlocked, of which the pages fit where they are mapped.
     pub fn create(&mut self, id: RegionId, mapping: Mapping)
         requires spare { 1 ≤ self.old.spare }
@@ -91,65 +85,77 @@ impl RegionMap {
     }
 
     /// Cuts a region in two. The first `pages` of its pages stay in it, and the others become the
-    /// region `fresh`, which allows the same and is locked where the region is.
-    pub fn split(&mut self, id: RegionId, pages: u32, fresh: RegionId)
+    /// region `fresh`, which allows the same and is locked where the region is. It starts at the
+    /// address that is answered.
+    pub fn split(&mut self, id: RegionId, start: u64, pages: u32, fresh: RegionId) -> u64
         requires spare { 1 ≤ self.old.spare }
+        requires start { StartsAt id.0 start self.old.regions }
         requires some { 1 ≤ pages }
         requires fewer { IsSomeAnd (region_among id.0 self.old.regions) (λ r. pages < r.pages) }
-        ensures { self.new ≡ record self.old {
+        ensures address { IsSomeAnd (region_among id.0 self.old.regions)
+            (λ r. result ≡ r.start + self.old.page_bytes * pages) }
+        ensures cut { self.new ≡ record self.old {
           spare = self.old.spare - 1;
           regions = replace_region id.0 (split_at self.old.page_bytes pages fresh.0)
               self.old.regions;
         } }
     {
-        let place = known_place(&self.regions, id);
+        let place = known_place(&self.regions, self.page_bytes, id, start);
         let back = self.regions[place].back(self.page_bytes, pages, fresh);
+        let address = back.start();
         let front = &mut self.regions[place];
         front.view.mapping.extent.pages = pages;
         match self.regions.insert(place + 1, back) {
-            Ok(()) => {}
+            Ok(()) => address,
             Err(_) => unreachable!(),
         }
     }
 
     /// Changes what a region allows.
-    pub fn protect(&mut self, id: RegionId, prot: Prot)
-        requires { IsSome (region_among id.0 self.old.regions) }
+    pub fn protect(&mut self, id: RegionId, start: u64, prot: Prot)
+        requires start { StartsAt id.0 start self.old.regions }
+        requires there { IsSome (region_among id.0 self.old.regions) }
         ensures { self.new ≡ record self.old {
           regions = replace_region id.0 (with_prot prot) self.old.regions;
         } }
     {
-        let place = known_place(&self.regions, id);
+        let place = known_place(&self.regions, self.page_bytes, id, start);
         let region = &mut self.regions[place];
         region.view.mapping.prot = prot;
     }
 
     /// Locks or unlocks a region.
-    pub fn set_locked(&mut self, id: RegionId, locked: bool)
-        requires { IsSome (region_among id.0 self.old.regions) }
+    pub fn set_locked(&mut self, id: RegionId, start: u64, locked: bool)
+        requires start { StartsAt id.0 start self.old.regions }
+        requires there { IsSome (region_among id.0 self.old.regions) }
         ensures { self.new ≡ record self.old {
           regions = replace_region id.0 (with_lock locked) self.old.regions;
         } }
     {
-        let place = known_place(&self.regions, id);
+        let place = known_place(&self.regions, self.page_bytes, id, start);
         let region = &mut self.regions[place];
         region.view.locked = locked;
     }
 
     /// Takes a region away.
-    pub fn destroy(&mut self, id: RegionId)
+    pub fn destroy(&mut self, id: RegionId, start: u64)
+        requires { StartsAt id.0 start self.old.regions }
         ensures regions { self.new.regions ≡ without_region id.0 self.old.regions }
         ensures page { self.new.page_bytes ≡ self.old.page_bytes }
         ensures spare { self.old.spare ≤ self.new.spare }
     {
-        self.regions.retain(|region| region.number.0 != id.0);
+        let Some(place) = place_of(&self.regions, self.page_bytes, id, start) else {
+            return;
+        };
+        self.regions.remove(place);
     }
 
     /// What there is to tell of a region. `None` exactly where none has the number.
-    pub fn status(&self, id: RegionId) -> Option<RegionView>
+    pub fn status(&self, id: RegionId, start: u64) -> Option<RegionView>
+        requires { StartsAt id.0 start self.now.regions }
         ensures { result ≡ option_map view_of (region_among id.0 self.now.regions) }
     {
-        let place = place_of(&self.regions, id)?;
+        let place = place_of(&self.regions, self.page_bytes, id, start)?;
         Some(self.regions[place].view)
     }
 

@@ -1,14 +1,14 @@
 // Searches among regions in order of start address.
-ghost use Rattle.std.specs.Prelude.{◌≡◌, ◌==◌, ◌≢◌, ℕ, ◌≤◌, ◌<◌, ◌^◌, map, length, slice_index_or, MatchOption, option_map, IfSome, IsSome};
+ghost use Rattle.std.specs.Prelude.{◌≡◌, ◌≢◌, ℕ, ◌≤◌, ◌<◌, ◌^◌, map, length, slice_index_or, MatchOption, option_map, IfSome, IsSome};
 ghost use Rattle.std.specs.List.{list_any};
 ghost use Rattle.vm_model.specs.Answering.{overlaps};
 ghost use Rattle.vm_model.specs.Regions.{region_among};
 ghost use Rattle.vm_model.specs.Place.{region_at};
-ghost use Rattle.regions.specs.AddressSpace.{AreInOrder, IsWellFormed, end_of};
+ghost use Rattle.regions.specs.AddressSpace.{AreInOrder, IsWellFormed, StartsAt, end_of};
 ghost use Rattle.regions.specs.Seen.{region_seen, IsCountUpTo, IsPlaceOf};
 
 use crate::region::Region;
-use vm_ids::{CacheId, RegionId};
+use vm_ids::RegionId;
 
 // How many regions start at an address or before it.
 pub(crate) fn count_up_to(regions: &[Region], page_bytes: u64, address: u64) -> usize
@@ -53,37 +53,44 @@ pub(crate) fn overlaps_any(regions: &[Region], page_bytes: u64, address: u64, pa
     count < regions.len() && regions[count].overlaps(page_bytes, address, pages)
 }
 
-// Whether a region maps the cache.
-pub(crate) fn maps_cache(regions: &[Region], cache: CacheId) -> bool
-    ensures { result ≡ list_any (λ r. r.cache == cache.0) (map region_seen regions.now) }
-{
-    for region in regions {
-        if region.view.mapping.extent.cache == cache {
-            return true;
-        }
-    }
-    false
-}
-
-// The place of the first region with the number.
-pub(crate) fn place_of(regions: &[Region], number: RegionId) -> Option<usize>
+// The place of the region with the number, which starts at this address where it is there.
+pub(crate) fn place_of(
+    regions: &[Region],
+    page_bytes: u64,
+    number: RegionId,
+    start: u64,
+) -> Option<usize>
+    requires some { 1 ≤ page_bytes }
+    requires order { AreInOrder page_bytes 0 (map region_seen regions.now) }
+    requires start { StartsAt number.0 start (map region_seen regions.now) }
     ensures { MatchOption result
         ((k : ℕ) (d : Region) → k < length regions.now
         → (slice_index_or regions.now k d).number.0 ≢ number.0)
         (IsPlaceOf number.0 regions.now) }
 {
-    for (place, region) in regions.iter().enumerate() {
-        if region.number.0 == number.0 {
-            return Some(place);
-        }
+    let count = count_up_to(regions, page_bytes, start);
+    if count == 0 {
+        return None;
     }
-    None
+    if regions[count - 1].number.0 == number.0 {
+        Some(count - 1)
+    } else {
+        None
+    }
 }
 
 // The same of a number that a region has.
-pub(crate) fn known_place(regions: &[Region], number: RegionId) -> usize
-    requires { IsSome (region_among number.0 (map region_seen regions.now)) }
+pub(crate) fn known_place(
+    regions: &[Region],
+    page_bytes: u64,
+    number: RegionId,
+    start: u64,
+) -> usize
+    requires some { 1 ≤ page_bytes }
+    requires order { AreInOrder page_bytes 0 (map region_seen regions.now) }
+    requires start { StartsAt number.0 start (map region_seen regions.now) }
+    requires there { IsSome (region_among number.0 (map region_seen regions.now)) }
     ensures { IsPlaceOf number.0 regions.now result }
 {
-    place_of(regions, number).unwrap()
+    place_of(regions, page_bytes, number, start).unwrap()
 }

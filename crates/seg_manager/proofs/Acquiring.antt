@@ -26,9 +26,9 @@ use Rattle.vm_port.specs.declared.traits.mapper.Mapper.{Ghosts as GhostsOfMapper
 use Rattle.gmi_calls.specs.declared.gmi.Gmi.{Ghosts as GhostsOfGmi}
 use Rattle.gmi_calls.proofs.Rising.{rise_none}
 use Rattle.seg_manager.specs.Answering.{open_anew, open_by, open_of, reply_cache}
-use Rattle.seg_manager.specs.Calling.{HasNoRoom, Acquires}
+use Rattle.seg_manager.specs.Calling.{Acquires, HasNoRoomWithout}
 use Rattle.seg_manager.specs.Inner.{IsOpenedAgain, OpensAgain, first_of}
-use Rattle.seg_manager.specs.Keeping.{IsAcquired}
+use Rattle.seg_manager.specs.Keeping.{AreBehind, IsAcquired}
 use Rattle.seg_manager.specs.Outcome.{Outcome}
 use Rattle.seg_manager.specs.ReferenceMachine.{ReferenceMachine, add_cache, number_in, open_one, take_stored, used, with_cache}
 use Rattle.seg_manager.specs.Seen.{is_kept, kept_segments, references_seen, state_of, stored_beside, whole_of}
@@ -42,10 +42,15 @@ use Rattle.seg_manager.proofs.Coming.{stored_all, stored_turn, used_all, used_tu
 use Rattle.seg_manager.proofs.Going.{Caches, length_used}
 use Rattle.seg_manager.proofs.Live.{live_seen}
 use Rattle.seg_manager.proofs.Opening.{alike, alike_but, at, it, mine, n, nothing_there, number, number_hidden, number_seen, of, openings_fun, others_kept, stays_there, stored_there, tied_again}
+use Rattle.seg_manager.proofs.Pushing.{pushed_by}
 use Rattle.seg_manager.proofs.Releasing.{blank_told, number_is}
 use Rattle.seg_manager.proofs.Stated.{state_over}
 use Rattle.seg_manager.proofs.Steps.{AreSeen, blank_used, seen_blank, step_whole}
 use Rattle.seg_manager.proofs.Storing.{apart_by}
+
+-- none has gone
+pub none_gone : (Cause : List ℕ → Type 0) (before now : List ℕ) → now ≡ before → AreBehind Cause before now
+none_gone Cause before now e = record { gone = 0; is = e; few = omega arith; cause = λ i less. absurd (omega (arith, less)) }
 
 pub caches_seen : (told : Option Segments) (m : Machine) (cs : List Named) → (references_seen m told cs).memory.caches ≡ used (whole_of m told cs) 1 m.caches
 caches_seen None m cs = refl
@@ -241,12 +246,12 @@ module _ (m : Machine) (cs : List Named) (ks : List Kept) (room : ℕ) (rs : Lis
         or_parts true b e = absurd (cc e)
         or_parts false b e = (refl, e)
 
-    pub acquired_kept : (Cause : Type 0) (cache : CacheId) → IsAcquired Cause (list_any (λ s. s == seg.0) (kept_segments ks)) seg.0 (kept_segments ks) (Ok cache) (kept_segments (others_kept named.cache.0 ks))
+    pub acquired_kept : (Cause : List ℕ → Type 0) (cache : CacheId) → IsAcquired Cause (list_any (λ s. s == seg.0) (kept_segments ks)) seg.0 (kept_segments ks) (Ok cache) (kept_segments (others_kept named.cache.0 ks))
     acquired_kept Cause cache = subst (λ (b : Bool). IsAcquired Cause b seg.0 (kept_segments ks) (Ok cache) (kept_segments (others_kept named.cache.0 ks))) (sym (any_same ks ones)) (by (is_kept ks named.cache.0) refl)
       where
         by : (b : Bool) → is_kept ks named.cache.0 ≡ b → IsAcquired Cause b seg.0 (kept_segments ks) (Ok cache) (kept_segments (others_kept named.cache.0 ks))
         by true e = filter_same_ ks ones
-        by false e = inl (ap kept_segments (none_mine ks e))
+        by false e = none_gone Cause (kept_segments ks) (kept_segments (others_kept named.cache.0 ks)) (ap kept_segments (none_mine ks e))
 
 module _ {Manager X Chooser : Type 0} (M : GhostsOfMapper X) (G : GhostsOfGmi Manager X Chooser) (before : X) (old : SegManager Manager) (seg : SegId) (place : ℕ) (can : CanCall G old (M.held before) (M.page_bytes before))
     (first : Some place ≡ position_from (first_of seg.0) 0 old.caches.items) where
@@ -271,7 +276,7 @@ module _ {Manager X Chooser : Type 0} (M : GhostsOfMapper X) (G : GhostsOfGmi Ma
     opens = opens_again m old.caches.items old.kept.items old.kept.room old.regions.items seg place o.named (sym first) o.there new.caches.items o.caches told can.tied (blank_told (M.held before) m can.blank)
 
     step : StepAt told (state_of G old (M.held before)) (commands.Plain (OpenSegment seg)) (Ok (replies.Cache o.named.cache)) no_counts (state_of G later (M.held before))
-    step = step_whole (state_of G old (M.held before)) (state_of G later (M.held before)) (commands.Plain (OpenSegment seg)) (Ok (replies.Cache o.named.cache)) no_counts opens.whole opens.next (λ h. opens.leads h no_counts) opens.seen
+    step = step_whole (state_of G old (M.held before)) (state_of G later (M.held before)) (commands.Plain (OpenSegment seg)) (Ok (replies.Cache o.named.cache)) no_counts opens.whole opens.next None (λ r. tt) (λ h. opens.leads h no_counts) opens.seen
 
     can_then : CanCall G later (M.held before) (M.page_bytes before)
     can_then = record {
@@ -293,16 +298,22 @@ module _ {Manager X Chooser : Type 0} (M : GhostsOfMapper X) (G : GhostsOfGmi Ma
         one = omega arith;
         rises = no_counts;
         rose = rise_none (M.counts before);
-        is = record { step = step; live = live_seen M G later before can_then; denied = refl };
+        is = record {
+          step = step;
+          pushed = pushed_by (segments_of (M.held before)) (segments_of (M.held before)) (G.machine old.gmi (M.held before)) old.caches.items [] no_counts (omega arith) (record { may = tt; pushed = refl }) (state_of G old (M.held before)) (state_of G later (M.held before)) refl refl refl;
+          live = live_seen M G later before can_then;
+          denied = refl;
+        };
       };
-      kept = subst (λ (ks : List Kept). IsAcquired (HasNoRoom G old.gmi (M.held before) (OpenSegment seg)) (list_any (λ s. s == seg.0) (kept_segments old.kept.items)) seg.0 (kept_segments old.kept.items) (Ok o.named.cache) (kept_segments ks)) (sym o.kept)
-          (acquired_kept m old.caches.items old.kept.items old.kept.room old.regions.items seg place o.named (sym first) o.there new.caches.items o.caches told can.tied (HasNoRoom G old.gmi (M.held before) (OpenSegment seg)) o.named.cache);
+      kept = subst (λ (ks : List Kept). IsAcquired (HasNoRoomWithout G old.gmi (M.held before) (OpenSegment seg)) (list_any (λ s. s == seg.0) (kept_segments old.kept.items)) seg.0 (kept_segments old.kept.items) (Ok o.named.cache) (kept_segments ks)) (sym o.kept)
+          (acquired_kept m old.caches.items old.kept.items old.kept.room old.regions.items seg place o.named (sym first) o.there new.caches.items o.caches told can.tied (HasNoRoomWithout G old.gmi (M.held before) (OpenSegment seg)) o.named.cache);
       again = λ k e. (
         refl,
         (let both : Some o.named.cache.0 ≡ Some k =
             sym (number_is m can.tied.apart o.named.cache.0 seg.0 (of m told old.caches.items old.kept.items old.kept.room old.regions.items can.tied seg place o.named (sym first) o.there new.caches.items o.caches)) ∙ e in cc both),
       );
       too_many = λ e. absurd (cc e);
+      fault = λ at e. absurd (cc e);
     }
 
     pub acquired_again : Acquires M G before old seg (Ok cache) before new
@@ -316,9 +327,9 @@ as_before : (told : Option Segments) (m : Machine) (cs : List Named) → IfNone 
 as_before None m cs bare = (seen_blank m cs bare, seen_blank m cs bare)
 as_before (Some h) m cs bare = (refl, refl)
 
-not_acquired : (Cause : Type 0) (b : Bool) (seg : ℕ) (kept : List ℕ) (t : Trouble) → IsAcquired Cause b seg kept (Err t) kept
+not_acquired : (Cause : List ℕ → Type 0) (b : Bool) (seg : ℕ) (kept : List ℕ) (t : Trouble) → IsAcquired Cause b seg kept (Err t) kept
 not_acquired Cause true seg kept t = refl
-not_acquired Cause false seg kept t = inl refl
+not_acquired Cause false seg kept t = none_gone Cause kept kept refl
 
 pub lacks_memory : {Manager X Chooser : Type 0} (M : GhostsOfMapper X) (G : GhostsOfGmi Manager X Chooser) (before : X) (old : SegManager Manager) (seg : SegId) → CanCall G old (M.held before) (M.page_bytes before) → Acquires M G before old seg (Err troubles.Memory) before old
 lacks_memory M G before old seg can = record {
@@ -331,15 +342,17 @@ lacks_memory M G before old seg can = record {
     rose = rise_none (M.counts before);
     is = record {
       step = step_whole (state_of G old (M.held before)) (state_of G old (M.held before)) (commands.Plain (OpenSegment seg)) (Err troubles.Memory) no_counts (references_seen (G.machine old.gmi (M.held before)) (segments_of (M.held before)) old.caches.items)
-          (references_seen (G.machine old.gmi (M.held before)) (segments_of (M.held before)) old.caches.items) (λ h. (0, (refl, tt, tt)))
+          (references_seen (G.machine old.gmi (M.held before)) (segments_of (M.held before)) old.caches.items) None (λ r. tt) (λ h. (0, (refl, tt, tt)))
           (as_before (segments_of (M.held before)) (G.machine old.gmi (M.held before)) old.caches.items (blank_told (M.held before) (G.machine old.gmi (M.held before)) can.blank));
+      pushed = pushed_by (segments_of (M.held before)) (segments_of (M.held before)) (G.machine old.gmi (M.held before)) old.caches.items [] no_counts (omega arith) (record { may = tt; pushed = refl }) (state_of G old (M.held before)) (state_of G old (M.held before)) refl refl refl;
       live = live_seen M G old before can;
       denied = refl;
     };
   };
-  kept = not_acquired (HasNoRoom G old.gmi (M.held before) (OpenSegment seg)) (list_any (λ s. s == seg.0) (kept_segments old.kept.items)) seg.0 (kept_segments old.kept.items) troubles.Memory;
-  again = λ k e. (refl, tt);
+  kept = not_acquired (HasNoRoomWithout G old.gmi (M.held before) (OpenSegment seg)) (list_any (λ s. s == seg.0) (kept_segments old.kept.items)) seg.0 (kept_segments old.kept.items) troubles.Memory;
+  again = λ k e. (refl, refl);
   too_many = λ e. absurd (cc e);
+  fault = λ at e. absurd (cc e);
 }
 
 pub acquired_by : {Manager X Chooser : Type 0} (M : GhostsOfMapper X) (G : GhostsOfGmi Manager X Chooser) (before : X) (old : SegManager Manager) (seg : SegId) (place : ℕ) → CanCall G old (M.held before) (M.page_bytes before)

@@ -39,6 +39,7 @@ use Rattle.seg_manager.proofs.Noting.{noted_added, noted_insert, put_noted}
 use Rattle.seg_manager.proofs.Passed.{IsAnswered, IsHiding, shown_visible}
 use Rattle.seg_manager.proofs.Served.{answered_call}
 use Rattle.seg_manager.proofs.Shapes.{segments_in, tied_alike}
+use Rattle.seg_manager.proofs.Pushing.{pushes_none}
 use Rattle.seg_manager.proofs.Staying.{Stays, stays_call}
 use Rattle.seg_manager.proofs.Unused.{is_unreferenced_by, mapped_is, unreferenced_same}
 
@@ -68,7 +69,7 @@ module _ {Manager X Chooser : Type 0} (M : GhostsOfMapper X) (G : GhostsOfGmi Ma
   -- There was no memory to note it.
   pub lacks_map : (new : SegManager Manager) → new ≡ record old { regions = new.regions } → new.regions.items ≡ rs → Serves M G mapper old (Map actor p) (Err troubles.Memory) mapper new
   lacks_map new is same = subst (λ (z : SegManager Manager). Serves M G mapper old (Map actor p) (Err troubles.Memory) mapper z) (sym is) (record {
-    call = stays_call M G mapper old able mapper (record old { regions = new.regions }) (Plain (Map actor p)) troubles.Memory no_counts stays (λ h. (refl, tt, tt));
+    call = stays_call M G mapper old able mapper (record old { regions = new.regions }) (Plain (Map actor p)) troubles.Memory no_counts stays (λ r. tt) (λ h. (refl, tt, tt));
     kept = refl;
   })
     where
@@ -87,6 +88,7 @@ module _ {Manager X Chooser : Type 0} (M : GhostsOfMapper X) (G : GhostsOfGmi Ma
         limit = refl;
         many = refl;
         rose = rise_none (M.counts mapper);
+        pushed = pushes_none M G mapper old no_counts;
         seen = refl;
         denied = refl;
       }

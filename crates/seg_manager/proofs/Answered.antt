@@ -7,7 +7,6 @@ use Rattle.vm_ids.specs.Held.{Segments}
 use Rattle.vm_ids.specs.declared.command.Command.TheVariants as commands
 use Rattle.vm_ids.specs.declared.numbers.CacheId.{CacheId}
 use Rattle.vm_ids.specs.declared.reply.FaultAt.{FaultAt}
-use Rattle.vm_ids.specs.declared.reply.FaultAt.TheVariants as faults
 use Rattle.vm_ids.specs.declared.reply.Reply.TheVariants as replies
 use Rattle.vm_ids.specs.declared.reply.Trouble.{Trouble}
 use Rattle.vm_ids.specs.declared.reply.Trouble.TheVariants as troubles
@@ -15,9 +14,8 @@ use Rattle.vm_ids.specs.declared.refusal.Refusal.TheVariants as refusals
 use Rattle.vm_model.specs.Machine.{Cache, Machine, cache_of}
 use Rattle.vm_model.specs.PageForest.{PageForest}
 use Rattle.vm_model.specs.Answering.{Answer, Answered, destroy_of, is_mapped, reply, unless, with_some}
-use Rattle.vm_model.specs.Outcome.{IsAlike, MayFault, Outcome, OutcomeAt, blank, blank_cache}
+use Rattle.vm_model.specs.Outcome.{IsAlike, Outcome, OutcomeAt, blank, blank_cache}
 use Rattle.vm_model.proofs.Parts.Lists.{numbered-map}
-use Rattle.seg_manager.specs.Thinning.{IsDestroyFault}
 use Rattle.seg_manager.proofs.Destroyed.{without}
 
 -- It is gone.
@@ -27,9 +25,8 @@ pub record IsGone (m : Machine) (cache : ℕ) (a : Answer) (n : Machine) : Type 
 
 -- The mapper failed, and the machine stays.
 pub record IsFault (m : Machine) (a : Answer) (n : Machine) (rises : MapperCounts) : Type 0 where
-  pub trouble : Trouble
-  pub is : a ≡ Err trouble
-  pub fault : IsDestroyFault trouble
+  pub at : FaultAt
+  pub is : a ≡ Err (troubles.Mapper at)
   pub same : n ≡ m
   pub failed : 0 < rises.faults
 
@@ -38,11 +35,6 @@ unfolding destroy_of with_some unless
 destroyed m cache c there free =
     ap (λ (o : Option Cache). with_some o refusals.NoCache m (λ c. unless (is_mapped m cache) refusals.InUse m (reply replies.Done (without m cache)))) there
     ∙ ap (λ (b : Bool). unless b refusals.InUse m (reply replies.Done (without m cache))) free
-
-fault_of : (m : Machine) (f : Option PageForest) (h : Segments) (cache : CacheId) (at : FaultAt) (rises : MapperCounts) → MayFault m f (commands.Destroy cache) h at rises → IsDestroyFault (troubles.Mapper at)
-fault_of m f h cache (faults.Page p) rises may = tt
-fault_of m f h cache (faults.Save done) rises may = tt
-fault_of m f h cache at rises may = absurd may
 
 by_outcome : (m : Machine) (f : Option PageForest) (cache : CacheId) (c : Cache) → cache_of m cache.0 ≡ Some c → is_mapped m cache.0 ≡ false → (h : Segments) (a : Answer) (n : Machine) (rises : MapperCounts)
     → Outcome m f (commands.Destroy cache) h a n rises → IsGone m cache.0 a n ⊎ IsFault m a n rises
@@ -54,7 +46,7 @@ by_outcome m f cache c there free h (Err (troubles.Refused r)) n rises o =
     let wrong : Ok replies.Done ≡ Err (troubles.Refused r) = ap (λ (x : Answered). x.answer) e in
     absurd (cc wrong)
 by_outcome m f cache c there free h (Err (troubles.Mapper at)) n rises o =
-    inr (record { trouble = troubles.Mapper at; is = refl; fault = fault_of m f h cache at rises o.2; same = o.0; failed = o.1 })
+    inr (record { at = at; is = refl; same = o.0; failed = o.1 })
 by_outcome m f cache c there free h (Err troubles.Memory) n rises o = absurd o.1
 
 alike_ok : (a b : Answer) → a ≡ Ok replies.Done → IsAlike a b → b ≡ Ok replies.Done
@@ -80,9 +72,8 @@ destroy_answered None m f cache c there free a n rises o =
             ∙ ap (λ (x : Machine). without x cache.0) (sym o.is);
       })
       | inr g ↦ inr (record {
-        trouble = g.trouble;
-        is = alike_err g.trouble o.whole_answer a g.is o.alike;
-        fault = g.fault;
+        at = g.at;
+        is = alike_err (troubles.Mapper g.at) o.whole_answer a g.is o.alike;
         same = o.is_next ∙ ap blank g.same ∙ sym o.is;
         failed = g.failed;
       })

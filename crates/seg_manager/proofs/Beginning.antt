@@ -1,15 +1,16 @@
 -- A segment that has no cache is opened: what that call of the manager of segments comes to.
-use Rattle.std.proofs.Common.{◌≡◌, ◌==◌, inl, inr, ℕ, ◌+◌, ◌^◌, ◌<◌, ◌≤◌, List, [], ◌∷◌, ◌++◌, length, drop, Option, Some, None, refl, sym, ap, subst, ◌∙◌, arith}
+use Rattle.std.proofs.Common.{◌≡◌, ◌==◌, inl, inr, ℕ, ◌+◌, ◌^◌, ◌≤◌, List, [], ◌∷◌, ◌++◌, length, drop, take, Option, Some, None, refl, sym, ap, subst, ◌∙◌, arith}
 use Rattle.std.specs.Prelude.{IfSome, Ok, Err, option_map}
 use Rattle.std.specs.List.{list_any, position_from}
-use Rattle.std.proofs.lemmas.List.{drop-map, length-append}
+use Rattle.std.proofs.lemmas.List.{drop-map, length-append, length-map}
 use Rattle.vm_ids.specs.Counting.{MapperCounts, counts_sum, no_counts}
 use Rattle.vm_ids.specs.Held.{Segments, segments_of}
-use Rattle.vm_ids.specs.declared.command.Command.TheVariants.{OpenSegment}
+use Rattle.vm_ids.specs.declared.command.Command.TheVariants.{Destroy, OpenSegment}
 use Rattle.vm_ids.specs.declared.command.KeepCommand.TheVariants as commands
 use Rattle.vm_ids.specs.declared.numbers.CacheId.{CacheId}
 use Rattle.vm_ids.specs.declared.numbers.SegId.{SegId}
 use Rattle.vm_ids.specs.declared.refusal.Refusal.TheVariants as refusals
+use Rattle.vm_ids.specs.declared.reply.FaultAt.{FaultAt}
 use Rattle.vm_ids.specs.declared.reply.FaultAt.TheVariants as faults
 use Rattle.vm_ids.specs.declared.reply.Reply.TheVariants as replies
 use Rattle.vm_ids.specs.declared.reply.Trouble.{Trouble}
@@ -25,30 +26,32 @@ use Rattle.gmi_calls.specs.Managing.{meanings_of}
 use Rattle.gmi_calls.specs.declared.gmi.Gmi.{Ghosts as GhostsOfGmi}
 use Rattle.gmi_calls.proofs.Rising.{rise_none, rise_then}
 use Rattle.seg_manager.specs.Answering.{Answered, reply_cache}
-use Rattle.seg_manager.specs.Calling.{Acquires, HasNoRoom, SegmentCall}
+use Rattle.seg_manager.specs.Calling.{Acquires, FailsBelow, HasNoRoomWithout, SegmentCall}
 use Rattle.seg_manager.specs.Inner.{first_of}
-use Rattle.seg_manager.specs.Keeping.{AreBehind}
+use Rattle.seg_manager.specs.Keeping.{AreBehind, without}
 use Rattle.seg_manager.specs.Outcome.{Outcome}
 use Rattle.seg_manager.specs.ReferenceMachine.{ReferenceMachine, number_in, used}
 use Rattle.seg_manager.specs.Seen.{kept_segments, references_seen, state_of, whole_of}
-use Rattle.seg_manager.specs.Thinning.{Fails, IsDestroyFault, IsTried, Thins, Tries, credit, seen_with, Trying}
+use Rattle.seg_manager.specs.Thinning.{Fails, IsTried, Pushes, Thins, Tries, credit, seen_with, Trying}
 use Rattle.seg_manager.specs.Tying.{AreTied, CanCall}
 use Rattle.seg_manager.specs.declared.manager.SegManager.{SegManager}
 use Rattle.seg_manager.specs.Names.{AreNamed}
 use Rattle.seg_manager.specs.declared.tables.Kept.{Kept}
 use Rattle.seg_manager.specs.declared.tables.Named.{Named}
-use Rattle.seg_manager.proofs.Acquiring.{anew_row, caches_seen}
+use Rattle.seg_manager.proofs.Acquiring.{anew_row, caches_seen, none_gone}
 use Rattle.seg_manager.proofs.Anew.{opened_next, tied_anew}
 use Rattle.seg_manager.proofs.Calls.{able_after, backed_next, call_is, denied_after, forest, made_after, told_after}
+use Rattle.seg_manager.proofs.Failing.{IsFailing, failing, number_blank, open_may, open_none}
 use Rattle.seg_manager.proofs.Live.{live_seen}
 use Rattle.seg_manager.proofs.Lacking.{IsLacking, open_lacks}
 use Rattle.seg_manager.proofs.Going.{Caches, length_used}
 use Rattle.seg_manager.proofs.Leaving.{credit_few, seen_length}
 use Rattle.seg_manager.proofs.Named.{tied_named}
 use Rattle.seg_manager.proofs.Opened.{Ends, IsOpen, appended, failed, lacks, made, many, nowhere, number_next}
+use Rattle.seg_manager.proofs.Pushing.{HasPages, pages_of, pushed_by, pushes_call, pushes_none, pushes_then}
 use Rattle.seg_manager.proofs.Releasing.{blank_told}
 use Rattle.seg_manager.proofs.Staying.{Stays, refused_again, stays_by, stays_call}
-use Rattle.seg_manager.proofs.Steps.{step_whole}
+use Rattle.seg_manager.proofs.Steps.{AreSeen, step_whole}
 use Rattle.seg_manager.proofs.Tried.{can_same, none_noted, noted_none, open_ended, open_leaves, seen_same}
 use Rattle.seg_manager.proofs.Unopened.{behind_not, goes_on_by, not_kept, nowhere_row, number_below, number_unseen, opened_of, seen_opened, stored_as, stored_nothing, whole_caches, whole_for, whole_stored}
 
@@ -115,14 +118,25 @@ module _ {Manager X Chooser : Type 0} (M : GhostsOfMapper X) (G : GhostsOfGmi Ma
     as_many : length m.caches ≡ length m0.caches
     as_many = sym (seen_length told m by.caches.items) ∙ ap (λ (r : ReferenceMachine). length r.memory.caches) thins.seen ∙ seen_length told0 m0 start.caches.items
 
-    abbrev Cause : Type 0
-    Cause = HasNoRoom G old.gmi (M.held before) (OpenSegment seg)
+    pushes_by : Pushes M G before old middle thins.rises
+    pushes_by = record { pushes = thins.pushed.pushes; few = thins.pushed.few; rule = thins.pushed.rule }
+
+    machine_by : m ≡ without (take thins.gone (kept_segments old.kept.items)) m0
+    machine_by = thins.machine ∙ ap (λ (ks : List Kept). without (take thins.gone (kept_segments ks)) m0) kept
+
+    has_pages : HasPages m0 m
+    has_pages = pages_of M G before middle old by (take thins.gone (kept_segments old.kept.items)) machine_by
+
+    abbrev Cause : List ℕ → Type 0
+    Cause = HasNoRoomWithout G old.gmi (M.held before) (OpenSegment seg)
 
     kept_behind : AreBehind Cause (kept_segments old.kept.items) (kept_segments by.kept.items)
-    kept_behind = elim trying.first [
-      | inl at ↦ inl (ap kept_segments (ap (λ (x : SegManager Manager). x.kept.items) at.0 ∙ kept))
-      | inr none ↦ inr (none, thins.kept.0, ap kept_segments (thins.kept.1 ∙ ap (drop thins.kept.0) kept) ∙ sym (drop-map (λ (k : Kept). k.seg.0) thins.kept.0 old.kept.items))
-    ]
+    kept_behind = record {
+      gone = thins.gone;
+      is = ap kept_segments (thins.kept ∙ ap (drop thins.gone) kept) ∙ sym (drop-map (λ (k : Kept). k.seg.0) thins.gone old.kept.items);
+      few = omega (arith, thins.gone_few, ap length kept, length-map old.kept.items (λ (k : Kept). k.seg.0));
+      cause = λ i less. subst (λ (ks : List Kept). Cause (take i (kept_segments ks))) kept (trying.cause i less);
+    }
 
     no_cache : (n : ℕ) → number_in 1 m0.caches seg.0 ≡ Some n → ⊥
     no_cache n e = (let wrong : None ≡ Some n = sym (number_below m0 told0 old.caches.items old.kept.items old.kept.room old.regions.items can.tied seg anew) ∙ e in cc wrong)
@@ -135,42 +149,89 @@ module _ {Manager X Chooser : Type 0} (M : GhostsOfMapper X) (G : GhostsOfGmi Ma
       tried_same : G.machine gmi (M.held after) ≡ m
       tried_same = open_leaves M G by middle thins.can seg anew_by (troubles.Refused refusals.TooMany) after gmi call
 
-      vain_outcome : (t : Trouble) → IsDestroyFault t → (rises : MapperCounts) → 0 < rises.faults → (h : Segments) → Outcome R None (commands.Plain (OpenSegment seg)) h 0 (Err t) R rises
-      vain_outcome (troubles.Mapper (faults.Page p)) d rises some h = (refl, some, number_R, goes_on_by R seg 0 (faults.Page p) number_R (R.stored seg.0) refl)
-      vain_outcome (troubles.Mapper (faults.Save k)) d rises some h = (refl, some, number_R, goes_on_by R seg 0 (faults.Save k) number_R (R.stored seg.0) refl)
-      vain_outcome t d rises some h = absurd d
-
-      never_many : (t : Trouble) → IsDestroyFault t → t ≡ troubles.Refused refusals.TooMany → ⊥
-      never_many (troubles.Mapper at) d e = absurd (cc e)
-      never_many t d e = absurd d
-
       module _ (t : Trouble) (later : X) (new : SegManager Manager) (f : Fails M G after tried t later new) where
         abbrev vain_rises : MapperCounts
         vain_rises = counts_sum (counts_sum thins.rises (call_is M G by gmi middle after (OpenSegment seg) (Err (troubles.Refused refusals.TooMany)) thins.can call).rises) f.rises
 
+        tried_seen : seen_with M G tried after ≡ R
+        tried_seen = seen_same M G by gmi middle after (OpenSegment seg) (Err (troubles.Refused refusals.TooMany)) thins.can call tried_same
+
         vain_seen : seen_with M G new later ≡ R
-        vain_seen = f.seen ∙ seen_same M G by gmi middle after (OpenSegment seg) (Err (troubles.Refused refusals.TooMany)) thins.can call tried_same
+        vain_seen = f.seen ∙ tried_seen
 
         vain_denied : option_map (λ (h : Segments). h.denied) (segments_of (M.held later)) ≡ option_map (λ (h : Segments). h.denied) told
         vain_denied = f.denied ∙ denied_after M G by gmi middle after (OpenSegment seg) (Err (troubles.Refused refusals.TooMany)) thins.can call
 
+        -- the machine below, as it was asked
+        abbrev asked_at : Machine
+        asked_at = G.machine gmi (M.held after)
+
+        none_there : OutcomeAt (segments_of (M.held after)) asked_at (G.forest by.gmi (M.held middle)) (OpenSegment seg) (Err (troubles.Refused refusals.TooMany)) asked_at
+            (call_is M G by gmi middle after (OpenSegment seg) (Err (troubles.Refused refusals.TooMany)) thins.can call).rises
+        none_there =
+            subst (λ (x : Machine). OutcomeAt (segments_of (M.held after)) x (G.forest by.gmi (M.held middle)) (OpenSegment seg) (Err (troubles.Refused refusals.TooMany)) asked_at
+            (call_is M G by gmi middle after (OpenSegment seg) (Err (troubles.Refused refusals.TooMany)) thins.can call).rises)
+            (sym tried_same) (call_is M G by gmi middle after (OpenSegment seg) (Err (troubles.Refused refusals.TooMany)) thins.can call).is.outcome
+
+        tried_tied : AreTied asked_at (segments_of (M.held after)) by.caches.items by.kept.items by.kept.room by.regions.items
+        tried_tied = (can_same M G by gmi middle after (OpenSegment seg) (Err (troubles.Refused refusals.TooMany)) thins.can call tried_same).tied
+
+        fails : IsFailing (segments_of (M.held later)) (state_of G old (M.held before)) (state_of G new (M.held later)) (commands.Plain (OpenSegment seg)) f.at vain_rises
+        fails =
+            failing asked_at by.caches.items by.kept.items by.kept.room by.regions.items f.first f.rest f.kept (G.forest gmi (M.held after)) (G.machine new.gmi (M.held later)) f.at f.rises vain_rises (commands.Plain (OpenSegment seg)) (state_of G old (M.held before)) (state_of G new (M.held later))
+            (segments_of (M.held after)) (segments_of (M.held later)) f.denied tried_tied (sym seen_by ∙ sym tried_seen) f.seen f.fault
+            (open_none asked_at by.caches.items by.kept.items by.kept.room by.regions.items (segments_of (M.held after)) tried_tied (G.forest by.gmi (M.held middle)) asked_at
+            (call_is M G by gmi middle after (OpenSegment seg) (Err (troubles.Refused refusals.TooMany)) thins.can call).rises seg anew_by none_there)
+
+        -- the definition's machine has no cache of the segment
+        number_fails : number_in 1 fails.whole.memory.caches seg.0 ≡ None
+        number_fails = of_seen (segments_of (M.held later)) fails.seen
+          where
+            of_seen : (now : Option Segments) → AreSeen now (state_of G old (M.held before)) (state_of G new (M.held later)) fails.whole fails.whole → number_in 1 fails.whole.memory.caches seg.0 ≡ None
+            of_seen (Some h) seen = ap (λ (r : ReferenceMachine). number_in 1 r.memory.caches seg.0) (sym seen.0 ∙ sym seen_by) ∙ number_R
+            of_seen None seen = sym (number_blank seg.0 1 fails.whole.memory.caches) ∙ ap (λ (r : ReferenceMachine). number_in 1 r.memory.caches seg.0) (sym seen.0 ∙ sym seen_by) ∙ number_R
+
+        vain_outcome : (h : Segments) → Outcome fails.whole fails.forest (commands.Plain (OpenSegment seg)) h 0 (Err t) fails.whole vain_rises
+        vain_outcome h =
+            subst (λ (x : Trouble). Outcome fails.whole fails.forest (commands.Plain (OpenSegment seg)) h 0 (Err x) fails.whole vain_rises) (sym f.is)
+            (refl, omega (arith, f.failed), open_may fails.whole fails.forest seg h f.at vain_rises (fails.fails h), goes_on_by fails.whole seg 0 f.at number_fails (fails.whole.stored seg.0) refl)
+
+        never_many : t ≡ troubles.Refused refusals.TooMany → ⊥
+        never_many e = (let wrong : troubles.Mapper f.at ≡ troubles.Refused refusals.TooMany = sym f.is ∙ e in cc wrong)
+
+        fails_below : FailsBelow M G before old (OpenSegment seg) f.at later new
+        fails_below = record {
+          gone = thins.gone;
+          middle = after;
+          by = gmi;
+          machine = tried_same ∙ machine_by;
+          failing = Destroy f.first.cache;
+          is = inr (f.first, f.rest, (ap (drop thins.gone) (sym kept) ∙ sym thins.kept ∙ f.kept), refl);
+          call = f.call;
+        }
+
         pub in_vain : Acquires M G before old seg (Err t) later new
         in_vain = record {
-          call = stays_call M G before old can later new (commands.Plain (OpenSegment seg)) t vain_rises (record {
+          call = stays_by M G before old can later new (commands.Plain (OpenSegment seg)) t vain_rises (record {
             can = f.can;
             made = omega (arith, f.made, made_after M G by gmi middle after (OpenSegment seg) (Err (troubles.Refused refusals.TooMany)) thins.can call, thins.credit, credit_few M G start before start_can);
             limit = ap (λ (x : SegManager Manager). x.limit) f.same ∙ thins.limit;
             many = f.caches ∙ ap (λ (x : Machine). length x.caches) tried_same ∙ as_many;
             rose = rise_then (M.counts before) (M.counts after) (M.counts later) (counts_sum thins.rises (call_is M G by gmi middle after (OpenSegment seg) (Err (troubles.Refused refusals.TooMany)) thins.can call).rises) f.rises
                 (rise_then (M.counts before) (M.counts middle) (M.counts after) thins.rises (call_is M G by gmi middle after (OpenSegment seg) (Err (troubles.Refused refusals.TooMany)) thins.can call).rises thins.rose (call_is M G by gmi middle after (OpenSegment seg) (Err (troubles.Refused refusals.TooMany)) thins.can call).rose) f.rose;
+            pushed = pushes_then M G before after later old tried (counts_sum thins.rises (call_is M G by gmi middle after (OpenSegment seg) (Err (troubles.Refused refusals.TooMany)) thins.can call).rises) f.rises (subst (HasPages m0) (sym tried_same) has_pages)
+                (pushes_then M G before middle after old by thins.rises (call_is M G by gmi middle after (OpenSegment seg) (Err (troubles.Refused refusals.TooMany)) thins.can call).rises has_pages pushes_by
+                (pushes_call M G by gmi middle after (OpenSegment seg) (Err (troubles.Refused refusals.TooMany)) thins.can call)) f.pushed;
             seen = vain_seen ∙ seen_by;
             denied = vain_denied ∙ thins.denied;
-          }) (λ h. subst (λ (r : ReferenceMachine). Outcome r None (commands.Plain (OpenSegment seg)) h 0 (Err t) r vain_rises) seen_by (vain_outcome t f.fault vain_rises (omega (arith, f.failed)) h));
-          kept = behind_not (HasNoRoom G old.gmi (M.held before) (OpenSegment seg)) (list_any (λ s. s == seg.0) (kept_segments old.kept.items)) seg.0 (kept_segments old.kept.items) (kept_segments new.kept.items) (Err t)
+          }) fails.whole fails.forest (λ r. tt) fails.seen vain_outcome;
+          kept = behind_not (HasNoRoomWithout G old.gmi (M.held before) (OpenSegment seg)) (list_any (λ s. s == seg.0) (kept_segments old.kept.items)) seg.0 (kept_segments old.kept.items) (kept_segments new.kept.items) (Err t)
               (not_kept m0 told0 old.caches.items old.kept.items old.kept.room old.regions.items can.tied seg anew)
               (subst (AreBehind Cause (kept_segments old.kept.items)) (sym (ap (λ (x : SegManager Manager). kept_segments x.kept.items) f.same)) kept_behind);
           again = λ k e. absurd (no_cache k e);
-          too_many = λ e. absurd (never_many t f.fault (let s : t ≡ troubles.Refused refusals.TooMany = cc e in s));
+          too_many = λ e. absurd (never_many (let s : t ≡ troubles.Refused refusals.TooMany = cc e in s));
+          fault = λ at e. (let s : t ≡ troubles.Mapper at = cc e in let both : troubles.Mapper f.at ≡ troubles.Mapper at = sym f.is ∙ s in let is : f.at ≡ at = cc both in
+              subst (λ (x : FaultAt). FailsBelow M G before old (OpenSegment seg) x later new) is fails_below);
         }
 
     -- It was asked, and wasn't opened.
@@ -218,20 +279,21 @@ module _ {Manager X Chooser : Type 0} (M : GhostsOfMapper X) (G : GhostsOfGmi Ma
         limit = thins.limit;
         many = ap (λ (x : Machine). length x.caches) same ∙ as_many;
         rose = rise_then (M.counts before) (M.counts middle) (M.counts after) thins.rises its_rises thins.rose (call_is M G by gmi middle after (OpenSegment seg) (Err t) thins.can call).rose;
+        pushed = pushes_then M G before middle after old by thins.rises its_rises has_pages pushes_by (pushes_call M G by gmi middle after (OpenSegment seg) (Err t) thins.can call);
         seen = seen_then ∙ seen_by;
         denied = denied_then ∙ thins.denied;
       }
 
       -- of what is seen
       so : ((h : Segments) → Says R t h) → SegmentCall M G before old (commands.Plain (OpenSegment seg)) (Err t) after left
-      so says = stays_call M G before old can after left (commands.Plain (OpenSegment seg)) t rises stays (λ h. subst (λ (r : ReferenceMachine). Says r t h) seen_by (says h))
+      so says = stays_call M G before old can after left (commands.Plain (OpenSegment seg)) t rises stays (λ r. tt) (λ h. subst (λ (r : ReferenceMachine). Says r t h) seen_by (says h))
 
       said : (t ≡ troubles.Refused refusals.TooMany → left.kept.items ≡ []) → Ends then_told m seg.0 (Err t) n its_rises → SegmentCall M G before old (commands.Plain (OpenSegment seg)) (Err t) after left
       said kept (made p) = absurd (let wrong : Err t ≡ Ok (replies.Cache (record { 0 = number_next m })) = p.answer in cc wrong)
       said kept (many e s) =
           let is : t ≡ troubles.Refused refusals.TooMany = cc e in
           let L = lacking (kept is) is in
-          stays_by M G before old can after left (commands.Plain (OpenSegment seg)) t rises stays L.whole L.seen (λ h. subst (λ (x : Trouble). Says L.whole x h) (sym is) (inl (refl, L.lacks)))
+          stays_by M G before old can after left (commands.Plain (OpenSegment seg)) t rises stays L.whole None (λ r. tt) L.seen (λ h. subst (λ (x : Trouble). Says L.whole x h) (sym is) (inl (refl, L.lacks)))
       said kept (nowhere e s none) =
           so (λ h. subst (λ (x : Trouble). Says R x h) (let is : troubles.Refused refusals.NoSegment ≡ t = cc e in is)
           (nowhere_row R seg.0 0 number_R (stored_nothing told m by.caches.items seg.0
@@ -244,13 +306,22 @@ module _ {Manager X Chooser : Type 0} (M : GhostsOfMapper X) (G : GhostsOfGmi Ma
       pub not_opened : (t ≡ troubles.Refused refusals.TooMany → left.kept.items ≡ []) → Acquires M G before old seg (Err t) after left
       not_opened none = record {
         call = said none (open_ended M G by middle thins.can seg anew_by (Err t) after gmi call);
-        kept = behind_not (HasNoRoom G old.gmi (M.held before) (OpenSegment seg)) (list_any (λ s. s == seg.0) (kept_segments old.kept.items)) seg.0 (kept_segments old.kept.items) (kept_segments left.kept.items) (Err t)
+        kept = behind_not (HasNoRoomWithout G old.gmi (M.held before) (OpenSegment seg)) (list_any (λ s. s == seg.0) (kept_segments old.kept.items)) seg.0 (kept_segments old.kept.items) (kept_segments left.kept.items) (Err t)
             (not_kept m0 told0 old.caches.items old.kept.items old.kept.room old.regions.items can.tied seg anew) kept_behind;
         again = λ k e. absurd (no_cache k e);
         too_many = λ e. (let is : t ≡ troubles.Refused refusals.TooMany = cc e in (
           none is,
           refused_again then_told m n (forest M G by gmi middle after (OpenSegment seg) (Err t) thins.can call) (G.forest gmi (M.held after)) (OpenSegment seg) (λ x f g h. refl) t its_rises same asked_for is,
         ));
+        fault = λ at e. record {
+          gone = thins.gone;
+          middle = middle;
+          by = by.gmi;
+          machine = machine_by;
+          failing = OpenSegment seg;
+          is = inl refl;
+          call = subst (λ (x : Trouble). MapperCall M (meanings_of G) middle by.gmi (OpenSegment seg) (Err x) after gmi) (let s : t ≡ troubles.Mapper at = cc e in s) call;
+        };
       }
 
     -- It was opened, and is noted.
@@ -325,6 +396,9 @@ module _ {Manager X Chooser : Type 0} (M : GhostsOfMapper X) (G : GhostsOfGmi Ma
       open_denied : option_map (λ (h : Segments). h.denied) told_then ≡ option_map (λ (h : Segments). h.denied) told
       open_denied = denied_after M G by gmi middle after (OpenSegment seg) (Ok (replies.Cache cache)) thins.can call
 
+      all_pushed : Pushes M G before old after (counts_sum thins.rises open_rises)
+      all_pushed = pushes_then M G before middle after old by thins.rises open_rises has_pages pushes_by (pushes_call M G by gmi middle after (OpenSegment seg) (Ok (replies.Cache cache)) thins.can call)
+
       pub was_opened : Acquires M G before old seg (Ok cache) after final
       was_opened = record {
         call = record {
@@ -335,19 +409,21 @@ module _ {Manager X Chooser : Type 0} (M : GhostsOfMapper X) (G : GhostsOfGmi Ma
           rises = counts_sum thins.rises open_rises;
           rose = rise_then (M.counts before) (M.counts middle) (M.counts after) thins.rises open_rises thins.rose (call_is M G by gmi middle after (OpenSegment seg) (Ok (replies.Cache cache)) thins.can call).rose;
           is = record {
-            step = step_whole (state_of G old (M.held before)) (state_of G final (M.held after)) (commands.Plain (OpenSegment seg)) (Ok (replies.Cache cache)) (counts_sum thins.rises open_rises) whole next
+            step = step_whole (state_of G old (M.held before)) (state_of G final (M.held after)) (commands.Plain (OpenSegment seg)) (Ok (replies.Cache cache)) (counts_sum thins.rises open_rises) whole next None (λ r. tt)
                 (λ h. leads h (counts_sum thins.rises open_rises))
                 (seen_opened told told_then m n' by.caches.items by.kept.items by.kept.room by.regions.items thins.can.tied seg anew_by p.pages d refl number_is refl
                 (told_after M G by gmi middle after (OpenSegment seg) (Ok (replies.Cache cache)) thins.can call) p.next (blank_told (M.held middle) m thins.can.blank) (blank_told (M.held after) n' final_can.blank)
                 (state_of G old (M.held before)) (state_of G final (M.held after)) (sym seen_by) (ap (references_seen n' told_then) pushed));
+            pushed = pushed_by told0 told_then m0 old.caches.items all_pushed.pushes (counts_sum thins.rises open_rises) all_pushed.few all_pushed.rule (state_of G old (M.held before)) (state_of G final (M.held after)) refl refl refl;
             live = live_seen M G final after final_can;
             denied = open_denied ∙ thins.denied;
           };
         };
-        kept = behind_not (HasNoRoom G old.gmi (M.held before) (OpenSegment seg)) (list_any (λ s. s == seg.0) (kept_segments old.kept.items)) seg.0 (kept_segments old.kept.items) (kept_segments final.kept.items) (Ok cache)
+        kept = behind_not (HasNoRoomWithout G old.gmi (M.held before) (OpenSegment seg)) (list_any (λ s. s == seg.0) (kept_segments old.kept.items)) seg.0 (kept_segments old.kept.items) (kept_segments final.kept.items) (Ok cache)
             (not_kept m0 told0 old.caches.items old.kept.items old.kept.room old.regions.items can.tied seg anew) kept_behind;
         again = λ k e. absurd (no_cache k e);
         too_many = λ e. absurd (cc e);
+        fault = λ at e. absurd (cc e);
       }
 
   -- There was no memory to note it.
@@ -359,13 +435,15 @@ module _ {Manager X Chooser : Type 0} (M : GhostsOfMapper X) (G : GhostsOfGmi Ma
       limit = refl;
       many = refl;
       rose = rise_none (M.counts before);
+      pushed = pushes_none M G before old no_counts;
       seen = ap (references_seen m0 told0) caches;
       denied = refl;
-    }) (λ h. (refl, tt, tt));
-    kept = behind_not (HasNoRoom G old.gmi (M.held before) (OpenSegment seg)) (list_any (λ s. s == seg.0) (kept_segments old.kept.items)) seg.0 (kept_segments old.kept.items) (kept_segments start.kept.items) (Err troubles.Memory)
-        (not_kept m0 told0 old.caches.items old.kept.items old.kept.room old.regions.items can.tied seg anew) (inl (ap kept_segments kept));
+    }) (λ r. tt) (λ h. (refl, tt, tt));
+    kept = behind_not (HasNoRoomWithout G old.gmi (M.held before) (OpenSegment seg)) (list_any (λ s. s == seg.0) (kept_segments old.kept.items)) seg.0 (kept_segments old.kept.items) (kept_segments start.kept.items) (Err troubles.Memory)
+        (not_kept m0 told0 old.caches.items old.kept.items old.kept.room old.regions.items can.tied seg anew) (none_gone (HasNoRoomWithout G old.gmi (M.held before) (OpenSegment seg)) (kept_segments old.kept.items) (kept_segments start.kept.items) (ap kept_segments kept));
     again = λ k e. absurd (let wrong : None ≡ Some k = sym (number_below m0 told0 old.caches.items old.kept.items old.kept.room old.regions.items can.tied seg anew) ∙ e in cc wrong);
     too_many = λ e. absurd (cc e);
+    fault = λ at e. absurd (cc e);
   }
 
   -- What the tries came to

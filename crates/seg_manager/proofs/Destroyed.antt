@@ -16,6 +16,7 @@ use Rattle.vm_model.proofs.Parts.Pairs.{each_by}
 use Rattle.gmi_calls.specs.Backing.{AreBacked}
 use Rattle.gmi_calls.proofs.BackedCaches.{named_is}
 use Rattle.seg_manager.specs.ReferenceMachine.{ReferenceMachine, goes, is_open, let_go, stored_from, used}
+use Rattle.seg_manager.specs.Keeping.{without as but_without}
 use Rattle.seg_manager.specs.Seen.{is_kept, openings_in, references_seen, stored_beside, whole_of}
 use Rattle.seg_manager.specs.Tying.{AreTied, is_unreferenced}
 use Rattle.seg_manager.specs.declared.tables.Kept.{Kept}
@@ -23,6 +24,7 @@ use Rattle.seg_manager.specs.declared.tables.Mapped.{Mapped}
 use Rattle.seg_manager.specs.declared.tables.Named.{Named}
 use Rattle.seg_manager.proofs.Entries.{IsOne, filter_few, fun_same, is_other, named_entries, noted_gone, openings_gone}
 use Rattle.seg_manager.proofs.Going.{Caches, gone_used, goes_same, stored_set, used_same}
+use Rattle.seg_manager.proofs.Lesser.{gone_one}
 use Rattle.seg_manager.proofs.Naming.{gone_stored, has_named, none_goes, set_named}
 use Rattle.seg_manager.proofs.Pushed.{Follow, Told}
 
@@ -116,7 +118,7 @@ module _ (m : Machine) (told : Option Segments) (caches : List Named) (first : K
   kept_first : is_kept (first ∷ rest) n ≡ true
   kept_first = ap (λ (b : Bool). b || is_kept rest n) (eq-eqb n n refl)
 
-  unreferenced : is_unreferenced W n ≡ true
+  pub unreferenced : is_unreferenced W n ≡ true
   unreferenced = sym (t.kept n) ∙ kept_first
 
   gone : goes W n there.0 ≡ true
@@ -162,6 +164,10 @@ module _ (m : Machine) (told : Option Segments) (caches : List Named) (first : K
     where
       there_at : (j : ℕ) (d : Cache) → slice_get m.caches j ≡ Some (Some d) → cache_of m (suc j) ≡ Some d
       there_at j d e = at_some m.caches (suc j) (omega arith) ∙ ap (option_and_then (λ (c : Option Cache). c)) (ap (slice_get m.caches) (let k : suc j - 1 ≡ j = omega arith in k) ∙ e)
+
+  -- no other is of its segment
+  pub without_first : but_without (seg ∷ []) m ≡ m'
+  without_first = λ i. record m { caches = gone_one seg m.caches (n - 1) there.0 at (named_self seg there.0 there.2) only i }
 
   -- its segment has no cache then
   nobody : has_named seg (set m.caches (n - 1) None) ≡ false

@@ -22,6 +22,7 @@ use Rattle.seg_manager.specs.Answering.{MayHave, leaving_by, plain_of}
 use Rattle.seg_manager.specs.Keeping.{mapped_in, mapped_under}
 use Rattle.seg_manager.specs.ReferenceMachine.{ReferenceMachine}
 use Rattle.seg_manager.specs.declared.tables.Leaving.{Leaving}
+use Rattle.seg_manager.specs.Stepping.{IsWholeFor}
 use Rattle.seg_manager.specs.declared.tables.Leaving.TheVariants as leavings
 
 -- The command, and what it says of actors alone
@@ -79,6 +80,11 @@ segment_row (leavings.Region region) m h number = ap (leaving_by m) (row (leavin
 pub may_have : (l : Leaving) (m : ReferenceMachine) (number : ℕ) → MayHave m (commands.Plain (command_of l)) number
 may_have (leavings.Actor actor) m number = tt
 may_have (leavings.Region region) m number = tt
+
+-- it tells no bytes
+pub whole_for : (l : Leaving) (m : ReferenceMachine) → IsWholeFor (commands.Plain (command_of l)) m
+whole_for (leavings.Actor actor) m = tt
+whole_for (leavings.Region region) m = tt
 
 no_fault : (l : Leaving) (m : Machine) (f : Option PageForest) (h : Segments) (at : FaultAt) (rises : MapperCounts) → plain_outcome.MayFault m f (command_of l) h at rises → ⊥
 no_fault (leavings.Actor actor) m f h at rises may = may

@@ -9,9 +9,11 @@ pub mod Reopening
 pub mod Going
 pub mod Pushed
 pub mod Entries
+pub mod Lesser
 pub mod Destroyed
 pub mod Answered
 pub mod Calls
+pub mod Pushing
 pub mod Thinned
 pub mod Trimmed
 pub mod Storing
@@ -41,6 +43,7 @@ pub mod Temporary
 pub mod Live
 pub mod Staying
 pub mod Lacking
+pub mod Failing
 pub mod Temped
 pub mod Shapes
 pub mod Passed

@@ -105,7 +105,7 @@ by_outcome m f h seg (Err troubles.Memory) n rises free o = lacks refl o.0
 
 -- without bytes
 
-named_blank : (seg : ℕ) (cs : List (Option Cache)) → is_some (cache_named (map (option_map blank_cache) cs) seg) ≡ is_some (cache_named cs seg)
+pub named_blank : (seg : ℕ) (cs : List (Option Cache)) → is_some (cache_named (map (option_map blank_cache) cs) seg) ≡ is_some (cache_named cs seg)
 named_blank seg [] = refl
 named_blank seg (None ∷ cs) = named_blank seg cs
 named_blank seg (Some c ∷ cs) = by (is_named_by seg (Some c)) (named_blank seg cs)

@@ -44,10 +44,11 @@ use Rattle.seg_manager.proofs.Live.{live_seen}
 use Rattle.seg_manager.proofs.Leaving.{as_many, credit_few, left_same, seen_actors, told_both}
 use Rattle.seg_manager.proofs.Releasing.{blank_told, seen_same}
 use Rattle.seg_manager.proofs.Stated.{state_over}
+use Rattle.seg_manager.proofs.Pushing.{HasPages, pushed_by, rule_then, same_pages}
 use Rattle.seg_manager.proofs.Steps.{IsSeen, seen_blank, seen_gone, step_by}
 use Rattle.seg_manager.proofs.Storing.{GoesToo, absorbed, apart_by}
 use Rattle.seg_manager.proofs.Unused.{is_unreferenced_by, left_unreferenced, mapped_is}
-use Rattle.seg_manager.proofs.LeavingRows.{IsDone, IsRefused, Then, actors_then, answered, answered_so, caches_of, command_of, may_have, segment_row}
+use Rattle.seg_manager.proofs.LeavingRows.{IsDone, IsRefused, Then, actors_then, answered, answered_so, caches_of, command_of, may_have, segment_row, whole_for}
 use Rattle.seg_manager.proofs.RegionsLeft.{mapped_left, stay_noted}
 
 -- What is seen then
@@ -202,9 +203,11 @@ module _ {Manager X Chooser : Type 0} (M : GhostsOfMapper X) (G : GhostsOfGmi Ma
           rises = trims.rises;
           rose = trims.rose;
           is = record {
-            step = step_by (state_of G old (M.held before)) (state_of G new (M.held after)) (commands.Plain (command_of l)) (Ok replies.Done) trims.rises next
+            step = step_by (state_of G old (M.held before)) (state_of G new (M.held after)) (commands.Plain (command_of l)) (Ok replies.Done) trims.rises next (whole_for l)
                 (λ h. (0, (may_have l (references_seen m told cs) 0, done_row told m cs rs can.tied.regions l done.actors done.by h)))
                 (told_both told (segments_of (M.held after)) trims.denied (state_of G old (M.held before)) (state_of G mid (M.held before)) (state_of G new (M.held after)) next trims.seen seen_then);
+            pushed = pushed_by told (segments_of (M.held after)) m cs trims.pushed.pushes trims.rises trims.pushed.few
+                (rule_then m n (subst (HasPages m) (sym done.next) (same_pages m)) told told (segments_of (M.held after)) [] trims.pushed.pushes (record { may = tt; pushed = refl }) trims.pushed.rule) (state_of G old (M.held before)) (state_of G new (M.held after)) refl refl refl;
             live = live_seen M G new after trims.can;
             denied = trims.denied;
           };
@@ -265,9 +268,10 @@ module _ {Manager X Chooser : Type 0} (M : GhostsOfMapper X) (G : GhostsOfGmi Ma
         rises = no_counts;
         rose = rise_none (M.counts before);
         is = record {
-          step = step_by (state_of G old (M.held before)) (state_of G (record old { gmi = gmi }) (M.held before)) (commands.Plain (command_of l)) (Err (troubles.Refused not_done.refusal)) no_counts (references_seen m told cs)
+          step = step_by (state_of G old (M.held before)) (state_of G (record old { gmi = gmi }) (M.held before)) (commands.Plain (command_of l)) (Err (troubles.Refused not_done.refusal)) no_counts (references_seen m told cs) (whole_for l)
               (λ h. (0, gives not_done.refusal (references_seen m told cs) h (refused_row h)))
               (subst (λ (x : Machine). IsSeen told (state_over told m cs) (state_over told x cs) (references_seen m told cs)) (sym not_done.next) (seen_same told m cs (blank_told (M.held before) m can.blank)));
+          pushed = pushed_by told told m cs [] no_counts (omega arith) (record { may = tt; pushed = refl }) (state_of G old (M.held before)) (state_of G (record old { gmi = gmi }) (M.held before)) refl refl refl;
           live = live_seen M G (record old { gmi = gmi }) before refused_can;
           denied = refl;
         };

@@ -36,6 +36,7 @@ use Rattle.seg_manager.proofs.Going.{Caches}
 use Rattle.seg_manager.proofs.Live.{live_seen}
 use Rattle.seg_manager.proofs.Leaving.{as_many, credit_few, left_same, seen_openings, told_both}
 use Rattle.seg_manager.proofs.Stated.{state_over}
+use Rattle.seg_manager.proofs.Pushing.{pushed_by}
 use Rattle.seg_manager.proofs.Steps.{IsSeen, seen_blank, seen_gone, step_by}
 use Rattle.seg_manager.proofs.Storing.{absorbed, apart_by, named_self}
 use Rattle.seg_manager.proofs.Unused.{left_is}
@@ -170,9 +171,10 @@ module _ {Manager X Chooser : Type 0} (M : GhostsOfMapper X) (G : GhostsOfGmi Ma
           rises = trims.rises;
           rose = trims.rose;
           is = record {
-            step = step_by (state_of G old (M.held before)) (state_of G new (M.held after)) (commands.Close seg) (Ok replies.Done) trims.rises next (λ h. (0, (tt, row)))
+            step = step_by (state_of G old (M.held before)) (state_of G new (M.held after)) (commands.Close seg) (Ok replies.Done) trims.rises next (λ r. tt) (λ h. (0, (tt, row)))
                 (told_both told (segments_of (M.held after)) trims.denied (state_of G old (M.held before)) (state_of G mid (M.held before)) (state_of G new (M.held after)) next trims.seen
                 (closed_seen told m old.caches.items old.kept.items old.kept.room old.regions.items can.tied seg cache later.caches.items c (blank_told (M.held before) m can.blank)));
+            pushed = pushed_by told (segments_of (M.held after)) m old.caches.items trims.pushed.pushes trims.rises trims.pushed.few trims.pushed.rule (state_of G old (M.held before)) (state_of G new (M.held after)) refl refl refl;
             live = live_seen M G new after trims.can;
             denied = trims.denied;
           };
@@ -192,7 +194,8 @@ not_released M G before old seg can none = record {
     rises = no_counts;
     rose = rise_none (M.counts before);
     is = record {
-      step = step_by (state_of G old (M.held before)) (state_of G old (M.held before)) (commands.Close seg) (Err (troubles.Refused refusals.NotOpen)) no_counts seen (λ h. (0, row)) (seen_same (segments_of (M.held before)) m old.caches.items (blank_told (M.held before) m can.blank));
+      step = step_by (state_of G old (M.held before)) (state_of G old (M.held before)) (commands.Close seg) (Err (troubles.Refused refusals.NotOpen)) no_counts seen (λ r. tt) (λ h. (0, row)) (seen_same (segments_of (M.held before)) m old.caches.items (blank_told (M.held before) m can.blank));
+      pushed = pushed_by (segments_of (M.held before)) (segments_of (M.held before)) (G.machine old.gmi (M.held before)) old.caches.items [] no_counts (omega arith) (record { may = tt; pushed = refl }) (state_of G old (M.held before)) (state_of G old (M.held before)) refl refl refl;
       live = live_seen M G old before can;
       denied = refl;
     };

@@ -1,9 +1,10 @@
 -- A command that the machine below answers as that of segments does: what such a call comes to.
-use Rattle.std.proofs.Common.{◌≡◌, ℕ, false, cond, List, length, Option, Some, None, refl, sym, ap, subst, ◌∙◌, arith}
-use Rattle.std.specs.Prelude.{option_map}
+use Rattle.std.proofs.Common.{◌≡◌, ℕ, ◌+◌, Bool, true, false, cond, List, [], ◌∷◌, length, Option, Some, None, refl, sym, ap, subst, ◌∙◌, arith}
+use Rattle.std.specs.Prelude.{All, option_map}
 use Rattle.std.specs.FinMap.{get}
 use Rattle.std.specs.Option.{option_map_or}
 use Rattle.std.proofs.lemmas.List.{length-map}
+use Rattle.std.proofs.lemmas.List.Elements.{All-cons, All-head, All-tail}
 use Rattle.vm_ids.specs.Counting.{MapperCounts}
 use Rattle.vm_ids.specs.Held.{Segments, segments_of}
 use Rattle.vm_ids.specs.declared.command.Command.{Command}
@@ -13,7 +14,7 @@ use Rattle.vm_ids.specs.declared.command.Span.{Span}
 use Rattle.vm_model.specs.Answering as plain
 use Rattle.vm_model.specs.Answering.{Answer}
 use Rattle.vm_model.specs.Machine.{Cache, Machine, cache_of}
-use Rattle.vm_model.specs.Outcome.{OutcomeAt, blank, blank_cache}
+use Rattle.vm_model.specs.Outcome.{HasWholePages, IsWhole, OutcomeAt, blank, blank_cache}
 use Rattle.vm_model.specs.PageForest.{PageForest, forest_shown}
 use Rattle.vm_model.proofs.Parts.Lists.{numbered-map}
 use Rattle.vm_port.specs.declared.traits.mapper.Mapper.{Ghosts as GhostsOfMapper}
@@ -23,9 +24,9 @@ use Rattle.gmi_calls.specs.declared.gmi.Gmi.{Ghosts as GhostsOfGmi}
 use Rattle.seg_manager.specs.Calling.{AnswersKept, IsPassed, SegmentCall, Serves}
 use Rattle.seg_manager.specs.Inner.{span_shown}
 use Rattle.seg_manager.specs.Outcome.{Outcome}
-use Rattle.seg_manager.specs.ReferenceMachine.{ReferenceMachine, Stored, goes, stored_from}
+use Rattle.seg_manager.specs.ReferenceMachine.{ReferenceMachine, Stored, goes, stored_from, used, used_at}
 use Rattle.seg_manager.specs.Seen.{openings_in, references_seen, state_of, stored_beside, whole_of}
-use Rattle.seg_manager.specs.Stepping.{State, StepAt, blank_references}
+use Rattle.seg_manager.specs.Stepping.{IsWholeFor, State, StepAt, blank_references}
 use Rattle.seg_manager.specs.Tying.{AreTied, CanCall, noted_regions}
 use Rattle.seg_manager.specs.declared.manager.SegManager.{SegManager}
 use Rattle.seg_manager.specs.declared.tables.Kept.{Kept}
@@ -38,6 +39,7 @@ use Rattle.seg_manager.proofs.Going.{used_same}
 use Rattle.seg_manager.proofs.Lifting.{is_hidden, references}
 use Rattle.seg_manager.proofs.Passed.{IsAnswered, IsHiding, IsQuiet, SameRegions, copy_answered, copy_regions, outcome_answered, outcome_next, over, passed_answered, passed_regions, quiet_self, storing}
 use Rattle.seg_manager.proofs.Pushed.{Follow, Told}
+use Rattle.seg_manager.proofs.Pushing.{pushed_by}
 use Rattle.seg_manager.proofs.Shapes.{has_same, segments_blank, segments_in, tied_alike}
 use Rattle.seg_manager.proofs.Steps.{blank_used}
 
@@ -71,6 +73,24 @@ module _ (cs : List Named) where
     openings = openings;
   }
 
+  -- where pages are whole, those that are seen are
+  whole_used : (b : ℕ) (r : ReferenceMachine) (k : ℕ) (xs : List (Option Cache)) → All (IsWhole b) xs → All (IsWhole b) (used r k xs)
+  whole_used b r k [] h = h
+  whole_used b r k (x ∷ xs) h =
+      All-cons (IsWhole b) (used_at r k x) (used r (k + 1) xs) (at x (All-head (IsWhole b) x xs h)) (whole_used b r (k + 1) xs (All-tail (IsWhole b) x xs h))
+    where
+      by : (c : Cache) (go : Bool) → IsWhole b (Some c) → IsWhole b (cond go None (Some c))
+      by c true w = tt
+      by c false w = w
+
+      at : (o : Option Cache) → IsWhole b o → IsWhole b (used_at r k o)
+      at None w = tt
+      at (Some c) w = by c (goes r k c) w
+
+  whole_for : (command : Command) (w : Machine) → HasWholePages w → IsWholeFor (Plain command) (over openings w (λ seg. None))
+  whole_for (Load actor address bytes) w h = whole_used w.page_bytes (references openings w) 1 w.caches h
+  whole_for command w h = tt
+
   -- what is kept is hidden in a machine with bytes too
   hiding_whole : (ks : List Kept) (x w : Machine) → x ≡ blank w → IsHiding openings x ks → IsHiding openings w ks
   hiding_whole ks x w is hiding = λ n. hiding n ∙ ap (λ (z : Machine). is_hidden openings z n) is ∙ ap (λ (o : Option Cache). option_map_or (goes (references openings (blank w)) n) o false) (numbered-map blank_cache w.caches n) ∙ by n (cache_of w n)
@@ -91,7 +111,7 @@ module _ (cs : List Named) where
       is = λ i. record { references = (e ∙ ap (λ (z : Machine). references_seen z None cs) o.is ∙ seen_blank o.whole) i; segments = was.segments };
       is_next = λ i. record { references = (g ∙ ap (λ (z : Machine). references_seen z None cs) o.is_next ∙ seen_blank o.whole_next) i; segments = then.segments };
       alike = o.alike;
-      leads = (0, f, outcome_answered openings o.whole o.whole_next c command f o.segments o.whole_answer rises (λ seg. None) (answered o.whole (hiding_whole ks x o.whole o.is hiding)) o.outcome);
+      leads = (whole_for command o.whole o.pages, (0, f, outcome_answered openings o.whole o.whole_next c command f o.segments o.whole_answer rises (λ seg. None) (answered o.whole (hiding_whole ks x o.whole o.is hiding)) o.outcome));
     }
     step_answered None (Some u) x y f a rises told hiding o was then e g = absurd (let wrong : Some u ≡ None = told.none refl in cc wrong)
     step_answered (Some s) None x y f a rises told hiding o was then e g = absurd (let u = told.some s refl in cc u.1)
@@ -160,6 +180,8 @@ module _ {Manager X Chooser : Type 0} (M : GhostsOfMapper X) (G : GhostsOfGmi Ma
       step = step_answered old.caches.items old.kept.items c command answered (segments_of (M.held before)) (segments_of (M.held after)) x y (forest M G old gmi before after c a able call) a
           (call_is M G old gmi before after c a able call).rises (told_after M G old gmi before after c a able call) able.tied.kept (call_is M G old gmi before after c a able call).is.outcome
           (state_of G old (M.held before)) (state_of G (record later { gmi = gmi }) (M.held after)) refl (ap (λ v. references_seen y (segments_of (M.held after)) v.items) same);
+      pushed = pushed_by (segments_of (M.held before)) (segments_of (M.held after)) x old.caches.items (call_is M G old gmi before after c a able call).pushes (call_is M G old gmi before after c a able call).rises (call_is M G old gmi before after c a able call).is.few (call_is M G old gmi before after c a able call).is.pushed
+          (state_of G old (M.held before)) (state_of G (record later { gmi = gmi }) (M.held after)) refl refl refl;
       live = live_seen M G (record later { gmi = gmi }) after can_then;
       denied = denied_after M G old gmi before after c a able call;
     };
@@ -199,5 +221,5 @@ module _ {Manager X Chooser : Type 0} (M : GhostsOfMapper X) (G : GhostsOfGmi Ma
     call = answered_same M G old gmi before after (Copy (span_shown old.kept.items s)) a able (subst (λ (x : Span). MapperCall M (meanings_of G) before old.gmi (Copy x) a after gmi) is done) (Copy s)
         (λ x hiding. copy_answered (openings_in old.caches.items) x old.kept.items hiding s)
         (λ x hiding f h. copy_regions (openings_in old.caches.items) x old.kept.items hiding s f h);
-    kept = refl;
+    kept = (refl, subst (λ (x : Span). MapperCall M (meanings_of G) before old.gmi (Copy x) a after gmi) is done);
   }

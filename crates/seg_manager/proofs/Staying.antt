@@ -19,12 +19,13 @@ use Rattle.seg_manager.specs.Calling.{SegmentCall, call_budget}
 use Rattle.seg_manager.specs.Outcome as keep
 use Rattle.seg_manager.specs.ReferenceMachine.{ReferenceMachine}
 use Rattle.seg_manager.specs.Seen.{references_seen, state_of}
-use Rattle.seg_manager.specs.Stepping.{State, blank_references}
-use Rattle.seg_manager.specs.Thinning.{denied_by, machine_at, seen_with}
+use Rattle.seg_manager.specs.Stepping.{IsWholeFor, State, blank_references}
+use Rattle.seg_manager.specs.Thinning.{Pushes, denied_by, machine_at, seen_with}
 use Rattle.seg_manager.specs.Tying.{CanCall}
 use Rattle.seg_manager.specs.declared.manager.SegManager.{SegManager}
 use Rattle.seg_manager.specs.declared.tables.Named.{Named}
 use Rattle.seg_manager.proofs.Live.{live_seen}
+use Rattle.seg_manager.proofs.Pushing.{pushed_by}
 use Rattle.seg_manager.proofs.Releasing.{blank_told}
 use Rattle.seg_manager.proofs.Steps.{AreSeen, alike_err, seen_blank, step_whole}
 
@@ -67,13 +68,14 @@ module _ {Manager X Chooser : Type 0} (M : GhostsOfMapper X) (G : GhostsOfGmi Ma
     pub limit : new.limit ≡ old.limit
     pub many : length (machine_at M G new after).caches ≡ length (machine_at M G old before).caches
     pub rose : Rise (M.counts before) (M.counts after) rises
+    pub pushed : Pushes M G before old after rises
     pub seen : seen_with M G new after ≡ seen_with M G old before
     pub denied : denied_by M G after ≡ denied_by M G before
 
   -- The answer is that of a machine, of which they are what is seen.
   pub stays_by : (after : X) (new : SegManager Manager) (command : KeepCommand) (t : Trouble) (rises : MapperCounts) → Stays after new rises
-      → (whole : ReferenceMachine) → AreSeen (segments_of (M.held after)) (state_of G old (M.held before)) (state_of G new (M.held after)) whole whole → ((h : Segments) → keep.Outcome whole None command h 0 (Err t) whole rises) → SegmentCall M G before old command (Err t) after new
-  stays_by after new command t rises s whole seen outcome = record {
+      → (whole : ReferenceMachine) (f : Option PageForest) → ((r : ReferenceMachine) → IsWholeFor command r) → AreSeen (segments_of (M.held after)) (state_of G old (M.held before)) (state_of G new (M.held after)) whole whole → ((h : Segments) → keep.Outcome whole f command h 0 (Err t) whole rises) → SegmentCall M G before old command (Err t) after new
+  stays_by after new command t rises s whole f any seen outcome = record {
     can = s.can;
     made = s.made;
     limit = s.limit;
@@ -81,16 +83,17 @@ module _ {Manager X Chooser : Type 0} (M : GhostsOfMapper X) (G : GhostsOfGmi Ma
     rises = rises;
     rose = s.rose;
     is = record {
-      step = step_whole (state_of G old (M.held before)) (state_of G new (M.held after)) command (Err t) rises whole whole (λ h. (0, outcome h)) seen;
+      step = step_whole (state_of G old (M.held before)) (state_of G new (M.held after)) command (Err t) rises whole whole f any (λ h. (0, outcome h)) seen;
+      pushed = pushed_by (segments_of (M.held before)) (segments_of (M.held after)) (machine_at M G old before) old.caches.items s.pushed.pushes rises s.pushed.few s.pushed.rule (state_of G old (M.held before)) (state_of G new (M.held after)) refl refl refl;
       live = live_seen M G new after s.can;
       denied = s.denied;
     };
   }
 
   pub stays_call : (after : X) (new : SegManager Manager) (command : KeepCommand) (t : Trouble) (rises : MapperCounts) → Stays after new rises
-      → ((h : Segments) → keep.Outcome (seen_with M G old before) None command h 0 (Err t) (seen_with M G old before) rises) → SegmentCall M G before old command (Err t) after new
-  stays_call after new command t rises s outcome =
-      stays_by after new command t rises s (seen_with M G old before)
+      → ((r : ReferenceMachine) → IsWholeFor command r) → ((h : Segments) → keep.Outcome (seen_with M G old before) None command h 0 (Err t) (seen_with M G old before) rises) → SegmentCall M G before old command (Err t) after new
+  stays_call after new command t rises s any outcome =
+      stays_by after new command t rises s (seen_with M G old before) None any
       (same_seen (segments_of (M.held before)) (segments_of (M.held after)) s.denied (state_of G old (M.held before)) (state_of G new (M.held after)) (seen_with M G old before) refl s.seen
       (blank_seen (segments_of (M.held before)) (machine_at M G old before) old.caches.items (blank_told (M.held before) (machine_at M G old before) able.blank)))
       outcome

@@ -11,10 +11,11 @@ use Rattle.vm_ids.specs.declared.reply.Trouble.{Trouble}
 use Rattle.vm_model.specs.Answering.{Answer}
 use Rattle.vm_model.specs.Machine.{Actor, Cache, Machine}
 use Rattle.vm_model.specs.Outcome.{IsAlike, blank, blank_cache}
+use Rattle.vm_model.specs.PageForest.{PageForest}
 use Rattle.seg_manager.specs.Outcome.{Outcome}
 use Rattle.seg_manager.specs.ReferenceMachine.{ReferenceMachine, goes, let_go, used, used_at}
 use Rattle.seg_manager.specs.Seen.{openings_in, references_seen, whole_of}
-use Rattle.seg_manager.specs.Stepping.{State, StepAt, blank_references}
+use Rattle.seg_manager.specs.Stepping.{IsWholeFor, State, StepAt, blank_references}
 use Rattle.seg_manager.specs.declared.tables.Named.{Named}
 use Rattle.seg_manager.proofs.Going.{Caches, used_same}
 use Rattle.seg_manager.proofs.Storing.{GoesToo, used_twice}
@@ -35,9 +36,9 @@ abbrev pub IsSeen : Option Segments → State → State → ReferenceMachine →
 IsSeen (Some h) before after next = after.references ≡ next
 IsSeen None before after next = (before.references ≡ blank_references before.references) × (after.references ≡ blank_references next)
 
-pub step_by : (before after : State) (command : KeepCommand) (a : Answer) (rises : MapperCounts) (next : ReferenceMachine)
+pub step_by : (before after : State) (command : KeepCommand) (a : Answer) (rises : MapperCounts) (next : ReferenceMachine) → ((r : ReferenceMachine) → IsWholeFor command r)
     → ((h : Segments) → (number : ℕ) × Outcome before.references None command h number a next rises) → IsSeen after.segments before after next → StepAt after.segments before command a rises after
-step_by before after command a rises next outcome seen = by after.segments refl seen
+step_by before after command a rises next any outcome seen = by after.segments refl seen
   where
     by : (o : Option Segments) → after.segments ≡ o → IsSeen o before after next → StepAt o before command a rises after
     by (Some h) e seen = let r = outcome h in (r.0, None, subst (λ (x : ReferenceMachine). Outcome before.references None command h r.0 a x rises) (sym seen) r.1)
@@ -49,7 +50,7 @@ step_by before after command a rises next outcome seen = by after.segments refl 
       is = λ i. record { references = seen.0 i; segments = before.segments };
       is_next = λ i. record { references = seen.1 i; segments = after.segments };
       alike = alike_self a;
-      leads = (let r = outcome no_segments in (r.0, None, r.1));
+      leads = (let r = outcome no_segments in (any before.references, (r.0, None, r.1)));
     }
 
 -- Without bytes the same caches go.
@@ -102,12 +103,12 @@ abbrev pub AreSeen : Option Segments → State → State → ReferenceMachine �
 AreSeen (Some h) before after whole next = (before.references ≡ whole) × (after.references ≡ next)
 AreSeen None before after whole next = (before.references ≡ blank_references whole) × (after.references ≡ blank_references next)
 
-pub step_whole : (before after : State) (command : KeepCommand) (a : Answer) (rises : MapperCounts) (whole next : ReferenceMachine)
-    → ((h : Segments) → (number : ℕ) × Outcome whole None command h number a next rises) → AreSeen after.segments before after whole next → StepAt after.segments before command a rises after
-step_whole before after command a rises whole next outcome seen = by after.segments refl seen
+pub step_whole : (before after : State) (command : KeepCommand) (a : Answer) (rises : MapperCounts) (whole next : ReferenceMachine) (f : Option PageForest) → ((r : ReferenceMachine) → IsWholeFor command r)
+    → ((h : Segments) → (number : ℕ) × Outcome whole f command h number a next rises) → AreSeen after.segments before after whole next → StepAt after.segments before command a rises after
+step_whole before after command a rises whole next f any outcome seen = by after.segments refl seen
   where
     by : (o : Option Segments) → after.segments ≡ o → AreSeen o before after whole next → StepAt o before command a rises after
-    by (Some h) e seen = let r = outcome h in (r.0, None, subst (λ (x : ReferenceMachine). Outcome x None command h r.0 a after.references rises) (sym seen.0) (subst (λ (x : ReferenceMachine). Outcome whole None command h r.0 a x rises) (sym seen.1) r.1))
+    by (Some h) e seen = let r = outcome h in (r.0, f, subst (λ (x : ReferenceMachine). Outcome x f command h r.0 a after.references rises) (sym seen.0) (subst (λ (x : ReferenceMachine). Outcome whole f command h r.0 a x rises) (sym seen.1) r.1))
     by None e seen = record {
       whole = record { references = whole; segments = before.segments };
       whole_next = record { references = next; segments = after.segments };
@@ -116,5 +117,5 @@ step_whole before after command a rises whole next outcome seen = by after.segme
       is = λ i. record { references = seen.0 i; segments = before.segments };
       is_next = λ i. record { references = seen.1 i; segments = after.segments };
       alike = alike_self a;
-      leads = (let r = outcome no_segments in (r.0, None, r.1));
+      leads = (let r = outcome no_segments in (any whole, (r.0, f, r.1)));
     }

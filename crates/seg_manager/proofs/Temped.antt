@@ -1,16 +1,16 @@
 -- A temporary cache is made: what that call of the manager of segments comes to.
-use Rattle.std.proofs.Common.{◌≡◌, ◌⊎◌, inl, inr, ℕ, ◌+◌, ◌^◌, ◌<◌, ◌≤◌, Bool, true, false, List, [], ◌∷◌, ◌++◌, length, map, Option, Some, None, refl, sym, ap, subst, ◌∙◌, arith}
+use Rattle.std.proofs.Common.{◌≡◌, ◌⊎◌, inl, inr, ℕ, ◌+◌, ◌^◌, ◌<◌, ◌≤◌, Bool, true, false, List, [], ◌∷◌, ◌++◌, length, map, take, Option, Some, None, refl, sym, ap, subst, ◌∙◌, arith}
 use Rattle.std.specs.Prelude.{◌||◌, IfNone, IfSome, Ok, Err, Result, nat_le, nat_lt, option_map}
 use Rattle.std.proofs.lemmas.Bool.Decides.{nat_tests}
 use Rattle.std.proofs.lemmas.List.{drop-map, length-append, length-map, map-append}
 use Rattle.vm_ids.specs.Counting.{MapperCounts, counts_sum}
 use Rattle.vm_ids.specs.Held.{Segments, segments_of}
-use Rattle.vm_ids.specs.declared.command.Command.TheVariants.{MakeTemp}
+use Rattle.vm_ids.specs.declared.command.Command.TheVariants.{Destroy, MakeTemp}
 use Rattle.vm_ids.specs.declared.command.KeepCommand.TheVariants as commands
 use Rattle.vm_ids.specs.declared.numbers.CacheId.{CacheId}
 use Rattle.vm_ids.specs.declared.refusal.Refusal.{Refusal}
 use Rattle.vm_ids.specs.declared.refusal.Refusal.TheVariants as refusals
-use Rattle.vm_ids.specs.declared.reply.FaultAt.TheVariants as faults
+use Rattle.vm_ids.specs.declared.reply.FaultAt.{FaultAt}
 use Rattle.vm_ids.specs.declared.reply.Reply.{Reply}
 use Rattle.vm_ids.specs.declared.reply.Reply.TheVariants as replies
 use Rattle.vm_ids.specs.declared.reply.Trouble.{Trouble}
@@ -30,22 +30,24 @@ use Rattle.gmi_calls.specs.Managing.{meanings_of}
 use Rattle.gmi_calls.specs.declared.gmi.Gmi.{Ghosts as GhostsOfGmi}
 use Rattle.gmi_calls.proofs.Rising.{rise_then}
 use Rattle.seg_manager.specs.Answering.{make_temp_of, reply_cache}
-use Rattle.seg_manager.specs.Calling.{HasNoRoom, SegmentCall, Serves}
+use Rattle.seg_manager.specs.Calling.{FailsBelow, HasNoRoomWithout, SegmentCall, Serves}
 use Rattle.seg_manager.specs.Keeping.{AreBehind}
-use Rattle.seg_manager.specs.Outcome.{IsWanted, Outcome}
+use Rattle.seg_manager.specs.Outcome.{FailsToMakeRoom, IsWanted, Outcome}
 use Rattle.seg_manager.specs.ReferenceMachine.{ReferenceMachine, add_cache}
 use Rattle.seg_manager.specs.Seen.{kept_segments, references_seen, state_of}
-use Rattle.seg_manager.specs.Thinning.{Fails, IsDestroyFault, IsTried, Thins, Tries, credit, machine_at, seen_with, Trying}
+use Rattle.seg_manager.specs.Thinning.{Fails, IsTried, Pushes, Thins, Tries, credit, machine_at, seen_with, Trying}
 use Rattle.seg_manager.specs.Tying.{AreTied, CanCall}
 use Rattle.seg_manager.specs.declared.manager.SegManager.{SegManager}
 use Rattle.seg_manager.specs.declared.tables.Kept.{Kept}
 use Rattle.seg_manager.specs.declared.tables.Named.{Named}
 use Rattle.seg_manager.proofs.Calls.{able_after, backed_next, blank_twice, call_is, denied_after, forest, made_after, told_after}
+use Rattle.seg_manager.proofs.Failing.{IsFailing, failing, temp_none}
 use Rattle.seg_manager.proofs.Lacking.{IsLacking, temp_lacks}
 use Rattle.seg_manager.proofs.Leaving.{credit_few, seen_length}
 use Rattle.seg_manager.proofs.Live.{live_seen}
 use Rattle.seg_manager.proofs.Opened.{appended, number_next}
 use Rattle.seg_manager.proofs.Pushed.{Told}
+use Rattle.seg_manager.proofs.Pushing.{HasPages, pages_of, pushed_by, pushes_call, pushes_then}
 use Rattle.seg_manager.proofs.Releasing.{blank_told}
 use Rattle.seg_manager.proofs.Staying.{Stays, refused_again, stays_by, stays_call}
 use Rattle.seg_manager.proofs.Steps.{AreSeen, alike_err, step_whole}
@@ -172,14 +174,19 @@ module _ {Manager X Chooser : Type 0} (M : GhostsOfMapper X) (G : GhostsOfGmi Ma
     as_many : length m.caches ≡ length (machine_at M G old before).caches
     as_many = sym (seen_length told m by.caches.items) ∙ ap (λ (r : ReferenceMachine). length r.memory.caches) thins.seen ∙ seen_length (segments_of (M.held before)) (machine_at M G old before) old.caches.items
 
-    abbrev Cause : Type 0
-    Cause = HasNoRoom G old.gmi (M.held before) (MakeTemp pages)
+    has_pages : HasPages (machine_at M G old before) m
+    has_pages = pages_of M G before middle old by (take thins.gone (kept_segments old.kept.items)) thins.machine
+
+    abbrev Cause : List ℕ → Type 0
+    Cause = HasNoRoomWithout G old.gmi (M.held before) (MakeTemp pages)
 
     kept_behind : AreBehind Cause (kept_segments old.kept.items) (kept_segments by.kept.items)
-    kept_behind = elim trying.first [
-      | inl at ↦ inl (ap kept_segments (ap (λ (x : SegManager Manager). x.kept.items) at.0))
-      | inr none ↦ inr (none, thins.kept.0, ap kept_segments thins.kept.1 ∙ sym (drop-map (λ (k : Kept). k.seg.0) thins.kept.0 old.kept.items))
-    ]
+    kept_behind = record {
+      gone = thins.gone;
+      is = ap kept_segments thins.kept ∙ sym (drop-map (λ (k : Kept). k.seg.0) thins.gone old.kept.items);
+      few = omega (arith, thins.gone_few, length-map old.kept.items (λ (k : Kept). k.seg.0));
+      cause = trying.cause;
+    }
 
     -- It was asked, and made none.
     module _ (t : Trouble) (after : X) (gmi : Manager) (call : MapperCall M (meanings_of G) middle by.gmi (MakeTemp pages) (Err t) after gmi) where
@@ -202,6 +209,7 @@ module _ {Manager X Chooser : Type 0} (M : GhostsOfMapper X) (G : GhostsOfGmi Ma
         limit = thins.limit;
         many = ap (λ (x : Machine). length x.caches) same ∙ as_many;
         rose = rise_then (M.counts before) (M.counts middle) (M.counts after) thins.rises its_rises thins.rose (call_is M G by gmi middle after (MakeTemp pages) (Err t) thins.can call).rose;
+        pushed = pushes_then M G before middle after old by thins.rises its_rises has_pages thins.pushed (pushes_call M G by gmi middle after (MakeTemp pages) (Err t) thins.can call);
         seen = seen_same M G by gmi middle after (MakeTemp pages) (Err t) thins.can call same ∙ thins.seen;
         denied = denied_after M G by gmi middle after (MakeTemp pages) (Err t) thins.can call ∙ thins.denied;
       }
@@ -218,10 +226,10 @@ module _ {Manager X Chooser : Type 0} (M : GhostsOfMapper X) (G : GhostsOfGmi Ma
       says : (t ≡ troubles.Refused refusals.TooMany → left.kept.items ≡ []) → IsTempTrouble t → SegmentCall M G before old (commands.Plain (MakeTemp pages)) (Err t) after left
       says none (inl e) =
           let L = lacking (none e) e in
-          stays_by M G before old can after left (commands.Plain (MakeTemp pages)) t rises stays L.whole L.seen
+          stays_by M G before old can after left (commands.Plain (MakeTemp pages)) t rises stays L.whole None (λ r. tt) L.seen
           (λ h. subst (λ (x : Trouble). Outcome L.whole None (commands.Plain (MakeTemp pages)) h 0 (Err x) L.whole rises) (sym e) (inl (refl, L.lacks)))
       says none (inr e) =
-          stays_call M G before old can after left (commands.Plain (MakeTemp pages)) t rises stays
+          stays_call M G before old can after left (commands.Plain (MakeTemp pages)) t rises stays (λ r. tt)
           (λ h. subst (λ (x : Trouble). Outcome R None (commands.Plain (MakeTemp pages)) h 0 (Err x) R rises) (sym e) (refl, tt, lacks_row R pages 0))
 
       pub not_made : (t ≡ troubles.Refused refusals.TooMany → left.kept.items ≡ []) → Serves M G before old (MakeTemp pages) (Err t) after left
@@ -233,6 +241,15 @@ module _ {Manager X Chooser : Type 0} (M : GhostsOfMapper X) (G : GhostsOfGmi Ma
             none is,
             refused_again (segments_of (M.held after)) m (machine_at M G left after) (forest M G by gmi middle after (MakeTemp pages) (Err t) thins.can call) (G.forest gmi (M.held after)) (MakeTemp pages) (λ x f g h. refl) t its_rises same asked_for is,
           ))),
+          (λ at e. record {
+            gone = thins.gone;
+            middle = middle;
+            by = by.gmi;
+            machine = thins.machine;
+            failing = MakeTemp pages;
+            is = inl refl;
+            call = subst (λ (a : Answer). MapperCall M (meanings_of G) middle by.gmi (MakeTemp pages) a after gmi) e call;
+          }),
         );
       }
 
@@ -252,26 +269,54 @@ module _ {Manager X Chooser : Type 0} (M : GhostsOfMapper X) (G : GhostsOfGmi Ma
         limit = ap (λ (x : SegManager Manager). x.limit) f.same ∙ thins.limit;
         many = f.caches ∙ asked.many;
         rose = rise_then (M.counts before) (M.counts after) (M.counts later) (rises (troubles.Refused refusals.TooMany) after gmi call) f.rises asked.rose f.rose;
+        pushed = pushes_then M G before after later old (record by { gmi = gmi }) (rises (troubles.Refused refusals.TooMany) after gmi call) f.rises
+            (subst (HasPages (machine_at M G old before)) (sym (same (troubles.Refused refusals.TooMany) after gmi call)) has_pages) asked.pushed f.pushed;
         seen = f.seen ∙ asked.seen;
         denied = f.denied ∙ asked.denied;
       }
 
-      vain_says : (x : Trouble) → IsDestroyFault x → (h : Segments) → Outcome R None (commands.Plain (MakeTemp pages)) h 0 (Err x) R vain_rises
-      unfolding make_temp_of
-      vain_says (troubles.Mapper (faults.Page p)) d h = (refl, omega (arith, f.failed), tt, tt)
-      vain_says (troubles.Mapper (faults.Save k)) d h = (refl, omega (arith, f.failed), tt, tt)
-      vain_says x d h = absurd d
+      -- the machine below, as it was asked
+      abbrev asked_at : Machine
+      asked_at = G.machine gmi (M.held after)
 
-      never_many : (x : Trouble) → IsDestroyFault x → x ≡ troubles.Refused refusals.TooMany → ⊥
-      never_many (troubles.Mapper at) d e = absurd (cc e)
-      never_many x d e = absurd d
+      none_there : OutcomeAt (segments_of (M.held after)) asked_at (G.forest by.gmi (M.held middle)) (MakeTemp pages) (Err (troubles.Refused refusals.TooMany)) asked_at (its_rises (troubles.Refused refusals.TooMany) after gmi call)
+      none_there =
+          subst (λ (x : Machine). OutcomeAt (segments_of (M.held after)) x (G.forest by.gmi (M.held middle)) (MakeTemp pages) (Err (troubles.Refused refusals.TooMany)) asked_at (its_rises (troubles.Refused refusals.TooMany) after gmi call))
+          (sym (same (troubles.Refused refusals.TooMany) after gmi call)) (asked_for (troubles.Refused refusals.TooMany) after gmi call)
+
+      fails : IsFailing (segments_of (M.held later)) (state_of G old (M.held before)) (state_of G new (M.held later)) (commands.Plain (MakeTemp pages)) f.at vain_rises
+      fails =
+          failing asked_at by.caches.items by.kept.items by.kept.room by.regions.items f.first f.rest f.kept (G.forest gmi (M.held after)) (machine_at M G new later) f.at f.rises vain_rises (commands.Plain (MakeTemp pages)) (state_of G old (M.held before)) (state_of G new (M.held later))
+          (segments_of (M.held after)) (segments_of (M.held later)) f.denied asked.can.tied (sym asked.seen) f.seen f.fault
+          (temp_none asked_at by.caches.items (segments_of (M.held after)) (G.forest by.gmi (M.held middle)) asked_at (its_rises (troubles.Refused refusals.TooMany) after gmi call) pages none_there)
+
+      vain_says : (r : ReferenceMachine) (g : Option PageForest) (h : Segments) → FailsToMakeRoom r g (commands.Plain (MakeTemp pages)) h f.at vain_rises → Outcome r g (commands.Plain (MakeTemp pages)) h 0 (Err (troubles.Mapper f.at)) r vain_rises
+      unfolding make_temp_of
+      vain_says r g h fault = (refl, omega (arith, f.failed), fault, tt)
+
+      never_many : t ≡ troubles.Refused refusals.TooMany → ⊥
+      never_many e = (let wrong : troubles.Mapper f.at ≡ troubles.Refused refusals.TooMany = sym f.is ∙ e in cc wrong)
+
+      fails_below : FailsBelow M G before old (MakeTemp pages) f.at later new
+      fails_below = record {
+        gone = thins.gone;
+        middle = after;
+        by = gmi;
+        machine = same (troubles.Refused refusals.TooMany) after gmi call ∙ thins.machine;
+        failing = Destroy f.first.cache;
+        is = inr (f.first, f.rest, (sym thins.kept ∙ f.kept), refl);
+        call = f.call;
+      }
 
       pub in_vain : Serves M G before old (MakeTemp pages) (Err t) later new
       in_vain = record {
-        call = stays_call M G before old can later new (commands.Plain (MakeTemp pages)) t vain_rises vain (vain_says t f.fault);
+        call = stays_by M G before old can later new (commands.Plain (MakeTemp pages)) t vain_rises vain fails.whole fails.forest (λ r. tt) fails.seen
+            (λ h. subst (λ (x : Trouble). Outcome fails.whole fails.forest (commands.Plain (MakeTemp pages)) h 0 (Err x) fails.whole vain_rises) (sym f.is) (vain_says fails.whole fails.forest h (fails.fails h)));
         kept = (
           subst (AreBehind Cause (kept_segments old.kept.items)) (sym (ap (λ (x : SegManager Manager). kept_segments x.kept.items) f.same)) kept_behind,
-          (λ e. absurd (never_many t f.fault (let s : t ≡ troubles.Refused refusals.TooMany = cc e in s))),
+          (λ e. absurd (never_many (let s : t ≡ troubles.Refused refusals.TooMany = cc e in s))),
+          (λ at e. (let s : t ≡ troubles.Mapper at = cc e in let both : troubles.Mapper f.at ≡ troubles.Mapper at = sym f.is ∙ s in let is : f.at ≡ at = cc both in
+              subst (λ (x : FaultAt). FailsBelow M G before old (MakeTemp pages) x later new) is fails_below)),
         );
       }
 
@@ -309,6 +354,9 @@ module _ {Manager X Chooser : Type 0} (M : GhostsOfMapper X) (G : GhostsOfGmi Ma
       abbrev next : ReferenceMachine
       next = add_cache R (number_next m) (temporary m.page_bytes pages)
 
+      all_pushed : Pushes M G before old after (counts_sum thins.rises temp_rises)
+      all_pushed = pushes_then M G before middle after old by thins.rises temp_rises has_pages thins.pushed (pushes_call M G by gmi middle after (MakeTemp pages) (Ok (replies.Cache cache)) thins.can call)
+
       gives : (h : Segments) → Outcome R None (commands.Plain (MakeTemp pages)) h (number_next m) (Ok (replies.Cache cache)) next (counts_sum thins.rises temp_rises)
       gives h = (
         omega (arith, ap (λ (r : ReferenceMachine). length r.memory.caches) (sym thins.seen), seen_length told m by.caches.items),
@@ -327,17 +375,18 @@ module _ {Manager X Chooser : Type 0} (M : GhostsOfMapper X) (G : GhostsOfGmi Ma
           rises = counts_sum thins.rises temp_rises;
           rose = rise_then (M.counts before) (M.counts middle) (M.counts after) thins.rises temp_rises thins.rose (call_is M G by gmi middle after (MakeTemp pages) (Ok (replies.Cache cache)) thins.can call).rose;
           is = record {
-            step = step_whole (state_of G old (M.held before)) (state_of G final (M.held after)) (commands.Plain (MakeTemp pages)) (Ok (replies.Cache cache)) (counts_sum thins.rises temp_rises) R next
+            step = step_whole (state_of G old (M.held before)) (state_of G final (M.held after)) (commands.Plain (MakeTemp pages)) (Ok (replies.Cache cache)) (counts_sum thins.rises temp_rises) R next None (λ r. tt)
                 (λ h. (number_next m, gives h))
                 (subst (λ (r : ReferenceMachine). AreSeen told_then (state_of G old (M.held before)) (state_of G final (M.held after)) r (add_cache r (number_next m) (temporary m.page_bytes pages))) thins.seen
                 (seen_temp m zeros told told_then n by.caches.items by.kept.items by.kept.room by.regions.items thins.can.tied
                 (told_after M G by gmi middle after (MakeTemp pages) (Ok (replies.Cache cache)) thins.can call) made.next (blank_told (M.held middle) m thins.can.blank)
                 (state_of G old (M.held before)) (state_of G final (M.held after)) (sym thins.seen) refl));
+            pushed = pushed_by (segments_of (M.held before)) told_then (machine_at M G old before) old.caches.items all_pushed.pushes (counts_sum thins.rises temp_rises) all_pushed.few all_pushed.rule (state_of G old (M.held before)) (state_of G final (M.held after)) refl refl refl;
             live = live_seen M G final after can_then;
             denied = denied_after M G by gmi middle after (MakeTemp pages) (Ok (replies.Cache cache)) thins.can call ∙ thins.denied;
           };
         };
-        kept = (kept_behind, λ e. absurd (cc e));
+        kept = (kept_behind, (λ e. absurd (cc e)), (λ at e. absurd (cc e)));
       }
         where
           one_more : length n.caches ≡ length m.caches + 1

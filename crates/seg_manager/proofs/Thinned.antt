@@ -1,16 +1,18 @@
 -- Caches that are kept are destroyed, the least recently used first.
-use Rattle.std.proofs.Common.{◌≡◌, ◌⊎◌, inl, inr, ℕ, zero, suc, ◌+◌, ◌-◌, ◌*◌, ◌≤◌, false, List, [], ◌∷◌, length, drop, Option, Some, None, refl, sym, ap, subst, ◌∙◌, arith}
+use Rattle.std.proofs.Common.{◌≡◌, ◌⊎◌, inl, inr, ℕ, zero, suc, ◌+◌, ◌-◌, ◌*◌, ◌≤◌, false, List, [], ◌∷◌, length, drop, take, Option, Some, None, refl, sym, ap, subst, ◌∙◌, arith}
 use Rattle.std.specs.Prelude.{IfSome, Ok, Err, slice_index_or}
 use Rattle.std.specs.List.{AllByRecursion}
-use Rattle.std.proofs.lemmas.List.{length-set}
+use Rattle.std.proofs.lemmas.List.{drop-map, length-drop, length-set}
 use Rattle.vm_ids.specs.Counting.{counts_sum, no_counts}
 use Rattle.vm_ids.specs.Held.{Segments, segments_of}
 use Rattle.vm_ids.specs.declared.command.Command.{Command}
 use Rattle.vm_ids.specs.declared.command.Command.TheVariants as commands
 use Rattle.vm_ids.specs.declared.reply.Reply.TheVariants as replies
 use Rattle.vm_ids.specs.declared.reply.Trouble.{Trouble}
+use Rattle.vm_ids.specs.declared.reply.Trouble.TheVariants as troubles
 use Rattle.vm_model.specs.Answering.{Answer}
 use Rattle.vm_model.specs.Machine.{Cache, Machine, cache_of, live_pages, pages_in}
+use Rattle.vm_model.specs.Outcome.{OutcomeAt}
 use Rattle.vm_model.specs.Synchronised.{ArePushed, IsSynchronised}
 use Rattle.vm_model.specs.declared.limits.TheConstants.{MOST_MADE}
 use Rattle.vm_model.proofs.Parts.Lists.{numbered_place, sum_by_swap}
@@ -20,7 +22,8 @@ use Rattle.gmi_calls.specs.Calling.{MapperCall, RaisesMade}
 use Rattle.gmi_calls.specs.Managing.{meanings_of}
 use Rattle.gmi_calls.specs.declared.gmi.Gmi.{Ghosts as GhostsOfGmi}
 use Rattle.gmi_calls.proofs.Rising.{rise_none, rise_then}
-use Rattle.seg_manager.specs.Seen.{references_seen}
+use Rattle.seg_manager.specs.Keeping.{without as but_without}
+use Rattle.seg_manager.specs.Seen.{kept_segments, references_seen}
 use Rattle.seg_manager.specs.Tying.{AreTied, CanCall}
 use Rattle.seg_manager.specs.Thinning.{Fails, Thins, Trying}
 use Rattle.seg_manager.specs.declared.manager.SegManager.{SegManager}
@@ -29,11 +32,13 @@ use Rattle.seg_manager.specs.declared.tables.Mapped.{Mapped}
 use Rattle.seg_manager.specs.declared.tables.Named.{Named}
 use Rattle.seg_manager.proofs.Answered.{IsFault, IsGone, destroy_answered}
 use Rattle.seg_manager.proofs.Calls.{able_after, backed_before, backed_next, call_is, denied_after, forest, made_after, seen_after, told_after}
-use Rattle.seg_manager.proofs.Destroyed.{IsPushed, first_free, left, seen_without, there, tied_without, without}
+use Rattle.seg_manager.proofs.Destroyed.{IsPushed, first_free, left, seen_without, there, tied_without, without, without_first}
 use Rattle.seg_manager.proofs.Entries.{filter_few, is_other, still_all}
+use Rattle.seg_manager.proofs.Lesser.{take_more, without_both, without_none}
 use Rattle.seg_manager.proofs.Pushed.{all_pushed}
+use Rattle.seg_manager.proofs.Pushing.{pages_of, pushes_call, pushes_none, pushes_then}
 
-drop_drop : {A : Type 0} (i j : ℕ) (xs : List A) → drop j (drop i xs) ≡ drop (i + j) xs
+pub drop_drop : {A : Type 0} (i j : ℕ) (xs : List A) → drop j (drop i xs) ≡ drop (i + j) xs
 drop_drop zero j xs = ap (λ (n : ℕ). drop n xs) (let s : j ≡ 0 + j = omega arith in s)
 drop_drop (suc i) j [] = nil j ∙ sym (nil (suc i + j))
   where
@@ -60,14 +65,17 @@ retold m told now caches kept room regions t backed = record {
 
 module _ {Manager X Chooser : Type 0} (M : GhostsOfMapper X) (G : GhostsOfGmi Manager X Chooser) where
   -- nothing was destroyed
-  pub thins_none : (before : X) (manager : SegManager Manager) → CanCall G manager (M.held before) (M.page_bytes before) → Thins M G before manager before manager
+  abbrev pub thins_none : (before : X) (manager : SegManager Manager) → CanCall G manager (M.held before) (M.page_bytes before) → Thins M G before manager before manager
   thins_none before manager can = record {
     can = can;
     seen = refl;
     denied = refl;
     limit = refl;
     regions = refl;
-    kept = (0, refl);
+    gone = 0;
+    gone_few = omega arith;
+    kept = refl;
+    machine = sym (without_none (G.machine manager.gmi (M.held before)));
     among = λ test h. h;
     few = omega arith;
     spare = omega arith;
@@ -75,19 +83,26 @@ module _ {Manager X Chooser : Type 0} (M : GhostsOfMapper X) (G : GhostsOfGmi Ma
     credit = omega arith;
     rises = no_counts;
     rose = rise_none (M.counts before);
+    pushed = pushes_none M G before manager no_counts;
   }
 
   pub trying_none : (c : Command) (before : X) (manager : SegManager Manager) → CanCall G manager (M.held before) (M.page_bytes before) → Trying M G c before manager before manager
-  trying_none c before manager can = record { thins = thins_none before manager can; first = inl (refl, refl) }
+  trying_none c before manager can = record { thins = thins_none before manager can; cause = λ i less. absurd (omega (arith, less)) }
 
-  pub thins_then : (before : X) (old : SegManager Manager) (mid : X) (by : SegManager Manager) (after : X) (new : SegManager Manager) → Thins M G before old mid by → Thins M G mid by after new → Thins M G before old after new
+  abbrev pub thins_then : (before : X) (old : SegManager Manager) (mid : X) (by : SegManager Manager) (after : X) (new : SegManager Manager) → Thins M G before old mid by → Thins M G mid by after new → Thins M G before old after new
   thins_then before old mid by after new f g = record {
     can = g.can;
     seen = g.seen ∙ f.seen;
     denied = g.denied ∙ f.denied;
     limit = g.limit ∙ f.limit;
     regions = g.regions ∙ f.regions;
-    kept = (f.kept.0 + g.kept.0, g.kept.1 ∙ ap (drop g.kept.0) f.kept.1 ∙ drop_drop f.kept.0 g.kept.0 old.kept.items);
+    gone = f.gone + g.gone;
+    gone_few = omega (arith, f.gone_few, g.gone_few, ap length f.kept, length-drop f.gone old.kept.items);
+    kept = g.kept ∙ ap (drop g.gone) f.kept ∙ drop_drop f.gone g.gone old.kept.items;
+    machine = g.machine
+        ∙ (λ i. but_without (take g.gone ((ap kept_segments f.kept ∙ sym (drop-map (λ (k : Kept). k.seg.0) f.gone old.kept.items)) i)) (f.machine i))
+        ∙ without_both (take f.gone (kept_segments old.kept.items)) (take g.gone (drop f.gone (kept_segments old.kept.items))) (G.machine old.gmi (M.held before))
+        ∙ ap (λ (segs : List ℕ). but_without segs (G.machine old.gmi (M.held before))) (sym (take_more f.gone g.gone (kept_segments old.kept.items)));
     among = λ test h. g.among test (f.among test h);
     few = omega (arith, f.few, g.few);
     spare = omega (arith, f.spare, g.spare);
@@ -95,6 +110,7 @@ module _ {Manager X Chooser : Type 0} (M : GhostsOfMapper X) (G : GhostsOfGmi Ma
     credit = omega (arith, f.credit, g.credit);
     rises = counts_sum f.rises g.rises;
     rose = rise_then (M.counts before) (M.counts mid) (M.counts after) f.rises g.rises f.rose g.rose;
+    pushed = pushes_then M G before mid after old by f.rises g.rises (pages_of M G before mid old by (take f.gone (kept_segments old.kept.items)) f.machine) f.pushed g.pushed;
   }
 
   module _ (manager : SegManager Manager) (gmi : Manager) (before after : X) (first : Kept) (rest : List Kept) (a : Answer) (at : manager.kept.items ≡ first ∷ rest)
@@ -170,7 +186,10 @@ module _ {Manager X Chooser : Type 0} (M : GhostsOfMapper X) (G : GhostsOfGmi Ma
         denied = denied_after M G manager gmi before after (commands.Destroy first.cache) a can call;
         limit = limit;
         regions = same;
-        kept = (1, kept ∙ ap (drop 1) (sym at));
+        gone = 1;
+        gone_few = omega (arith, ap length at);
+        kept = kept ∙ ap (drop 1) (sym at);
+        machine = g.next ∙ sym (without_first m was caches first rest room regions tied) ∙ ap (λ (ks : List Kept). but_without (take 1 (kept_segments ks)) m) (sym at);
         among = λ test h. subst (AllByRecursion (λ (c : Named). test c ≡ false)) (sym left_is) (still_all (λ (c : Named). test c ≡ false) (is_other first.cache.0) caches h);
         few = omega (arith, ap length left_is, filter_few (is_other first.cache.0) caches);
         spare = roomy;
@@ -178,9 +197,10 @@ module _ {Manager X Chooser : Type 0} (M : GhostsOfMapper X) (G : GhostsOfGmi Ma
         credit = omega (arith, ap length kept, ap length at, less_credit (pages_in (cache_of m first.cache.0)) (live_pages m) (live_pages n) (length rest) (G.made manager.gmi) (G.made gmi) (live_pages n - live_pages m) swapped refl raised);
         rises = (call_is M G manager gmi before after (commands.Destroy first.cache) a can call).rises;
         rose = (call_is M G manager gmi before after (commands.Destroy first.cache) a can call).rose;
+        pushed = pushes_call M G manager gmi before after (commands.Destroy first.cache) a can call;
       }
 
-    pub fails_one : (g : IsFault m a n (call_is M G manager gmi before after (commands.Destroy first.cache) a can call).rises) → Fails M G before manager g.trouble after (record manager { gmi = gmi })
+    pub fails_one : (g : IsFault m a n (call_is M G manager gmi before after (commands.Destroy first.cache) a can call).rises) → Fails M G before manager (troubles.Mapper g.at) after (record manager { gmi = gmi })
     fails_one g = record {
       can = able_after M G manager gmi before after (commands.Destroy first.cache) a can call manager
           (omega (arith, ap (λ (x : Machine). length x.caches) g.same, can.few))
@@ -191,23 +211,31 @@ module _ {Manager X Chooser : Type 0} (M : GhostsOfMapper X) (G : GhostsOfGmi Ma
       same = refl;
       caches = ap (λ (x : Machine). length x.caches) g.same;
       made = made_after M G manager gmi before after (commands.Destroy first.cache) a can call;
-      fault = g.fault;
       rises = (call_is M G manager gmi before after (commands.Destroy first.cache) a can call).rises;
       rose = (call_is M G manager gmi before after (commands.Destroy first.cache) a can call).rose;
+      pushed = pushes_call M G manager gmi before after (commands.Destroy first.cache) a can call;
       failed = g.failed;
+      first = first;
+      rest = rest;
+      kept = at;
+      at = g.at;
+      is = refl;
+      fault = subst (λ (b : Answer). OutcomeAt now m (forest M G manager gmi before after (commands.Destroy first.cache) a can call) (commands.Destroy first.cache) b n (call_is M G manager gmi before after (commands.Destroy first.cache) a can call).rises) g.is
+          (call_is M G manager gmi before after (commands.Destroy first.cache) a can call).is.outcome;
+      call = subst (λ (b : Answer). MapperCall M (meanings_of G) before manager.gmi (commands.Destroy first.cache) b after gmi) g.is call;
     }
 
     -- by what the destroy answered
     pub gone_first : a ≡ Ok replies.Done → IsGone m first.cache.0 a n
     gone_first e = elim answered [
       | inl g ↦ g
-      | inr g ↦ absurd (let wrong : Err g.trouble ≡ Ok replies.Done = sym g.is ∙ e in cc wrong)
+      | inr g ↦ absurd (let wrong : Err (troubles.Mapper g.at) ≡ Ok replies.Done = sym g.is ∙ e in cc wrong)
     ]
 
     pub failed_first : (trouble : Trouble) → a ≡ Err trouble → Fails M G before manager trouble after (record manager { gmi = gmi })
     failed_first trouble e = elim answered [
       | inl g ↦ absurd (let wrong : Ok replies.Done ≡ Err trouble = sym g.done ∙ e in cc wrong)
-      | inr g ↦ (let both : Err g.trouble ≡ Err trouble = sym g.is ∙ e in let same : g.trouble ≡ trouble = cc both in
+      | inr g ↦ (let both : Err (troubles.Mapper g.at) ≡ Err trouble = sym g.is ∙ e in let same : troubles.Mapper g.at ≡ trouble = cc both in
           subst (λ (x : Trouble). Fails M G before manager x after (record manager { gmi = gmi })) same (fails_one g))
     ]
 

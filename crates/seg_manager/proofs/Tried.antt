@@ -1,7 +1,9 @@
 -- A command that makes a cache, where caches that are kept make room.
-use Rattle.std.proofs.Common.{◌≡◌, ◌⊎◌, inl, inr, Option, ℕ, ◌+◌, ◌≤◌, Bool, true, false, cond, List, [], ◌∷◌, length, Some, None, refl, sym, ap, subst, ◌∙◌, arith}
-use Rattle.std.specs.Prelude.{◌==◌, ◌^◌, Ok, Err}
+use Rattle.std.proofs.Common.{◌≡◌, inl, inr, Option, ℕ, ◌+◌, ◌<◌, ◌≤◌, Bool, true, false, cond, List, [], ◌∷◌, length, take, Some, None, refl, sym, ap, subst, ◌∙◌, arith}
+use Rattle.std.specs.Prelude.{◌==◌, ◌^◌, Ok, Err, nat_lt, option_map}
 use Rattle.std.specs.List.{AllByRecursion, position_from}
+use Rattle.std.proofs.lemmas.Bool.Decides.{nat_tests}
+use Rattle.std.proofs.lemmas.List.{length-drop}
 use Rattle.vm_ids.specs.Counting.{MapperCounts, no_counts}
 use Rattle.vm_ids.specs.Held.{Segments, segments_of}
 use Rattle.vm_ids.specs.declared.command.Command.{Command}
@@ -14,7 +16,7 @@ use Rattle.vm_ids.specs.declared.reply.Reply.TheVariants as replies
 use Rattle.vm_ids.specs.declared.reply.Trouble.{Trouble}
 use Rattle.vm_ids.specs.declared.reply.Trouble.TheVariants as troubles
 use Rattle.vm_model.specs.Answering.{Answer, answer_of, open_of}
-use Rattle.vm_model.specs.Outcome.{Outcome, OutcomeAt}
+use Rattle.vm_model.specs.Outcome.{OutcomeAt}
 use Rattle.vm_model.specs.PageForest.{PageForest, forest_shown}
 use Rattle.vm_model.specs.Machine.{Machine, live_pages}
 use Rattle.vm_port.specs.declared.traits.mapper.Mapper.{Ghosts as GhostsOfMapper}
@@ -22,8 +24,9 @@ use Rattle.gmi_calls.specs.Calling.{MapperCall, RaisesMade}
 use Rattle.gmi_calls.specs.Managing.{meanings_of}
 use Rattle.gmi_calls.specs.declared.gmi.Gmi.{Ghosts as GhostsOfGmi}
 use Rattle.seg_manager.specs.Inner.{first_of}
-use Rattle.seg_manager.specs.Seen.{references_seen}
-use Rattle.seg_manager.specs.Calling.{HasNoRoom}
+use Rattle.seg_manager.specs.ReferenceMachine.{ReferenceMachine}
+use Rattle.seg_manager.specs.Seen.{kept_segments, references_seen}
+use Rattle.seg_manager.specs.Calling.{HasNoRoomWithout}
 use Rattle.seg_manager.specs.Thinning.{IsRoomMade, IsTried, MakesRoom, Thins, Tries, Trying, credit, seen_with}
 use Rattle.seg_manager.specs.Tying.{AreTied, CanCall}
 use Rattle.seg_manager.specs.declared.manager.SegManager.{SegManager}
@@ -31,7 +34,10 @@ use Rattle.seg_manager.specs.declared.tables.Named.{Named}
 use Rattle.seg_manager.proofs.Anew.{unnamed}
 use Rattle.seg_manager.proofs.Calls.{able_after, backed_before, call_is, denied_after, forest, made_after, seen_after, told_after}
 use Rattle.seg_manager.proofs.Pushed.{Follow, Told}
-use Rattle.seg_manager.proofs.Steps.{alike_err}
+use Rattle.seg_manager.proofs.Lesser.{without_none}
+use Rattle.seg_manager.proofs.Pushing.{pushes_call}
+use Rattle.seg_manager.proofs.Staying.{refused_again}
+use Rattle.seg_manager.proofs.Unopened.{stored_held}
 use Rattle.seg_manager.proofs.Opened.{Ends, failed, lacks, made, many, nowhere, open_ends}
 use Rattle.seg_manager.proofs.Thinned.{retold, thins_then}
 
@@ -55,7 +61,7 @@ module _ {Manager X Chooser : Type 0} (M : GhostsOfMapper X) (G : GhostsOfGmi Ma
     pub seen_same : seen_with M G (record manager { gmi = gmi }) after ≡ seen_with M G manager before
     seen_same = ap (λ (x : Machine). references_seen x (segments_of (M.held after)) manager.caches.items) same ∙ seen_after M G manager gmi before after c a can call manager.caches.items
 
-    pub thins_refused : (r : Refusal) → a ≡ Err (troubles.Refused r) → Thins M G before manager after (record manager { gmi = gmi })
+    abbrev pub thins_refused : (r : Refusal) → a ≡ Err (troubles.Refused r) → Thins M G before manager after (record manager { gmi = gmi })
     thins_refused r e =
         let made_same : G.made gmi ≡ G.made manager.gmi = subst (λ (b : Answer). RaisesMade m c b n (G.made manager.gmi) (G.made gmi)) e call.made in
         record {
@@ -64,7 +70,10 @@ module _ {Manager X Chooser : Type 0} (M : GhostsOfMapper X) (G : GhostsOfGmi Ma
           denied = denied_after M G manager gmi before after c a can call;
           limit = refl;
           regions = refl;
-          kept = (0, refl);
+          gone = 0;
+          gone_few = omega arith;
+          kept = refl;
+          machine = same ∙ sym (without_none m);
           among = λ test h. h;
           few = omega arith;
           spare = omega arith;
@@ -72,34 +81,26 @@ module _ {Manager X Chooser : Type 0} (M : GhostsOfMapper X) (G : GhostsOfGmi Ma
           credit = omega (arith, made_same, ap live_pages same);
           rises = (call_is M G manager gmi before after c a can call).rises;
           rose = (call_is M G manager gmi before after c a can call).rose;
+          pushed = pushes_call M G manager gmi before after c a can call;
         }
 
--- A machine refuses a command so by what is beside its caches
+-- A machine refuses a command so by what is beside its caches: whatever forest is told, and where
+-- the segments are told, by what was held at first.
+pub record IsSameRow (c : Command) (m : Machine) (first was : Option Segments) : Type 0 where
+  pub forests : (x : Machine) (f g : PageForest) (h : Segments) → answer_of x f c h ≡ answer_of x g c h
+  pub held : (f : PageForest) (h s u : Segments) → first ≡ Some h → was ≡ Some s → Follow m s u → answer_of m f c h ≡ answer_of m f c u
 
-abbrev pub IsSameRow : Command → Machine → Type 0
-IsSameRow c m = (f : PageForest) (h u : Segments) → Follow m h u → answer_of m f c h ≡ answer_of m f c u
+pub temp_row : {m : Machine} {first was : Option Segments} (pages : ℕ) → IsSameRow (vm_commands.MakeTemp pages) m first was
+temp_row pages = record { forests = λ x f g h. refl; held = λ f h s u e d follow. refl }
 
-module _ (m n : Machine) (f : Option PageForest) (c : Command) (row : IsSameRow c m) (t : Trouble) (rises : MapperCounts) (same : n ≡ m) (e : t ≡ troubles.Refused refusals.TooMany) where
-  no_room : (was now : Option Segments) → Told m was now → OutcomeAt now m f c (Err t) n rises → OutcomeAt was m f c (Err (troubles.Refused refusals.TooMany)) m no_counts
-  no_room None now told o =
-      let b = subst (λ (x : Option Segments). OutcomeAt x m f c (Err t) n rises) (told.none refl) o in
-      record {
-        whole = b.whole;
-        whole_next = b.whole_next;
-        segments = b.segments;
-        whole_answer = Err (troubles.Refused refusals.TooMany);
-        is = b.is;
-        is_next = sym same ∙ b.is_next;
-        pages = b.pages;
-        alike = refl;
-        outcome = subst (λ (a : Answer). Outcome b.whole f c b.segments a b.whole_next rises) (alike_err t b.whole_answer b.alike ∙ ap (λ (x : Trouble). Err x) e) b.outcome;
-      }
-  no_room (Some h) now told o =
-      let u = told.some h refl in
-      let refused : Outcome m f c u.0 (Err (troubles.Refused refusals.TooMany)) n rises =
-      subst (λ (x : Trouble). Outcome m f c u.0 (Err x) n rises) e (subst (λ (x : Option Segments). OutcomeAt x m f c (Err t) n rises) u.1 o)
-      in
-      row (forest_shown f m) h u.0 u.2 ∙ refused ∙ (λ i. record { answer = Err (troubles.Refused refusals.TooMany); next = same i })
+told_first : (m : Machine) (c : Command) (g : Option PageForest) (first was now : Option Segments) → IsSameRow c m first was → Told m was now → option_map (λ (h : Segments). h.denied) was ≡ option_map (λ (h : Segments). h.denied) first
+    → OutcomeAt now m g c (Err (troubles.Refused refusals.TooMany)) m no_counts → OutcomeAt first m g c (Err (troubles.Refused refusals.TooMany)) m no_counts
+told_first m c g None None now row told e o = subst (λ (x : Option Segments). OutcomeAt x m g c (Err (troubles.Refused refusals.TooMany)) m no_counts) (told.none refl) o
+told_first m c g None (Some s) now row told e o = absurd (cc e)
+told_first m c g (Some h) None now row told e o = absurd (cc e)
+told_first m c g (Some h) (Some s) now row told e o =
+    let u = told.some s refl in
+    row.held (forest_shown g m) h s u.0 refl refl u.2 ∙ subst (λ (x : Option Segments). OutcomeAt x m g c (Err (troubles.Refused refusals.TooMany)) m no_counts) u.1 o
 
 -- The loop
 
@@ -121,7 +122,7 @@ module _ {Manager X Chooser : Type 0} (M : GhostsOfMapper X) (G : GhostsOfGmi Ma
   abbrev pub Leaves : Command → Manager → X → Type 0
   Leaves c gmi mapper = (t : Trouble) (after : X) (then_gmi : Manager) → MapperCall M (meanings_of G) mapper gmi c (Err t) after then_gmi → G.machine then_gmi (M.held after) ≡ G.machine gmi (M.held mapper)
 
-  module _ (c : Command) (middle : X) (by : SegManager Manager) (trying : Trying M G c before old middle by) (leaves : Leaves c by.gmi middle) (row : IsSameRow c (G.machine by.gmi (M.held middle))) where
+  module _ (c : Command) (middle : X) (by : SegManager Manager) (trying : Trying M G c before old middle by) (leaves : Leaves c by.gmi middle) (row : IsSameRow c (G.machine by.gmi (M.held middle)) (segments_of (M.held before)) (segments_of (M.held middle))) where
     abbrev thins : Thins M G before old middle by
     thins = trying.thins
 
@@ -144,15 +145,26 @@ module _ {Manager X Chooser : Type 0} (M : GhostsOfMapper X) (G : GhostsOfGmi Ma
       tries : Tries M G c before old (Err trouble) after tried
       tries = record { middle = middle; by = by; trying = trying; call = call; same = refl }
 
-      -- The first time it had no room as it was at first.
-      had_none : ((by ≡ old) × (middle ≡ before)) ⊎ HasNoRoom G old.gmi (M.held before) c → trouble ≡ troubles.Refused refusals.TooMany → HasNoRoom G old.gmi (M.held before) c
-      had_none (inr none) e = none
-      had_none (inl at) e =
+      -- It had no room as it was at first, but for those that had gone.
+      had_none : trouble ≡ troubles.Refused refusals.TooMany → HasNoRoomWithout G old.gmi (M.held before) c (take thins.gone (kept_segments old.kept.items))
+      had_none e =
           let it = call_is M G by gmi middle after c (Err trouble) thins.can call in
-          subst (λ (x : X). HasNoRoom G old.gmi (M.held x) c) at.1
-          (subst (λ (s : SegManager Manager). HasNoRoom G s.gmi (M.held middle) c) at.0
-          (no_room (G.machine by.gmi (M.held middle)) (G.machine gmi (M.held after)) (forest M G by gmi middle after c (Err trouble) thins.can call) c row trouble it.rises stays e
-          (segments_of (M.held middle)) (segments_of (M.held after)) (told_after M G by gmi middle after c (Err trouble) thins.can call) it.is.outcome))
+          let m = G.machine by.gmi (M.held middle) in
+          let g = G.forest old.gmi (M.held before) in
+          let again = refused_again (segments_of (M.held after)) m (G.machine gmi (M.held after)) (forest M G by gmi middle after c (Err trouble) thins.can call) g c row.forests trouble it.rises stays it.is.outcome e in
+          let asked = subst (λ (x : Machine). OutcomeAt (segments_of (M.held after)) x g c (Err (troubles.Refused refusals.TooMany)) x no_counts) stays again in
+          let told = told_first m c g (segments_of (M.held before)) (segments_of (M.held middle)) (segments_of (M.held after)) row (told_after M G by gmi middle after c (Err trouble) thins.can call) thins.denied asked in
+          subst (λ (x : Machine). OutcomeAt (segments_of (M.held before)) x g c (Err (troubles.Refused refusals.TooMany)) x no_counts) thins.machine told
+
+      -- one more went for that
+      tries_cause : (k : ℕ) → k ≡ 1 → trouble ≡ troubles.Refused refusals.TooMany → (i : ℕ) → i < thins.gone + 0 + k → HasNoRoomWithout G old.gmi (M.held before) c (take i (kept_segments old.kept.items))
+      tries_cause k one e i less = of (nat_lt i thins.gone) refl
+        where
+          of : (b : Bool) → nat_lt i thins.gone ≡ b → HasNoRoomWithout G old.gmi (M.held before) c (take i (kept_segments old.kept.items))
+          of true b = trying.cause i (let below : i < thins.gone = grind (arith, nat_tests) in below)
+          of false b =
+              let above : thins.gone ≤ i = grind (arith, nat_tests) in
+              subst (λ (n : ℕ). HasNoRoomWithout G old.gmi (M.held before) c (take n (kept_segments old.kept.items))) (let is : thins.gone ≡ i = omega (arith, above, less, one) in is) (had_none e)
 
       pub tries_more : (later : X) (new : SegManager Manager) → MakesRoom M G trouble after tried later new → Trying M G c before old later new
       tries_more later new r = record {
@@ -160,7 +172,7 @@ module _ {Manager X Chooser : Type 0} (M : GhostsOfMapper X) (G : GhostsOfGmi Ma
             thins_then M G before old after tried later new
             (thins_then M G before old middle by after tried thins (thins_refused M G by gmi middle after c (Err trouble) thins.can call stays refusals.TooMany (ap (λ (t : Trouble). Err t) r.wanted)))
             r.thins;
-        first = inr (had_none trying.first r.wanted);
+        cause = tries_cause r.thins.gone (omega (arith, r.thins.gone_few, r.less, ap length r.thins.kept, length-drop r.thins.gone by.kept.items, ap length r.one, length-drop 1 by.kept.items)) r.wanted;
       }
 
       pub tries_err : (answer : Trouble) (later : X) (new : SegManager Manager) → IsRoomMade M G trouble after tried (Err answer) later new → IsTried M G c before old (Err answer) later new
@@ -198,7 +210,19 @@ module _ {Manager X Chooser : Type 0} (M : GhostsOfMapper X) (G : GhostsOfGmi Ma
       by (failed e s h few) = s
       by (lacks e s) = s
 
-  pub open_row : IsSameRow (vm_commands.OpenSegment seg) (G.machine manager.gmi (M.held mapper))
-  open_row f h u follow =
-      ap (open_of (G.machine manager.gmi (M.held mapper)) seg.0) (sym (follow.beside seg.0
-      (unnamed (G.machine manager.gmi (M.held mapper)) (segments_of (M.held mapper)) manager.caches.items manager.kept.items manager.kept.room manager.regions.items can.tied seg (sym anew))))
+  pub open_row : (before : X) (old : SegManager Manager) → CanCall G old (M.held before) (M.page_bytes before) → Thins M G before old mapper manager → None ≡ position_from (first_of seg.0) 0 old.caches.items
+      → IsSameRow (vm_commands.OpenSegment seg) (G.machine manager.gmi (M.held mapper)) (segments_of (M.held before)) (segments_of (M.held mapper))
+  open_row before old able thins none = record {
+    forests = λ x f g h. refl;
+    held = λ f h s u e d follow.
+        let t = subst (λ (o : Option Segments). AreTied (G.machine old.gmi (M.held before)) o old.caches.items old.kept.items old.kept.room old.regions.items) e able.tied in
+        let w = subst (λ (o : Option Segments). AreTied (G.machine manager.gmi (M.held mapper)) o manager.caches.items manager.kept.items manager.kept.room manager.regions.items) d can.tied in
+        let seen = subst (λ (o : Option Segments). references_seen (G.machine manager.gmi (M.held mapper)) (Some s) manager.caches.items ≡ references_seen (G.machine old.gmi (M.held before)) o old.caches.items) e
+        (subst (λ (o : Option Segments). references_seen (G.machine manager.gmi (M.held mapper)) o manager.caches.items ≡ references_seen (G.machine old.gmi (M.held before)) (segments_of (M.held before)) old.caches.items) d thins.seen)
+        in
+        ap (open_of (G.machine manager.gmi (M.held mapper)) seg.0)
+        (sym (stored_held (G.machine old.gmi (M.held before)) h old.caches.items old.kept.items old.kept.room old.regions.items t seg none)
+        ∙ ap (λ (r : ReferenceMachine). r.stored seg.0) (sym seen)
+        ∙ stored_held (G.machine manager.gmi (M.held mapper)) s manager.caches.items manager.kept.items manager.kept.room manager.regions.items w seg anew
+        ∙ sym (follow.beside seg.0 (unnamed (G.machine manager.gmi (M.held mapper)) (segments_of (M.held mapper)) manager.caches.items manager.kept.items manager.kept.room manager.regions.items can.tied seg (sym anew))));
+  }

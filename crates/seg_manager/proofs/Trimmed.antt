@@ -1,5 +1,5 @@
 -- Caches that are kept are destroyed while more are kept than may be.
-use Rattle.std.proofs.Common.{◌≡◌, ◌⊎◌, inl, inr, ℕ, zero, suc, ◌-◌, ◌<◌, ◌≤◌, List, [], ◌∷◌, length, drop, refl, sym, ap, ◌∙◌, arith}
+use Rattle.std.proofs.Common.{◌≡◌, ◌⊎◌, inl, inr, ℕ, zero, suc, ◌-◌, ◌<◌, ◌≤◌, List, [], ◌∷◌, length, drop, take, refl, sym, ap, ◌∙◌, arith}
 use Rattle.std.proofs.lemmas.List.{drop-map, length-drop, length-map}
 use Rattle.vm_ids.specs.Counting.{MapperCounts, Rise, Rose, counts_sum}
 use Rattle.vm_ids.specs.declared.reply.Trouble.{Trouble}
@@ -11,6 +11,7 @@ use Rattle.seg_manager.specs.Thinning.{Fails, Thins, Trims, credit}
 use Rattle.seg_manager.specs.Tying.{CanCall}
 use Rattle.seg_manager.specs.declared.manager.SegManager.{SegManager}
 use Rattle.seg_manager.specs.declared.tables.Kept.{Kept}
+use Rattle.seg_manager.proofs.Pushing.{pages_of, pushes_then}
 use Rattle.seg_manager.proofs.Thinned.{thins_none, thins_then}
 
 -- so much was dropped as is missing
@@ -65,13 +66,14 @@ module _ {Manager X Chooser : Type 0} (M : GhostsOfMapper X) (G : GhostsOfGmi Ma
       regions = t.thins.regions;
       kept = record {
         gone = length (kept_segments old.kept.items) - length (kept_segments manager.kept.items);
-        is = segments_missing t.thins.kept.0 old.kept.items manager.kept.items t.thins.kept.1;
+        is = segments_missing t.thins.gone old.kept.items manager.kept.items t.thins.kept;
         few = few;
         last = inl (all_gone t.more);
       };
       made = omega (arith, made_less);
       rises = t.thins.rises;
       rose = t.thins.rose;
+      pushed = t.thins.pushed;
     }
       where
         a : length (kept_segments old.kept.items) ≡ length old.kept.items
@@ -97,7 +99,7 @@ module _ {Manager X Chooser : Type 0} (M : GhostsOfMapper X) (G : GhostsOfGmi Ma
       regions = ap (λ (x : SegManager Manager). x.regions) f.same ∙ t.thins.regions;
       kept = record {
         gone = length (kept_segments old.kept.items) - length (kept_segments manager.kept.items);
-        is = ap (λ (x : SegManager Manager). kept_segments x.kept.items) f.same ∙ segments_missing t.thins.kept.0 old.kept.items manager.kept.items t.thins.kept.1;
+        is = ap (λ (x : SegManager Manager). kept_segments x.kept.items) f.same ∙ segments_missing t.thins.gone old.kept.items manager.kept.items t.thins.kept;
         few = few;
         last = inr (rise_failed (M.counts before) (M.counts after) (counts_sum t.thins.rises f.rises)
             (rise_then (M.counts before) (M.counts now) (M.counts after) t.thins.rises f.rises t.thins.rose f.rose) (omega (arith, f.failed)));
@@ -105,4 +107,5 @@ module _ {Manager X Chooser : Type 0} (M : GhostsOfMapper X) (G : GhostsOfGmi Ma
       made = omega (arith, made_less, f.made);
       rises = counts_sum t.thins.rises f.rises;
       rose = rise_then (M.counts before) (M.counts now) (M.counts after) t.thins.rises f.rises t.thins.rose f.rose;
+      pushed = pushes_then M G before now after old manager t.thins.rises f.rises (pages_of M G before now old manager (take t.thins.gone (kept_segments old.kept.items)) t.thins.machine) t.thins.pushed f.pushed;
     }

@@ -86,20 +86,24 @@ goes_on_by r seg number at e (Some pages) f = subst (λ (x : Answered). GoesOn a
     something : (at : FaultAt) → GoesOn at (commands.Plain (OpenSegment seg)) (Ok (replies.Cache (record { 0 = number })))
     something at = tt
 
-pub behind_not : (Cause : Type 0) (b : Bool) (seg : ℕ) (kept now : List ℕ) (result : Result CacheId Trouble) → b ≡ false → AreBehind Cause kept now → IsAcquired Cause b seg kept result now
+pub behind_not : (Cause : List ℕ → Type 0) (b : Bool) (seg : ℕ) (kept now : List ℕ) (result : Result CacheId Trouble) → b ≡ false → AreBehind Cause kept now → IsAcquired Cause b seg kept result now
 behind_not Cause false seg kept now result e h = h
 behind_not Cause true seg kept now result e h = absurd (cc e)
 
--- what is stored for it is what the mapper holds then
+-- what is stored for it is what the mapper holds
+pub stored_held : (m : Machine) (s : Segments) (cs : List Named) (ks : List Kept) (room : ℕ) (rs : List Mapped) (t : AreTied m (Some s) cs ks room rs) (seg : SegId) → None ≡ position_from (first_of seg.0) 0 cs → (references_seen m (Some s) cs).stored seg.0 ≡ get s.pages seg.0
+stored_held m s cs ks room rs t seg anew =
+    let nobody_named = free_name m (Some s) cs ks room rs t seg anew in
+    stored_free (whole_of m (Some s) cs) seg.0 1 m.caches nobody_named ∙ ap (λ (x : Option Cache). cond (is_some x) None (get s.pages seg.0)) nobody_named
+
+-- and then
 pub stored_as : (m : Machine) (told now : Option Segments) (cs : List Named) (ks : List Kept) (room : ℕ) (rs : List Mapped) (t : AreTied m told cs ks room rs) (seg : SegId) (anew : None ≡ position_from (first_of seg.0) 0 cs) → Told m told now
     → (o : Option (List Page)) → IfSome now (λ h. get h.pages seg.0 ≡ o) → IfSome told (λ h. (references_seen m told cs).stored seg.0 ≡ o)
 stored_as m None now cs ks room rs t seg anew f o held = tt
 stored_as m (Some s) now cs ks room rs t seg anew f o held =
     let u = f.some s refl in
-    let nobody_named = free_name m (Some s) cs ks room rs t seg anew in
-    stored_free (whole_of m (Some s) cs) seg.0 1 m.caches nobody_named
-    ∙ ap (λ (x : Option Cache). cond (is_some x) None (get s.pages seg.0)) nobody_named
-    ∙ sym (u.2.beside seg.0 (ap is_some nobody_named))
+    stored_held m s cs ks room rs t seg anew
+    ∙ sym (u.2.beside seg.0 (ap is_some (free_name m (Some s) cs ks room rs t seg anew)))
     ∙ subst (λ (x : Option Segments). IfSome x (λ h. get h.pages seg.0 ≡ o)) u.1 held
 
 pub stored_nothing : (told : Option Segments) (m : Machine) (cs : List Named) (seg : ℕ) → IfSome told (λ h. (references_seen m told cs).stored seg ≡ None) → (references_seen m told cs).stored seg ≡ None

@@ -1,5 +1,5 @@
 -- What the calls of the manager of segments have in common.
-use Rattle.std.specs.Prelude.{◌≡◌, ◌==◌, ◌≤◌, List, ℕ, ◌+◌, ◌^◌, [], ◌++◌, length, Option, Some, Result, Ok, Err, IfOk}
+use Rattle.std.specs.Prelude.{◌≡◌, ◌==◌, ◌≤◌, ◌⊎◌, List, ℕ, ◌+◌, ◌^◌, [], ◌∷◌, ◌++◌, drop, length, take, Option, Some, Result, Ok, Err}
 use Rattle.std.specs.List.{list_any}
 use Rattle.vm_ids.specs.Counting.{MapperCounts, Rise, no_counts}
 use Rattle.vm_ids.specs.Held.{Held, Segments, segments_of}
@@ -10,21 +10,26 @@ use Rattle.vm_ids.specs.declared.command.KeepCommand.TheVariants as commands
 use Rattle.vm_ids.specs.declared.numbers.CacheId.{CacheId}
 use Rattle.vm_ids.specs.declared.numbers.SegId.{SegId}
 use Rattle.vm_ids.specs.declared.refusal.Refusal.TheVariants.{TooMany}
+use Rattle.vm_ids.specs.declared.reply.FaultAt.{FaultAt}
 use Rattle.vm_ids.specs.declared.reply.Reply.TheVariants as replies
 use Rattle.vm_ids.specs.declared.reply.Trouble.{Trouble}
-use Rattle.vm_ids.specs.declared.reply.Trouble.TheVariants.{Refused}
+use Rattle.vm_ids.specs.declared.reply.Trouble.TheVariants as troubles
+use Rattle.vm_ids.specs.declared.reply.Trouble.TheVariants.{Memory, Refused}
 use Rattle.vm_model.specs.Answering.{Answer, answer_by}
 use Rattle.vm_model.specs.Machine.{Machine}
 use Rattle.vm_model.specs.Outcome.{OutcomeAt}
 use Rattle.vm_port.specs.declared.traits.mapper.Mapper.{Ghosts as GhostsOfMapper}
-use Rattle.gmi_calls.specs.Calling.{done_by}
+use Rattle.gmi_calls.specs.Calling.{MapperCall, done_by}
+use Rattle.gmi_calls.specs.Managing.{meanings_of}
 use Rattle.gmi_calls.specs.declared.gmi.Gmi.{Ghosts as GhostsOfGmi}
-use Rattle.seg_manager.specs.Keeping.{AreBehind, AreLast, IsAcquired, cache_for, left_by, mapped_in, mapped_under, referred}
+use Rattle.seg_manager.specs.Inner.{span_shown}
+use Rattle.seg_manager.specs.Keeping.{AreBehind, AreLast, IsAcquired, cache_for, left_by, mapped_in, mapped_under, referred, without}
 use Rattle.seg_manager.specs.ReferenceMachine.{ReferenceMachine, number_in}
 use Rattle.seg_manager.specs.Seen.{kept_segments, known, stored_beside, state_of, whole_of}
 use Rattle.seg_manager.specs.Stepping.{AnswerIs, State}
 use Rattle.seg_manager.specs.Tying.{CanCall}
 use Rattle.seg_manager.specs.declared.manager.SegManager.{SegManager}
+use Rattle.seg_manager.specs.declared.tables.Kept.{Kept}
 
 -- the commands of the manager below that a script of segments has, but for the opening of a segment
 abbrev pub IsServed : Command → Type 0
@@ -86,6 +91,35 @@ abbrev pub HasNoRoom : {Manager Mapper Chooser : Type 0} → GhostsOfGmi Manager
 HasNoRoom G gmi told command = OutcomeAt (segments_of told) (G.machine gmi told)
     (G.forest gmi told) command (Err (Refused TooMany)) (G.machine gmi told) no_counts
 
+-- the same where the caches of these segments are gone
+abbrev pub HasNoRoomWithout : {Manager Mapper Chooser : Type 0}
+    → GhostsOfGmi Manager Mapper Chooser → Manager → Option Held → Command → List ℕ → Type 0
+HasNoRoomWithout G gmi told command gone =
+    OutcomeAt (segments_of told) (without gone (G.machine gmi told)) (G.forest gmi told) command
+    (Err (Refused TooMany)) (without gone (G.machine gmi told)) no_counts
+
+-- the cache with this number was found, or there was no memory for another reference to it
+abbrev pub IsFound : ℕ → Result CacheId Trouble → Type 0
+IsFound n (Ok cache) = cache.0 ≡ n
+IsFound n (Err trouble) = trouble ≡ Memory
+
+-- The last call of the manager below failed at this fault: it was the command itself; or, where some
+-- of the least recently used had gone to make room, a destroy of the next one.
+pub record FailsBelow {Manager Mapper Chooser : Type 0} (M : GhostsOfMapper Mapper)
+    (G : GhostsOfGmi Manager Mapper Chooser) (before : Mapper) (old : SegManager Manager)
+    (command : Command) (at : FaultAt) (after : Mapper) (new : SegManager Manager) : Type 0 where
+  pub gone : ℕ
+  pub middle : Mapper
+  pub by : Manager
+  pub machine : G.machine by (M.held middle)
+      ≡ without (take gone (kept_segments old.kept.items)) (G.machine old.gmi (M.held before))
+  pub failing : Command
+  pub is : (failing ≡ command) ⊎ ((next : Kept) × (rest : List Kept)
+      × (drop gone old.kept.items ≡ next ∷ rest)
+      × (failing ≡ plain_commands.Destroy next.cache))
+  pub call : MapperCall M (meanings_of G) middle by failing (Err (troubles.Mapper at)) after
+      new.gmi
+
 -- An opening of a segment. A cache that there is keeps its number, and the mapper isn't called.
 pub record Acquires {Manager Mapper Chooser : Type 0} (M : GhostsOfMapper Mapper)
     (G : GhostsOfGmi Manager Mapper Chooser) (before : Mapper) (old : SegManager Manager)
@@ -93,13 +127,16 @@ pub record Acquires {Manager Mapper Chooser : Type 0} (M : GhostsOfMapper Mapper
     : Type 0 where
   pub call : SegmentCall M G before old (commands.Plain (plain_commands.OpenSegment seg))
       (answer_by replies.Cache result) after new
-  pub kept : IsAcquired (HasNoRoom G old.gmi (M.held before) (plain_commands.OpenSegment seg))
+  pub kept : IsAcquired
+      (HasNoRoomWithout G old.gmi (M.held before) (plain_commands.OpenSegment seg))
       (list_any (λ s. s == seg.0) (kept_segments old.kept.items)) seg.0
       (kept_segments old.kept.items) result (kept_segments new.kept.items)
   pub again : (n : ℕ) → number_in 1 (G.machine old.gmi (M.held before)).caches seg.0 ≡ Some n
-      → (after ≡ before) × IfOk result (λ cache. cache.0 ≡ n)
+      → (after ≡ before) × IsFound n result
   pub too_many : result ≡ Err (Refused TooMany) → (new.kept.items ≡ [])
       × HasNoRoom G new.gmi (M.held after) (plain_commands.OpenSegment seg)
+  pub fault : (at : FaultAt) → result ≡ Err (troubles.Mapper at)
+      → FailsBelow M G before old (plain_commands.OpenSegment seg) at after new
 
 -- what there is below, with what refers to it
 abbrev pub below : {Manager Mapper Chooser : Type 0} → GhostsOfGmi Manager Mapper Chooser
@@ -135,7 +172,8 @@ pub record Releases {Manager Mapper Chooser : Type 0} (M : GhostsOfMapper Mapper
   pub kept : KeepsLastBy M G before old
       (cache_for (G.machine old.gmi (M.held before)) seg.0) (done_by result) after new
 
--- Which caches are kept after another command.
+-- Which caches are kept after another command. A copy is one of the manager below, between caches
+-- as they are found: so where it fails at a save, that manager tells how many were done.
 abbrev pub AnswersKept : {Manager Mapper Chooser : Type 0} → GhostsOfMapper Mapper
     → GhostsOfGmi Manager Mapper Chooser → Mapper → SegManager Manager → Command → Answer → Mapper
     → SegManager Manager → Type 0
@@ -146,10 +184,16 @@ AnswersKept M G before old (plain_commands.Unmap region) answer after new =
     KeepsLastBy M G before old (mapped_under (G.machine old.gmi (M.held before)) region.0) answer
     after new
 AnswersKept M G before old (plain_commands.MakeTemp pages) answer after new =
-    AreBehind (HasNoRoom G old.gmi (M.held before) (plain_commands.MakeTemp pages))
+    AreBehind (HasNoRoomWithout G old.gmi (M.held before) (plain_commands.MakeTemp pages))
     (kept_segments old.kept.items) (kept_segments new.kept.items)
     × (answer ≡ Err (Refused TooMany) → (new.kept.items ≡ [])
     × HasNoRoom G new.gmi (M.held after) (plain_commands.MakeTemp pages))
+    × ((at : FaultAt) → answer ≡ Err (troubles.Mapper at)
+    → FailsBelow M G before old (plain_commands.MakeTemp pages) at after new)
+AnswersKept M G before old (plain_commands.Copy span) answer after new =
+    (new.kept.items ≡ old.kept.items)
+    × MapperCall M (meanings_of G) before old.gmi
+    (plain_commands.Copy (span_shown old.kept.items span)) answer after new.gmi
 AnswersKept M G before old command answer after new = new.kept.items ≡ old.kept.items
 
 -- A command of the manager's own: what is answered, and which caches are kept then.

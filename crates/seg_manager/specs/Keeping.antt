@@ -1,21 +1,37 @@
 -- Which segments' caches are kept after a call, by which were before.
-use Rattle.std.specs.Prelude.{◌≡◌, ◌==◌, ◌≤◌, ◌⊎◌, ℕ, ◌+◌, ◌-◌, not, Bool, true, false, List, [], ◌∷◌, ◌++◌, drop, filter, length, map, Option, Some, None, Result, Ok, Err, if◌then◌else◌}
+use Rattle.std.specs.Prelude.{◌≡◌, ◌==◌, ◌≤◌, ◌<◌, ◌⊎◌, ℕ, ◌+◌, ◌-◌, not, Bool, true, false, List, [], ◌∷◌, ◌++◌, drop, filter, length, map, take, Option, Some, None, Result, Ok, Err, if◌then◌else◌}
 use Rattle.std.specs.List.{list_any}
 use Rattle.std.specs.Option.{option_map_or}
 use Rattle.vm_ids.specs.Counting.{Rose}
 use Rattle.vm_ids.specs.declared.numbers.CacheId.{CacheId}
 use Rattle.vm_ids.specs.declared.reply.Trouble.{Trouble}
-use Rattle.vm_model.specs.Machine.{Actor, Machine, Region, segment_of}
-use Rattle.seg_manager.specs.ReferenceMachine.{ReferenceMachine, number_in}
-use Rattle.seg_manager.specs.Tying.{is_unreferenced}
+use Rattle.vm_model.specs.Machine.{Actor, Cache, Machine, Region, segment_of}
+use Rattle.seg_manager.specs.ReferenceMachine.{ReferenceMachine, is_unreferenced, number_in}
 
--- None is gone; or there was a cause, and some of the least recently used are gone.
-abbrev pub AreBehind : Type 0 → List ℕ → List ℕ → Type 0
-AreBehind Cause before now = (now ≡ before) ⊎ (Cause × (n : ℕ) × (now ≡ drop n before))
+-- one of these segments names the cache
+abbrev pub is_of_any : List ℕ → Cache → Bool
+is_of_any segs c = option_map_or (λ seg. list_any (λ s. s == seg) segs) c.segment false
+
+abbrev pub but_for : List ℕ → Option Cache → Option Cache
+but_for segs None = None
+but_for segs (Some c) = if is_of_any segs c then None else Some c
+
+-- the machine without the caches of these segments
+abbrev pub without : List ℕ → Machine → Machine
+without segs m = record m { caches = map (but_for segs) m.caches }
+
+-- Some of the least recently used are gone, or none: each went for a cause that there still was
+-- when those before it had gone.
+pub record AreBehind (Cause : List ℕ → Type 0) (before now : List ℕ) : Type 0 where
+  pub gone : ℕ
+  pub is : now ≡ drop gone before
+  pub few : gone ≤ length before
+  pub cause : (i : ℕ) → i < gone → Cause (take i before)
 
 -- After an opening of a segment: if it was kept, it is no longer; else some may have made room,
--- where there was a cause.
-abbrev pub IsAcquired : Type 0 → Bool → ℕ → List ℕ → Result CacheId Trouble → List ℕ → Type 0
+-- each for a cause.
+abbrev pub IsAcquired : (List ℕ → Type 0) → Bool → ℕ → List ℕ → Result CacheId Trouble → List ℕ
+    → Type 0
 IsAcquired Cause true seg before (Ok cache) now = now ≡ filter (λ s. not (s == seg)) before
 IsAcquired Cause true seg before (Err trouble) now = now ≡ before
 IsAcquired Cause false seg before result now = AreBehind Cause before now

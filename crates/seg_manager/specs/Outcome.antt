@@ -1,11 +1,12 @@
 -- What a call of the segment manager may answer: what its machine answers, a mapper fault with its
 -- cause, want of memory, or that there are too many caches or pages.
-use Rattle.std.specs.Prelude.{◌≡◌, ◌⊎◌, ◌<◌, ℕ, Option, None, Ok, Err}
+use Rattle.std.specs.Prelude.{◌≡◌, ◌⊎◌, ◌<◌, ℕ, true, Option, None, Ok, Err}
 use Rattle.vm_ids.specs.Counting.{MapperCounts}
 use Rattle.vm_ids.specs.Held.{Segments}
-use Rattle.vm_ids.specs.declared.command.Command.TheVariants.{MakeTemp, Map, OpenSegment}
+use Rattle.vm_ids.specs.declared.command.Command.TheVariants.{Destroy, MakeTemp, Map, OpenSegment}
 use Rattle.vm_ids.specs.declared.command.KeepCommand.{KeepCommand}
 use Rattle.vm_ids.specs.declared.command.KeepCommand.TheVariants as commands
+use Rattle.vm_ids.specs.declared.numbers.CacheId.{CacheId}
 use Rattle.vm_ids.specs.declared.refusal.Refusal.TheVariants.{NoSegment, TooMany}
 use Rattle.vm_ids.specs.declared.reply.FaultAt.{FaultAt}
 use Rattle.vm_ids.specs.declared.reply.FaultAt.TheVariants as faults
@@ -15,22 +16,40 @@ use Rattle.vm_model.specs.Outcome as plain
 use Rattle.vm_model.specs.Outcome.{IsNotRefused, NotRefusedButFor}
 use Rattle.vm_model.specs.PageForest.{PageForest}
 use Rattle.seg_manager.specs.Answering.{MayHave, answer_of}
-use Rattle.seg_manager.specs.ReferenceMachine.{ReferenceMachine, number_named}
+use Rattle.seg_manager.specs.ReferenceMachine.{ReferenceMachine, is_unreferenced, let_go, number_named}
+
+-- There is no room for the cache that the call would make: a plain machine of these caches refuses
+-- it as too many.
+abbrev pub LacksRoom : ReferenceMachine → KeepCommand → Type 0
+LacksRoom m (commands.Plain (OpenSegment seg)) =
+    (open_of m.memory seg.0 (m.stored seg.0)).answer ≡ Err (troubles.Refused TooMany)
+LacksRoom m (commands.Plain (MakeTemp pages)) =
+    (make_temp_of m.memory pages).answer ≡ Err (troubles.Refused TooMany)
+LacksRoom m command = ⊥
+
+-- Beside what is referred to there were caches to which nothing refers any more, and no room for
+-- another; one of those couldn't be destroyed, at this fault.
+pub record FailsToMakeRoom (m : ReferenceMachine) (f : Option PageForest) (command : KeepCommand)
+    (h : Segments) (at : FaultAt) (rises : MapperCounts) : Type 0 where
+  pub all : ReferenceMachine
+  pub cache : CacheId
+  pub left : let_go all ≡ m
+  pub lacks : LacksRoom all command
+  pub unused : is_unreferenced all cache.0 ≡ true
+  pub fault : plain.MayFault all.memory f (Destroy cache) h at rises
 
 -- Which faults a call may answer, at which page, and which of the mapper's counts rose with it
--- beside its faults. Where there is no room for a new cache, one that nothing refers to any more is
--- destroyed first, which may fail at any of its pages.
+-- beside its faults: those of the plain command; or, where there was no room for a new cache, those
+-- of making room.
 abbrev pub MayFault : ReferenceMachine → Option PageForest → KeepCommand → Segments → FaultAt
     → MapperCounts → Type 0
 MayFault m f (commands.Plain (OpenSegment seg)) h faults.Opening rises =
     (number_named m seg.0 ≡ None)
     × plain.MayFault m.memory f (OpenSegment seg) h faults.Opening rises
-MayFault m f (commands.Plain (OpenSegment seg)) h (faults.Page p) rises =
-    number_named m seg.0 ≡ None
-MayFault m f (commands.Plain (OpenSegment seg)) h (faults.Save done) rises =
-    number_named m seg.0 ≡ None
-MayFault m f (commands.Plain (MakeTemp pages)) h (faults.Page p) rises = Unit {0}
-MayFault m f (commands.Plain (MakeTemp pages)) h (faults.Save done) rises = Unit {0}
+MayFault m f (commands.Plain (OpenSegment seg)) h at rises =
+    FailsToMakeRoom m f (commands.Plain (OpenSegment seg)) h at rises
+MayFault m f (commands.Plain (MakeTemp pages)) h at rises =
+    FailsToMakeRoom m f (commands.Plain (MakeTemp pages)) h at rises
 MayFault m f (commands.Plain command) h at rises = plain.MayFault m.memory f command h at rises
 MayFault m f (commands.Close seg) h at rises = ⊥
 
@@ -51,15 +70,6 @@ abbrev pub IsWanted : KeepCommand → Answer → Type 0
 IsWanted (commands.Plain (OpenSegment seg)) answer = Unit {0}
 IsWanted (commands.Plain (Map actor mapping)) answer = Unit {0}
 IsWanted command answer = IsNotRefused answer
-
--- There is no room for the cache that the call would make: a plain machine of these caches refuses
--- it as too many.
-abbrev pub LacksRoom : ReferenceMachine → KeepCommand → Type 0
-LacksRoom m (commands.Plain (OpenSegment seg)) =
-    (open_of m.memory seg.0 (m.stored seg.0)).answer ≡ Err (troubles.Refused TooMany)
-LacksRoom m (commands.Plain (MakeTemp pages)) =
-    (make_temp_of m.memory pages).answer ≡ Err (troubles.Refused TooMany)
-LacksRoom m command = ⊥
 
 -- The machine answers so, and its next is this one. A new cache has this number.
 abbrev pub Gives : ReferenceMachine → KeepCommand → Segments → ℕ → Answer → ReferenceMachine

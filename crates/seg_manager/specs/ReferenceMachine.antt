@@ -4,7 +4,7 @@ use Rattle.std.specs.Prelude.{◌==◌, ℕ, ◌+◌, ◌-◌, ◌||◌, not, na
 use Rattle.std.specs.Option.{option_map_or}
 use Rattle.vm_model.specs.Answering.{is_mapped}
 use Rattle.vm_model.specs.Machine as plain
-use Rattle.vm_model.specs.Machine.{Cache, Machine, Page, is_named_by}
+use Rattle.vm_model.specs.Machine.{Cache, Machine, Page, cache_of, is_named_by}
 
 -- The pages of each segment, where there is one with this number.
 abbrev pub Stored : Type 0
@@ -54,6 +54,10 @@ is_unused m number seg = not (is_open m seg || is_mapped m.memory number)
 -- the same of a cache, and never of a temporary one
 abbrev pub goes : ReferenceMachine → ℕ → Cache → Bool
 goes m number c = option_map_or (is_unused m number) c.segment false
+
+-- nothing refers to the cache with this number, which a segment names
+abbrev pub is_unreferenced : ReferenceMachine → ℕ → Bool
+is_unreferenced m n = option_map_or (goes m n) (cache_of m.memory n) false
 
 abbrev pub used_at : ReferenceMachine → ℕ → Option Cache → Option Cache
 used_at m number None = None

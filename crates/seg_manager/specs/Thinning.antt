@@ -1,35 +1,34 @@
 -- What it comes to that caches which are kept are destroyed, the least recently used first.
-use Rattle.std.specs.Prelude.{◌≡◌, ◌≤◌, ◌<◌, ◌⊎◌, [], ℕ, ◌+◌, ◌*◌, List, Bool, false, drop, length, option_map, Option, Result, Ok, Err}
+use Rattle.std.specs.Prelude.{◌≡◌, ◌≤◌, ◌<◌, ◌⊎◌, [], ◌∷◌, ℕ, ◌+◌, ◌*◌, List, Bool, false, drop, length, take, option_map, Option, Result, Ok, Err}
 use Rattle.std.specs.List.{AllByRecursion}
 use Rattle.vm_ids.specs.Counting.{MapperCounts, Rise}
 use Rattle.vm_ids.specs.Held.{Segments, segments_of}
-use Rattle.vm_ids.specs.declared.reply.FaultAt.TheVariants as faults
+use Rattle.vm_ids.specs.declared.reply.FaultAt.{FaultAt}
 use Rattle.vm_ids.specs.declared.reply.Trouble.{Trouble}
 use Rattle.vm_ids.specs.declared.command.Command.{Command}
+use Rattle.vm_ids.specs.declared.command.Command.TheVariants.{Destroy}
 use Rattle.vm_ids.specs.declared.numbers.CacheId.{CacheId}
 use Rattle.vm_ids.specs.declared.refusal.Refusal.TheVariants.{TooMany}
 use Rattle.vm_ids.specs.declared.reply.Reply.TheVariants.{Cache}
-use Rattle.vm_ids.specs.declared.reply.Trouble.TheVariants.{Mapper, Refused}
+use Rattle.vm_ids.specs.declared.reply.Trouble.TheVariants as troubles
+use Rattle.vm_ids.specs.declared.reply.Trouble.TheVariants.{Refused}
 use Rattle.vm_model.specs.Answering.{Answer}
+use Rattle.vm_model.specs.Outcome.{OutcomeAt}
 use Rattle.gmi_calls.specs.Calling.{MapperCall}
 use Rattle.gmi_calls.specs.Managing.{meanings_of}
 use Rattle.vm_model.specs.Machine.{Machine, live_pages}
+use Rattle.vm_model.specs.Pushing.{PushRule}
 use Rattle.vm_model.specs.declared.limits.TheConstants.{LIVE_PAGES}
 use Rattle.vm_port.specs.declared.traits.mapper.Mapper.{Ghosts as GhostsOfMapper}
 use Rattle.gmi_calls.specs.declared.gmi.Gmi.{Ghosts as GhostsOfGmi}
-use Rattle.seg_manager.specs.Calling.{HasNoRoom}
-use Rattle.seg_manager.specs.Keeping.{AreLast}
+use Rattle.seg_manager.specs.Calling.{HasNoRoomWithout}
+use Rattle.seg_manager.specs.Keeping.{AreLast, without}
 use Rattle.seg_manager.specs.ReferenceMachine.{ReferenceMachine}
 use Rattle.seg_manager.specs.Seen.{kept_segments, references_seen}
 use Rattle.seg_manager.specs.Tying.{CanCall}
 use Rattle.seg_manager.specs.declared.manager.SegManager.{SegManager}
+use Rattle.seg_manager.specs.declared.tables.Kept.{Kept}
 use Rattle.seg_manager.specs.declared.tables.Named.{Named}
-
--- a cache couldn't be pushed to its segment, or couldn't save what was copied from it
-abbrev pub IsDestroyFault : Trouble → Type 0
-IsDestroyFault (Mapper (faults.Page p)) = Unit {0}
-IsDestroyFault (Mapper (faults.Save done)) = Unit {0}
-IsDestroyFault trouble = ⊥
 
 module _ {Manager Mapper Chooser : Type 0} (M : GhostsOfMapper Mapper)
     (G : GhostsOfGmi Manager Mapper Chooser) where
@@ -52,6 +51,14 @@ module _ {Manager Mapper Chooser : Type 0} (M : GhostsOfMapper Mapper)
       G.made manager.gmi + 8 * live_pages (machine_at manager mapper)
       + 8 * length manager.kept.items
 
+  -- What was pushed meanwhile: pages of the machine below, as it was before.
+  pub record Pushes (before : Mapper) (old : SegManager Manager) (after : Mapper)
+      (rises : MapperCounts) : Type 0 where
+    pub pushes : List (ℕ × ℕ)
+    pub few : length pushes ≤ rises.pushes
+    pub rule : PushRule (machine_at old before) (segments_of (M.held before)) pushes
+        (segments_of (M.held after))
+
   -- Some of the least recently used were destroyed. What is seen is as before.
   pub record Thins (before : Mapper) (old : SegManager Manager) (after : Mapper)
       (new : SegManager Manager) : Type 0 where
@@ -60,7 +67,11 @@ module _ {Manager Mapper Chooser : Type 0} (M : GhostsOfMapper Mapper)
     pub denied : denied_by after ≡ denied_by before
     pub limit : new.limit ≡ old.limit
     pub regions : new.regions ≡ old.regions
-    pub kept : (n : ℕ) × (new.kept.items ≡ drop n old.kept.items)
+    pub gone : ℕ
+    pub gone_few : gone ≤ length old.kept.items
+    pub kept : new.kept.items ≡ drop gone old.kept.items
+    pub machine : machine_at new after
+        ≡ without (take gone (kept_segments old.kept.items)) (machine_at old before)
     pub among : (test : Named → Bool) → AllByRecursion (λ c. test c ≡ false) old.caches.items
         → AllByRecursion (λ c. test c ≡ false) new.caches.items
     pub few : length new.caches.items ≤ length old.caches.items
@@ -69,8 +80,10 @@ module _ {Manager Mapper Chooser : Type 0} (M : GhostsOfMapper Mapper)
     pub credit : credit new after ≤ credit old before
     pub rises : MapperCounts
     pub rose : Rise (M.counts before) (M.counts after) rises
+    pub pushed : Pushes before old after rises
 
-  -- The least recently used couldn't be destroyed, and all is as before.
+  -- The least recently used couldn't be destroyed: that call of the manager below failed at this
+  -- fault, and all is as before.
   pub record Fails (before : Mapper) (old : SegManager Manager) (trouble : Trouble)
       (after : Mapper) (new : SegManager Manager) : Type 0 where
     pub can : CanCall G new (M.held after) (M.page_bytes after)
@@ -79,10 +92,20 @@ module _ {Manager Mapper Chooser : Type 0} (M : GhostsOfMapper Mapper)
     pub same : new ≡ record old { gmi = new.gmi }
     pub caches : length (machine_at new after).caches ≡ length (machine_at old before).caches
     pub made : G.made new.gmi ≤ G.made old.gmi + 32 * LIVE_PAGES + 8
-    pub fault : IsDestroyFault trouble
     pub rises : MapperCounts
     pub rose : Rise (M.counts before) (M.counts after) rises
+    pub pushed : Pushes before old after rises
     pub failed : 0 < rises.faults
+    pub first : Kept
+    pub rest : List Kept
+    pub kept : old.kept.items ≡ first ∷ rest
+    pub at : FaultAt
+    pub is : trouble ≡ troubles.Mapper at
+    pub fault : OutcomeAt (segments_of (M.held after)) (machine_at old before)
+        (G.forest old.gmi (M.held before)) (Destroy first.cache) (Err (troubles.Mapper at))
+        (machine_at new after) rises
+    pub call : MapperCall M (meanings_of G) before old.gmi (Destroy first.cache)
+        (Err (troubles.Mapper at)) after new.gmi
 
   -- The least recently used was destroyed, or couldn't be.
   abbrev pub IsDestroyed : Mapper → SegManager Manager → Result (Unit {0}) Trouble → Mapper
@@ -105,13 +128,15 @@ module _ {Manager Mapper Chooser : Type 0} (M : GhostsOfMapper Mapper)
     pub made : G.made new.gmi ≤ credit old before + 32 * LIVE_PAGES + 8
     pub rises : MapperCounts
     pub rose : Rise (M.counts before) (M.counts after) rises
+    pub pushed : Pushes before old after rises
 
-  -- What there is before each try: nothing was done yet; or the manager below had no room, as it
-  -- was at first, and some of the least recently used were destroyed.
+  -- What there is before each try: some of the least recently used were destroyed, or none; each
+  -- where the manager below had no room, as it was at first but for those before it.
   pub record Trying (c : Command) (before : Mapper) (old : SegManager Manager) (now : Mapper)
       (new : SegManager Manager) : Type 0 where
     pub thins : Thins before old now new
-    pub first : ((new ≡ old) × (now ≡ before)) ⊎ HasNoRoom G old.gmi (M.held before) c
+    pub cause : (i : ℕ) → i < thins.gone
+        → HasNoRoomWithout G old.gmi (M.held before) c (take i (kept_segments old.kept.items))
 
   -- The manager below was asked once some of the least recently used caches were destroyed, and
   -- answered so.
@@ -146,6 +171,7 @@ module _ {Manager Mapper Chooser : Type 0} (M : GhostsOfMapper Mapper)
       (after : Mapper) (new : SegManager Manager) : Type 0 where
     pub wanted : trouble ≡ Refused TooMany
     pub thins : Thins before old after new
+    pub one : new.kept.items ≡ drop 1 old.kept.items
     pub less : length new.kept.items < length old.kept.items
 
   -- There is no room to make, or it couldn't be made.
@@ -156,7 +182,7 @@ module _ {Manager Mapper Chooser : Type 0} (M : GhostsOfMapper Mapper)
     pub is : answer ≡ trouble
     pub none : trouble ≡ Refused TooMany → old.kept.items ≡ []
 
-  pub record FailsToMakeRoom (trouble : Trouble) (before : Mapper) (old : SegManager Manager)
+  pub record CannotMakeRoom (trouble : Trouble) (before : Mapper) (old : SegManager Manager)
       (answer : Trouble) (after : Mapper) (new : SegManager Manager) : Type 0 where
     pub wanted : trouble ≡ Refused TooMany
     pub fails : Fails before old answer after new
@@ -166,4 +192,4 @@ module _ {Manager Mapper Chooser : Type 0} (M : GhostsOfMapper Mapper)
   IsRoomMade trouble before old (Ok u) after new = MakesRoom trouble before old after new
   IsRoomMade trouble before old (Err answer) after new =
       MakesNoRoom trouble before old answer after new
-      ⊎ FailsToMakeRoom trouble before old answer after new
+      ⊎ CannotMakeRoom trouble before old answer after new

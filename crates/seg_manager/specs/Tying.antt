@@ -1,15 +1,15 @@
 -- How what is noted of segments is tied to the machine that the manager stands for.
-use Rattle.std.specs.Prelude.{◌≡◌, ◌≤◌, ℕ, ◌+◌, Bool, false, List, [], ◌∷◌, ◌++◌, length, map, Option, Some, None, IfNone, IfSome}
+use Rattle.std.specs.Prelude.{◌≡◌, ◌≤◌, ℕ, ◌+◌, List, [], ◌∷◌, ◌++◌, length, map, Option, Some, None, IfNone, IfSome}
 use Rattle.std.specs.List.{AllByRecursion}
 use Rattle.std.specs.Option.{option_map_or}
 use Rattle.vm_ids.specs.Held.{Held, Segments, segments_of}
-use Rattle.vm_model.specs.Machine.{Actor, Cache, Machine, Region, cache_of, live_pages, segment_of}
+use Rattle.vm_model.specs.Machine.{Actor, Cache, Machine, Region, live_pages, segment_of}
 use Rattle.vm_model.specs.Outcome.{blank}
 use Rattle.vm_model.specs.declared.limits.TheConstants.{LIVE_PAGES, MOST_MADE}
 use Rattle.gmi_calls.specs.Backing.{AreBacked}
 use Rattle.gmi_calls.specs.Calling.{Fits}
 use Rattle.gmi_calls.specs.declared.gmi.Gmi.{Ghosts as GhostsOfGmi}
-use Rattle.seg_manager.specs.ReferenceMachine.{ReferenceMachine, goes}
+pub use Rattle.seg_manager.specs.ReferenceMachine.{is_unreferenced}
 pub use Rattle.seg_manager.specs.Keeps.{AreOnce}
 use Rattle.seg_manager.specs.Seen.{is_kept, whole_of}
 use Rattle.seg_manager.specs.declared.manager.SegManager.{SegManager}
@@ -58,10 +58,6 @@ noted_at actor (Some regions) = map (noted_region actor) regions
 abbrev pub noted_regions : ℕ → List (Option Actor) → List Noted
 noted_regions actor [] = []
 noted_regions actor (a ∷ actors) = noted_at actor a ++ noted_regions (actor + 1) actors
-
--- nothing refers to the cache with this number, which a segment names
-abbrev pub is_unreferenced : ReferenceMachine → ℕ → Bool
-is_unreferenced m n = option_map_or (goes m n) (cache_of m.memory n) false
 
 -- Each cache that a segment names is noted, and each region. No two caches are of one segment.
 -- Those to which nothing refers are kept, each once, and there is room to keep all. Where the

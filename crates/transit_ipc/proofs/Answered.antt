@@ -35,7 +35,7 @@ made_call {Manager} M G mapper old new depth a can made =
       is = record {
         reaches = refl;
         step = subst (λ (gmi : Manager). StepAt segments (over segments m old.ports.items) (commands.Port depth) a no_counts (over segments (G.machine gmi told) new.ports.items)) (sym made.gmi)
-            (step_over told told m m old.ports.items new.ports.items (commands.Port depth) a no_counts can.blank can.blank refl (made.outcome m));
+            (step_over told told m m old.ports.items new.ports.items (commands.Port depth) a no_counts can.blank can.blank refl tt (made.outcome m));
         segments = refl;
       };
     }

@@ -19,7 +19,7 @@ use Rattle.vm_model.proofs.Parts.Lists.{numbered-map}
 use Rattle.gmi_calls.specs.Calling.{done_by}
 use Rattle.transit_ipc.specs.Outcome.{Outcome}
 use Rattle.transit_ipc.specs.Seen.{message_seen, port_seen, ports_seen}
-use Rattle.transit_ipc.specs.Stepping.{State, StepAt, blank_message, blank_port, blank_ports}
+use Rattle.transit_ipc.specs.Stepping.{FindsAllBytes, State, StepAt, blank_message, blank_port, blank_ports}
 use Rattle.transit_ipc.specs.Transit.{is_transit}
 use Rattle.transit_ipc.specs.Tying.{IsUntoldBlank}
 use Rattle.transit_ipc.specs.declared.port.Message.{Message}
@@ -122,10 +122,10 @@ over told m ports = record { ports = ports_seen m ports; segments = told }
 
 -- A step whose outcome doesn't depend on what the segments hold, where this is told and where it
 -- isn't.
-pub step_over : (was told : Option Held) (m n : Machine) (ports now : List Port) (command : PortCommand) (a : Answer) (rises : MapperCounts) → IsUntoldBlank was m → IsUntoldBlank told n → segments_of told ≡ segments_of was
+pub step_over : (was told : Option Held) (m n : Machine) (ports now : List Port) (command : PortCommand) (a : Answer) (rises : MapperCounts) → IsUntoldBlank was m → IsUntoldBlank told n → segments_of told ≡ segments_of was → FindsAllBytes command (ports_seen m ports)
     → ((h : Segments) → Outcome (ports_seen m ports) command h a (ports_seen n now) rises) → StepAt (segments_of told) (over (segments_of was) m ports) command a rises (over (segments_of told) n now)
-step_over was (Some h) m n ports now command a rises bare bare_now same outcome = outcome _
-step_over was None m n ports now command a rises bare bare_now same outcome = record {
+step_over was (Some h) m n ports now command a rises bare bare_now same bytes outcome = outcome _
+step_over was None m n ports now command a rises bare bare_now same bytes outcome = record {
   whole = over (segments_of was) m ports;
   whole_next = over None n now;
   segments = no_segments;
@@ -133,5 +133,5 @@ step_over was None m n ports now command a rises bare bare_now same outcome = re
   is = λ i. record { ports = seen_forgotten m ports (as_untold was (sym same) bare) i; segments = segments_of was };
   is_next = λ i. record { ports = seen_forgotten n now bare_now i; segments = None };
   alike = alike_self a;
-  leads = outcome no_segments;
+  leads = record { bytes = bytes; outcome = outcome no_segments };
 }

@@ -16,7 +16,7 @@ use Rattle.gmi_calls.proofs.Rising.{rise_none, rise_then}
 use Rattle.transit_ipc.specs.Calling.{PortCall}
 use Rattle.transit_ipc.specs.Outcome.{Outcome}
 use Rattle.transit_ipc.specs.Seen.{ports_seen}
-use Rattle.transit_ipc.specs.Stepping.{Reaches}
+use Rattle.transit_ipc.specs.Stepping.{FindsAllBytes, Reaches}
 use Rattle.transit_ipc.specs.Transit.{is_transit}
 use Rattle.transit_ipc.specs.Tying.{AreAble, AreTied, CanCall}
 use Rattle.transit_ipc.specs.declared.port.Port.{Port}
@@ -82,16 +82,16 @@ module _ {Manager X Chooser : Type 0} (M : GhostsOfMapper X) (G : GhostsOfGmi Ma
       }
 
   -- The call of the ports is done.
-  pub port_call : (after : X) (new : Ports Manager) (calls : ℕ) → calls ≤ 3 → Goes after new.gmi calls → AreTied (G.machine new.gmi (M.held after)) new.ports.items → (command : PortCommand) (a : Answer) → ((rises : MapperCounts) → Reaches command rises)
+  pub port_call : (after : X) (new : Ports Manager) (calls : ℕ) → calls ≤ 3 → Goes after new.gmi calls → AreTied (G.machine new.gmi (M.held after)) new.ports.items → (command : PortCommand) (a : Answer) → ((rises : MapperCounts) → Reaches command rises) → FindsAllBytes command (ports_seen m old.ports.items)
       → ((h : Segments) (rises : MapperCounts) → Outcome (ports_seen m old.ports.items) command h a (ports_seen (G.machine new.gmi (M.held after)) new.ports.items) rises) → PortCall M G before old command a after new
-  port_call after new calls few g tied command a reaches outcome = record {
+  port_call after new calls few g tied command a reaches bytes outcome = record {
     can = record { valid = g.able.valid; unlimited = g.able.unlimited; fits = g.able.fits; live = g.able.live; tied = tied; blank = g.able.blank };
     made = omega (arith, g.made, few);
     rises = g.rises;
     rose = g.rose;
     is = record {
       reaches = reaches g.rises;
-      step = step_over (M.held before) (M.held after) m (G.machine new.gmi (M.held after)) old.ports.items new.ports.items command a g.rises can.blank g.able.blank g.segments (λ h. outcome h g.rises);
+      step = step_over (M.held before) (M.held after) m (G.machine new.gmi (M.held after)) old.ports.items new.ports.items command a g.rises can.blank g.able.blank g.segments bytes (λ h. outcome h g.rises);
       segments = g.segments;
     };
   }

@@ -59,12 +59,12 @@ module _ {Manager X Chooser : Type 0} (M : GhostsOfMapper X) (G : GhostsOfGmi Ma
   command = commands.Receive port cache page
 
   pub receive_nobody : (port.0 ≡ 0) ⊎ (length ports < port.0) → PortCall M G before old command (Err (troubles.Refused refusals.NoPort)) before old
-  receive_nobody none = port_call M G old before can before old 0 (omega arith) (goes_none M G old before can) t command (Err (troubles.Refused refusals.NoPort)) (λ rises. tt) (λ h rises. nobody m ports t port cache page none h)
+  receive_nobody none = port_call M G old before can before old 0 (omega arith) (goes_none M G old before can) t command (Err (troubles.Refused refusals.NoPort)) (λ rises. tt) tt (λ h rises. nobody m ports t port cache page none h)
 
   module _ (place : ℕ) (p : Port) (there : slice_get ports place ≡ Some p) (at : port.0 ≡ suc place) where
     -- no message waits
     pub receive_empty : (r : Refusal) → IsFirst p (Err r) → PortCall M G before old command (Err (troubles.Refused r)) before old
-    receive_empty refusals.PortEmpty none = port_call M G old before can before old 0 (omega arith) (goes_none M G old before can) t command (Err (troubles.Refused refusals.PortEmpty)) (λ rises. tt) (λ h rises. empty m ports t port cache page place p there at none h)
+    receive_empty refusals.PortEmpty none = port_call M G old before can before old 0 (omega arith) (goes_none M G old before can) t command (Err (troubles.Refused refusals.PortEmpty)) (λ rises. tt) tt (λ h rises. empty m ports t port cache page place p there at none h)
     receive_empty r none = absurd none
 
     module _ (x : Message) (first : slice_get p.messages.items 0 ≡ Some x) where
@@ -127,7 +127,7 @@ module _ {Manager X Chooser : Type 0} (M : GhostsOfMapper X) (G : GhostsOfGmi Ma
           let same : ports_seen later new.ports.items ≡ put_port (record seen { memory = put_cache (memory_seen m ports) cache.0 put }) port.0 (without_first (port_seen m p)) =
           (λ i. ports_seen (is i) (items i)) ∙ seen_received m ports t place p q there depth room x first rest cache.0 h.cache_to put h.found h.visible_to segment port.0 at in
           port_call M G old before can last new 2 (omega arith)
-          (goes_on M G old before can after last next new.gmi 1 goes (vm_commands.Destroy x.cache) a destroy (tied_none later new.ports.items tied_now)) tied_now command (Ok replies.Done) (λ rises. tt)
+          (goes_on M G old before can after last next new.gmi 1 goes (vm_commands.Destroy x.cache) a destroy (tied_none later new.ports.items tied_now)) tied_now command (Ok replies.Done) (λ rises. tt) tt
           (λ g rises. subst (λ (y : PortMachine). Outcome seen command g (Ok replies.Done) y rises) (sym same) (h.outcome g rises))
 
       -- It isn't, and the message is still the first.
@@ -138,5 +138,5 @@ module _ {Manager X Chooser : Type 0} (M : GhostsOfMapper X) (G : GhostsOfGmi Ma
           let stays = came_to after new.gmi (Err trouble) move in
           let tied : AreTied later new.ports.items = subst (λ (ps : List Port). AreTied later ps) (sym items) (subst (λ (y : Machine). AreTied y ports) (sym stays.0) t) in
           let same : ports_seen later new.ports.items ≡ seen = λ i. ports_seen (stays.0 i) (items i) in
-          port_call M G old before can after new 1 (omega arith) (goes_moved after new.gmi (Err trouble) move) tied command (Err trouble) (λ rises. tt)
+          port_call M G old before can after new 1 (omega arith) (goes_moved after new.gmi (Err trouble) move) tied command (Err trouble) (λ rises. tt) tt
           (λ g rises. subst (λ (y : PortMachine). Outcome seen command g (Err trouble) y rises) (sym same) (stays.1 g rises))

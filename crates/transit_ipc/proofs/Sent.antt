@@ -71,11 +71,11 @@ module _ {Manager X Chooser : Type 0} (M : GhostsOfMapper X) (G : GhostsOfGmi Ma
   command = commands.Send port e
 
   pub send_nobody : (port.0 ≡ 0) ⊎ (length ports < port.0) → PortCall M G before old command (Err (troubles.Refused refusals.NoPort)) before old
-  send_nobody none = port_call M G old before can before old 0 (omega arith) (goes_none M G old before can) t command (Err (troubles.Refused refusals.NoPort)) (λ rises. tt) (λ h rises. nobody m ports t port e none)
+  send_nobody none = port_call M G old before can before old 0 (omega arith) (goes_none M G old before can) t command (Err (troubles.Refused refusals.NoPort)) (λ rises. tt) tt (λ h rises. nobody m ports t port e none)
 
   module _ (place : ℕ) (p : Port) (there : slice_get ports place ≡ Some p) (at : port.0 ≡ suc place) where
     pub send_full : (length p.messages.items == p.depth) ≡ true → PortCall M G before old command (Err (troubles.Refused refusals.PortFull)) before old
-    send_full is = port_call M G old before can before old 0 (omega arith) (goes_none M G old before can) t command (Err (troubles.Refused refusals.PortFull)) (λ rises. tt) (λ h rises. full m ports t port e place p there at is)
+    send_full is = port_call M G old before can before old 0 (omega arith) (goes_none M G old before can) t command (Err (troubles.Refused refusals.PortFull)) (λ rises. tt) tt (λ h rises. full m ports t port e place p there at is)
 
     module _ (free : (length p.messages.items == p.depth) ≡ false) where
       pub less : length p.messages.items < p.depth
@@ -105,7 +105,7 @@ module _ {Manager X Chooser : Type 0} (M : GhostsOfMapper X) (G : GhostsOfGmi Ma
           let tied_now : AreTied later new.ports.items = subst (λ (ps : List Port). AreTied later ps) (sym items) tied in
           let same : ports_seen later new.ports.items ≡ seen = λ i. ports_seen (was.0 i) (items i) in
           let g1 = goes_on M G old before can before before old.gmi new.gmi 0 g0 (vm_commands.MakeTemp e.pages) (Err trouble) call (tied_none later ports tied) in
-          port_call M G old before can before new 1 (omega arith) g1 tied_now command (Err trouble) (λ rises. tt)
+          port_call M G old before can before new 1 (omega arith) g1 tied_now command (Err trouble) (λ rises. tt) tt
           (λ h rises. subst (λ (y : PortMachine). Outcome seen command h (Err trouble) y rises) (sym same) (lacks trouble was.1 h rises))
 
       module _ (gmi : Manager) (cache : CacheId) (done : made_call gmi (Ok (replies.Cache cache))) where
@@ -183,7 +183,7 @@ module _ {Manager X Chooser : Type 0} (M : GhostsOfMapper X) (G : GhostsOfGmi Ma
             let tied_now : AreTied later new.ports.items = subst (λ (ps : List Port). AreTied later ps) (sym items) (subst (λ (y : Machine). AreTied y (set ports place q)) (sym h.is) tied) in
             let same : ports_seen later new.ports.items ≡ put_port (take_number seen) port.0 (put_last h.cache.pages (port_seen m p)) =
             (λ i. ports_seen (h.is i) (items i)) ∙ seen_sent m ports t place p q there depth room x pushed made.number h.cache port.0 at in
-            port_call M G old before can after new 2 (omega arith) (goes_copied some after new.gmi (Ok tt) copy (tied_none later new.ports.items tied_now)) tied_now command (Ok replies.Done) (λ rises. tt)
+            port_call M G old before can after new 2 (omega arith) (goes_copied some after new.gmi (Ok tt) copy (tied_none later new.ports.items tied_now)) tied_now command (Ok replies.Done) (λ rises. tt) tt
             (λ g rises. subst (λ (y : PortMachine). Outcome seen command g (Ok replies.Done) y rises) (sym same) (h.outcome g rises))
 
         module _ (some : 1 ≤ e.pages) (after : X) (next : Manager) (trouble : Trouble) (copy : MapperCall M (meanings_of G) before gmi (vm_commands.Copy (sent_span ports x e)) (Err trouble) after next) where
@@ -218,7 +218,7 @@ module _ {Manager X Chooser : Type 0} (M : GhostsOfMapper X) (G : GhostsOfGmi Ma
               let tied_now : AreTied later new.ports.items = subst (λ (ps : List Port). AreTied later ps) (sym items) tied in
               let same : ports_seen later new.ports.items ≡ take_number seen = (λ i. ports_seen (is i) (items i)) ∙ seen_taken m ports t in
               port_call M G old before can last new 3 (omega arith)
-              (goes_on M G old before can after last next new.gmi 2 goes_failed (vm_commands.Destroy cache) a destroy (tied_none later ports tied)) tied_now command (Err trouble) (λ rises. tt)
+              (goes_on M G old before can after last next new.gmi 2 goes_failed (vm_commands.Destroy cache) a destroy (tied_none later ports tied)) tied_now command (Err trouble) (λ rises. tt) tt
               (λ g rises. subst (λ (y : PortMachine). Outcome seen command g (Err trouble) y rises) (sym same) (stays.1 g rises))
             where
               never_seen : (k : ℕ) → k ≡ next_of m → cache_of (memory_seen m ports) k ≡ None

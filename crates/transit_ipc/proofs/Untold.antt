@@ -1,37 +1,56 @@
 -- Steps of ports where the mapper doesn't tell what it holds, and what is told after a call.
-use Rattle.std.proofs.Common.{◌≡◌, ◌==◌, ℕ, suc, ◌-◌, false, cond, List, [], ◌∷◌, Option, Some, None, refl, ap, subst, ◌∙◌, arith}
-use Rattle.std.specs.Prelude.{IsSome, option_and_then, slice_get}
+use Rattle.std.proofs.Common.{◌≡◌, ◌==◌, ℕ, suc, ◌+◌, ◌-◌, Bool, true, false, cond, List, [], ◌∷◌, Option, Some, None, refl, ap, subst, ◌∙◌, arith}
+use Rattle.std.specs.Prelude.{All, IsSome, option_and_then, slice_get}
 use Rattle.std.specs.Option.{option_map_or}
+use Rattle.std.proofs.lemmas.List.Elements.{All-cons, All-head, All-tail}
 use Rattle.vm_ids.specs.Counting.{MapperCounts}
 use Rattle.vm_ids.specs.Held.{Segments}
 use Rattle.vm_ids.specs.declared.command.Command.{Command}
 use Rattle.vm_ids.specs.declared.command.PortCommand.{PortCommand}
+use Rattle.vm_ids.specs.declared.command.PortCommand.TheVariants.{Plain}
 use Rattle.vm_model.specs.Answering.{Answer}
 use Rattle.vm_model.specs.Machine.{Cache, Machine, cache_named}
 use Rattle.vm_model.specs.Outcome as plain
-use Rattle.vm_model.specs.Outcome.{IsAlike, OutcomeAt, blank, blank_cache}
+use Rattle.vm_model.specs.Outcome.{HasWholePages, IsAlike, IsWhole, OutcomeAt, blank, blank_cache}
 use Rattle.vm_model.specs.PageForest.{PageForest}
 use Rattle.vm_model.specs.Pushing.{PushRule, page_named, segments_after}
 use Rattle.vm_model.proofs.Parts.ListParts.{at_some}
 use Rattle.gmi_calls.specs.Untold.{UntoldStep}
 use Rattle.transit_ipc.specs.Outcome.{Outcome}
-use Rattle.transit_ipc.specs.Seen.{ports_seen}
-use Rattle.transit_ipc.specs.Stepping.{StepAt, forget}
+use Rattle.transit_ipc.specs.Seen.{but_for, ports_seen}
+use Rattle.transit_ipc.specs.Stepping.{FindsAllBytes, StepAt, WholeStep, forget}
+use Rattle.transit_ipc.specs.Transit.{is_transit}
 use Rattle.transit_ipc.specs.Tying.{AreTied}
 use Rattle.transit_ipc.specs.declared.port.Port.{Port}
 use Rattle.transit_ipc.proofs.Emptying.{over, seen_blank}
 use Rattle.transit_ipc.proofs.Followed.{tied_whole}
+use Rattle.transit_ipc.proofs.Hiding.{shown}
 
 -- Machines without bytes, by those with bytes
 
 over_blank : (told : Option Segments) (m w : Machine) (ports : List Port) → m ≡ blank w → over told m ports ≡ forget (over told w ports)
 over_blank told m w ports is = ap (λ (x : Machine). over told x ports) is ∙ (λ i. record { ports = seen_blank w ports i; segments = told })
 
+-- Pages that are whole are seen so.
+
+shown_whole : (page_bytes : ℕ) (hidden : Bool) (c : Option Cache) → IsWhole page_bytes c → IsWhole page_bytes (shown hidden c)
+shown_whole page_bytes true c whole = tt
+shown_whole page_bytes false c whole = whole
+
+seen_whole : (page_bytes : ℕ) (hidden : ℕ → Bool) (k : ℕ) (cs : List (Option Cache)) → All (IsWhole page_bytes) cs → All (IsWhole page_bytes) (but_for hidden k cs)
+seen_whole page_bytes hidden k [] whole = whole
+seen_whole page_bytes hidden k (c ∷ cs) whole =
+    All-cons (IsWhole page_bytes) (shown (hidden k) c) (but_for hidden (k + 1) cs) (shown_whole page_bytes (hidden k) c (All-head (IsWhole page_bytes) c cs whole)) (seen_whole page_bytes hidden (k + 1) cs (All-tail (IsWhole page_bytes) c cs whole))
+
+finds_all : (command : PortCommand) (w : Machine) (ports : List Port) → HasWholePages w → FindsAllBytes command (ports_seen w ports)
+finds_all (Plain command) w ports whole = seen_whole w.page_bytes (is_transit ports) 1 w.caches whole
+finds_all command w ports whole = tt
+
 -- A step between machines without bytes, by one of machines with bytes that these are but for them.
 pub step_untold : (before now : Option Segments) (m n w next : Machine) (ports later : List Port) (command : PortCommand) (a b : Answer) (h : Segments) (rises : MapperCounts)
     → m ≡ blank w → n ≡ blank next → IsAlike b a → Outcome (ports_seen w ports) command h b (ports_seen next later) rises
-    → UntoldStep forget (λ h whole x after. Outcome whole.ports command h x after.ports rises) (over before m ports) a (over now n later)
-step_untold before now m n w next ports later command a b h rises is is_next alike leads = record {
+    → FindsAllBytes command (ports_seen w ports) → UntoldStep forget (WholeStep command rises) (over before m ports) a (over now n later)
+step_untold before now m n w next ports later command a b h rises is is_next alike outcome bytes = record {
   whole = over before w ports;
   whole_next = over now next later;
   segments = h;
@@ -39,7 +58,7 @@ step_untold before now m n w next ports later command a b h rises is is_next ali
   is = over_blank before m w ports is;
   is_next = over_blank now n next later is_next;
   alike = alike;
-  leads = leads;
+  leads = record { bytes = bytes; outcome = outcome };
 }
 
 -- One call of the manager that is the whole step: where a machine to which the ports are tied has
@@ -50,6 +69,7 @@ pub step_called : (before now : Option Segments) (m n : Machine) (ports later : 
 step_called before None m n ports later tied f c a rises command leads o =
     step_untold before None m n o.whole o.whole_next ports later command a o.whole_answer o.segments rises o.is o.is_next o.alike
     (leads o.whole o.whole_next (tied_whole ports o.whole (subst (λ (x : Machine). AreTied x ports) o.is tied)) o.segments o.whole_answer o.outcome)
+    (finds_all command o.whole ports o.pages)
 step_called before (Some h) m n ports later tied f c a rises command leads o = leads m n tied h a o
 
 -- No segment changes

@@ -7,7 +7,7 @@ use Rattle.vm_ids.specs.declared.command.PortCommand.TheVariants as commands
 use Rattle.vm_model.specs.Answering.{Answer}
 use Rattle.vm_model.specs.Asking.{ReachesMapper}
 use Rattle.vm_model.specs.Machine.{Page}
-use Rattle.vm_model.specs.Outcome.{blank}
+use Rattle.vm_model.specs.Outcome.{HasWholePages, blank}
 use Rattle.gmi_calls.specs.Untold.{UntoldStep}
 use Rattle.transit_ipc.specs.Outcome.{Outcome}
 use Rattle.transit_ipc.specs.PortMachine.{Message, Port, PortMachine}
@@ -35,11 +35,21 @@ blank_ports m = record { memory = blank m.memory; ports = map blank_port m.ports
 abbrev pub forget : State → State
 forget s = record s { ports = blank_ports s.ports }
 
+-- a command of the manager finds all bytes of each page
+abbrev pub FindsAllBytes : PortCommand → PortMachine → Type 0
+FindsAllBytes (commands.Plain command) m = HasWholePages m.memory
+FindsAllBytes command m = Unit {0}
+
+-- One answer of ports with bytes, of which a load finds as many as it asks for.
+pub record WholeStep (command : PortCommand) (rises : MapperCounts) (h : Segments) (before : State)
+    (answer : Answer) (after : State) : Type 0 where
+  pub bytes : FindsAllBytes command before.ports
+  pub outcome : Outcome before.ports command h answer after.ports rises
+
 -- One answer, where the mapper tells what it holds and where it doesn't.
 abbrev pub StepAt : Option Segments → State → PortCommand → Answer → MapperCounts → State → Type 0
 StepAt None before command answer rises after =
-    UntoldStep forget (λ h whole a next. Outcome whole.ports command h a next.ports rises) before
-    answer after
+    UntoldStep forget (WholeStep command rises) before answer after
 StepAt (Some h) before command answer rises after =
     Outcome before.ports command h answer after.ports rises
 

@@ -6,4 +6,3 @@ pub mod Settling
 pub mod Sharing
 pub mod Staying
 pub mod Stepping
-pub mod TreeLists

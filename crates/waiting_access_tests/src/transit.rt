@@ -79,7 +79,23 @@ load a1 10000 1
 
 // The push of the second victim fails, when the page has come: the load of it is answered in the
 // same delivery, before the next turn.
-const VICTIM_STAYS: &str = "17 fault mapper victim
+const VICTIM_STAYS: &str = "1 ok a1
+2 ok a2
+3 ok a3
+4 ok c1
+5 ok c2
+6 ok c3
+7 ok r1
+8 ok r2
+9 ok r3
+10 ok
+11 ok
+12 ok
+13 ok
+14 ok
+15 ok
+16 ok
+17 fault mapper victim
 18 ok 07
 19 ok 05
 20 stat live 6 working 0 copies 0
@@ -116,32 +132,61 @@ stat
 ";
 
 // The second store evicts the page of the load behind it, which waits for another delivery.
-const WAITS_ANEW: &str = "20 ok
+const WAITS_ANEW: &str = "1 ok a1
+2 ok a2
+3 ok a3
+4 ok a4
+5 ok c1
+6 ok c2
+7 ok c3
+8 ok c4
+9 ok c5
+10 ok r1
+11 ok r2
+12 ok r3
+13 ok r4
+14 ok
+15 ok
+16 ok
+17 ok
+18 ok
+19 ok
+20 ok
 21 ok
 23 ok 05
 22 ok 07
+24 stat live 5 working 0 copies 3
 ";
 
 // It evicts another page, and the load is answered in the same delivery.
-const ANSWERED_AT_ONCE: &str = "20 ok
+const ANSWERED_AT_ONCE: &str = "1 ok a1
+2 ok a2
+3 ok a3
+4 ok a4
+5 ok c1
+6 ok c2
+7 ok c3
+8 ok c4
+9 ok c5
+10 ok r1
+11 ok r2
+12 ok r3
+13 ok r4
+14 ok
+15 ok
+16 ok
+17 ok
+18 ok
+19 ok
+20 ok
 21 ok
 22 ok 07
 23 ok 05
+24 stat live 5 working 0 copies 3
 ";
 
-// What is written behind the replies to so many lines.
-fn behind<'a>(written: &'a str, lines: u32) -> &'a str {
-    let mut rest = written;
-    for _ in 0..lines {
-        if let Some((_, behind)) = rest.split_once("\n") {
-            rest = behind;
-        }
-    }
-    rest
-}
-
-// A script with these turns and failing calls has these replies behind those to its first lines.
-fn ends_so(
+// A script with these turns and failing calls has these replies.
+fn is_answered_so(
     rt: &impl Abort,
     alloc: Global,
     words: &[&str],
@@ -149,15 +194,13 @@ fn ends_so(
     turns: &[Option<u32>],
     chooser: &mut impl Chooser,
     mapper: &mut MemoryMapper,
-    lines: u32,
     replies: &str,
 ) -> Result<(), Fail>
     requires { mapper.old.page_bytes ≡ page_size_of (map (λ w. w.now) words.now) }
 {
     let mut turns = ListedTurns::new(turns);
     let sink = written_by(alloc, words, script, mapper, chooser, &mut turns)?;
-    let written = behind(text(&sink), lines);
-    assert!(rt; written.starts_with(replies), "{written}");
+    assert_eq!(rt; text(&sink), replies);
     Ok(())
 }
 
@@ -177,7 +220,7 @@ fn a_later_answer_overtakes(rt: HostRuntime) -> Result<(), Fail> {
     ] {
         let mut mapper = swap_area(rt.alloc(), PAGE as u32, fails)?;
         let words = ["run", "--frames", "4"];
-        ends_so(
+        is_answered_so(
             &rt,
             rt.alloc(),
             &words,
@@ -185,7 +228,6 @@ fn a_later_answer_overtakes(rt: HostRuntime) -> Result<(), Fail> {
             turns,
             &mut Clock::new(),
             &mut mapper,
-            0,
             replies,
         )?;
     }
@@ -201,7 +243,7 @@ fn others_are_answered_where_a_victim_stays(rt: HostRuntime) -> Result<(), Fail>
     let mut mapper = swap_area(rt.alloc(), PAGE as u32, &fails)?;
     let words = ["run", "--frames", "3"];
     let turns = [None, None, None, Some(0), Some(1)];
-    ends_so(
+    is_answered_so(
         &rt,
         rt.alloc(),
         &words,
@@ -209,7 +251,6 @@ fn others_are_answered_where_a_victim_stays(rt: HostRuntime) -> Result<(), Fail>
         &turns,
         &mut Clock::new(),
         &mut mapper,
-        16,
         VICTIM_STAYS,
     )
 }
@@ -220,7 +261,7 @@ fn a_page_may_go_before_its_load_is_looked_at(rt: HostRuntime) -> Result<(), Fai
         let mut mapper = swap_area(rt.alloc(), PAGE as u32, &[])?;
         let words = ["run", "--frames", "3"];
         let turns = [None, None, None, None, Some(0), Some(1)];
-        ends_so(
+        is_answered_so(
             &rt,
             rt.alloc(),
             &words,
@@ -228,7 +269,6 @@ fn a_page_may_go_before_its_load_is_looked_at(rt: HostRuntime) -> Result<(), Fai
             &turns,
             &mut Listed::new(&[choice]),
             &mut mapper,
-            19,
             replies,
         )?;
         assert_eq!(&rt; mapper.pulls(), pulls);
@@ -258,6 +298,26 @@ fn all_actors(alloc: Global) -> Result<String, NoMemory> {
     Ok(script)
 }
 
+// The replies to it, where the loads are answered from the last one on.
+fn latest_first(alloc: Global) -> Result<String, NoMemory> {
+    let mut replies = String::new(alloc);
+    replies.push_str("1 ok c1\n")?;
+    for actor in 1..257u32 {
+        let line = 3 * actor - 1;
+        let reply = format!(in alloc; "{line} ok a{actor}\n{} ok r{actor}\n", line + 1)?;
+        replies.push_str(reply.as_str())?;
+        let reply = format!(in alloc; "{} ok\n", line + 2)?;
+        replies.push_str(reply.as_str())?;
+    }
+    replies.push_str("770 ok\n")?;
+    for page in (0..256u32).rev() {
+        let reply = format!(in alloc; "{} ok {page:02x}\n", page + 771)?;
+        replies.push_str(reply.as_str())?;
+    }
+    replies.push_str("1027 stat live 256 working 0 copies 0\n")?;
+    Ok(replies)
+}
+
 // All 256 wait, and the turns name the latest one each time.
 #[test]
 fn all_actors_may_wait(rt: HostRuntime) -> Result<(), Fail> {
@@ -265,16 +325,14 @@ fn all_actors_may_wait(rt: HostRuntime) -> Result<(), Fail> {
     for _ in 0..256 {
         turns.push(None)?;
     }
-    let mut replies = String::new(rt.alloc());
-    for page in (0..256u32).rev() {
-        turns.push(Some(page))?;
-        let reply = format!(in rt.alloc(); "{} ok {page:02x}\n", page + 771)?;
-        replies.push_str(reply.as_str())?;
+    for place in (0..256u32).rev() {
+        turns.push(Some(place))?;
     }
+    let replies = latest_first(rt.alloc())?;
     let script = all_actors(rt.alloc())?;
     let mut mapper = swap_area(rt.alloc(), PAGE as u32, &[])?;
     let words = ["run", "--frames", "3"];
-    ends_so(
+    is_answered_so(
         &rt,
         rt.alloc(),
         &words,
@@ -282,7 +340,6 @@ fn all_actors_may_wait(rt: HostRuntime) -> Result<(), Fail> {
         turns.as_slice(),
         &mut Clock::new(),
         &mut mapper,
-        770,
         replies.as_str(),
     )
 }

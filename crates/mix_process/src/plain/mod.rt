@@ -168,7 +168,6 @@ impl PlainProcesses {
         data_pages: u32,
         stack_pages: u32,
     ) -> Result<Answer, NoMemory>
-        requires { 1 ≤ data_pages }
         ensures { IsAnswered self.old (exec_ends self.old text_pages data_pages stack_pages
             (image_of self.old seg.0)) result self.new }
     {
@@ -197,8 +196,7 @@ impl PlainProcesses {
         stack_pages: u32,
         held: Option<&[Vec<u8>]>,
     ) -> Result<Answer, NoMemory>
-        requires some { 1 ≤ data_pages }
-        requires whole { IfSome held (λ pages. All (λ p. length p.items ≡ PAGE) pages.now) }
+        requires { IfSome held (λ pages. All (λ p. length p.items ≡ PAGE) pages.now) }
         ensures { IsAnswered self.old (exec_of self.old seg.0 text_pages data_pages stack_pages
             (option_map (λ pages. map (λ p. p.items) pages.now) held.entry)) result self.new }
     {
@@ -249,7 +247,6 @@ impl PlainProcesses {
 
     #[tactic(auto, unfolding(crate::specs::Answering::grow_of, crate::specs::Answering::with_some, crate::specs::Answering::unless))]
     fn grow(&mut self, of: ProcId, pages: u32) -> Result<Answer, NoMemory>
-        requires { 1 ≤ pages }
         ensures { IsAnswered self.old (grow_of self.old of.0 pages) result self.new }
     {
         let Some(process) = numbered(&self.processes, of.0) else {

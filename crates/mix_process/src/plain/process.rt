@@ -23,13 +23,13 @@ pub(crate) struct Spot {
     pub(crate) byte: u64,
 }
 
-// A process by the bytes of its pages, and of how many pieces its data are made.
+// A process by the bytes of its pages, and how many pages each piece of its data has.
 #[derive(Drop)]
 pub(crate) struct PlainProcess {
     text_pages: Vec<PlainPage>,
     data_pages: Vec<PlainPage>,
     stack_pages: Vec<PlainPage>,
-    pieces: u32,
+    pieces: Vec<u32>,
 }
 
 impl Model for PlainProcess {
@@ -39,10 +39,10 @@ impl Model for PlainProcess {
       text_pages = p.text_pages.items;
       data_pages = p.data_pages.items;
       stack_pages = p.stack_pages.items;
-      pieces = p.pieces;
+      pieces = p.pieces.items;
     } };
 
-    ghost invariant = { λ p. p.pieces ≤ length p.data_pages.items };
+    ghost invariant = { λ _. Unit {0} };
 }
 
 impl PlainProcess {
@@ -54,8 +54,7 @@ impl PlainProcess {
         data_pages: u32,
         stack_pages: u32,
     ) -> Result<PlainProcess, NoMemory>
-        requires some { 1 ≤ data_pages }
-        requires enough { text_pages + data_pages ≤ length image.now }
+        requires { text_pages + data_pages ≤ length image.now }
         ensures { IfOk result
             (λ p. p ≡ process_from PAGE image.now text_pages data_pages stack_pages) }
     {
@@ -64,11 +63,13 @@ impl PlainProcess {
         let own = copies(alloc, &behind[..data_pages as usize])?;
         let mut zeros = Vec::new(alloc);
         add_zeros(alloc, &mut zeros, stack_pages)?;
+        let mut pieces = Vec::new(alloc);
+        pieces.push(data_pages)?;
         Ok(PlainProcess {
             text_pages: text,
             data_pages: own,
             stack_pages: zeros,
-            pieces: 1,
+            pieces,
         })
     }
 
@@ -80,7 +81,7 @@ impl PlainProcess {
             text_pages: copies(alloc, &self.text_pages)?,
             data_pages: copies(alloc, &self.data_pages)?,
             stack_pages: copies(alloc, &self.stack_pages)?,
-            pieces: self.pieces,
+            pieces: Vec::from_slice(alloc, &self.pieces)?,
         })
     }
 
@@ -93,17 +94,17 @@ impl PlainProcess {
 
     // A process that has the same, and so many pages of zeros behind its data.
     pub(crate) fn grown(&self, alloc: Global, pages: u32) -> Result<PlainProcess, NoMemory>
-        requires some { 1 ≤ pages }
-        requires few { length self.now.data_pages + pages ≤ MOST_DATA }
         ensures { IfOk result (λ p. p ≡ grown_by PAGE pages self.now) }
     {
         let mut more = copies(alloc, &self.data_pages)?;
         add_zeros(alloc, &mut more, pages)?;
+        let mut pieces = Vec::from_slice(alloc, &self.pieces)?;
+        pieces.push(pages)?;
         Ok(PlainProcess {
             text_pages: copies(alloc, &self.text_pages)?,
             data_pages: more,
             stack_pages: copies(alloc, &self.stack_pages)?,
-            pieces: self.pieces + 1,
+            pieces,
         })
     }
 

@@ -8,7 +8,7 @@ use Rattle.vm_model.specs.Place.{holds, region_at}
 use Rattle.vm_model.specs.Regions.{region_among, status_in, status_with}
 use Rattle.vm_model.proofs.Parts.Lists.{sum_by_part}
 use Rattle.contexts.specs.Actors.{times_among, times_made}
-use Rattle.contexts.proofs.Once.{times-cons}
+use Rattle.contexts.proofs.Once.{is_numbered, times-cons}
 
 module _ (b address n : ℕ) where
   abbrev at : Actor → Option Region
@@ -29,8 +29,8 @@ module _ (b address n : ℕ) where
   counted (x ∷ xs) r found is = go (holds b address x) found (λ f. counted xs r f is)
     where
       go : (c : Bool) → cond c (Some x) (at xs) ≡ Some r → (at xs ≡ Some r → 1 ≤ times xs) → 1 ≤ times (x ∷ xs)
-      go true f rest = (let same : x ≡ r = cc f in let own = has_one x (ap (λ (q : Region). q.number == n) same ∙ is) in omega (arith, times-cons n x xs, own))
-      go false f rest = omega (arith, times-cons n x xs, rest f)
+      go true f rest = (let same : x ≡ r = cc f in let own = has_one x (ap (λ (q : Region). q.number == n) same ∙ is) in omega (arith, times-cons (is_numbered n) x xs, own))
+      go false f rest = omega (arith, times-cons (is_numbered n) x xs, rest f)
 
   -- and is the one that is found by its number
   among : (rs : Actor) (r : Region) → at rs ≡ Some r → (r.number == n) ≡ true → times rs ≤ 1 → region_among n rs ≡ Some r
@@ -40,8 +40,8 @@ module _ (b address n : ℕ) where
       go : (c : Bool) → cond c (Some x) (at xs) ≡ Some r → (d : Bool) → (x.number == n) ≡ d → (at xs ≡ Some r → times xs ≤ 1 → region_among n xs ≡ Some r) → cond d (Some x) (region_among n xs) ≡ Some r
       go true f true k rest = f
       go true f false k rest = absurd (let same : x ≡ r = cc f in let its : (x.number == n) ≡ true = ap (λ (q : Region). q.number == n) same ∙ is in cc (its, k))
-      go false f true k rest = absurd (omega (arith, times-cons n x xs, has_one x k, counted xs r f is, once))
-      go false f false k rest = rest f (omega (arith, times-cons n x xs, once))
+      go false f true k rest = absurd (omega (arith, times-cons (is_numbered n) x xs, has_one x k, counted xs r f is, once))
+      go false f false k rest = rest f (omega (arith, times-cons (is_numbered n) x xs, once))
 
   pub once_told : (first place : ℕ) (xs : List (Option Actor)) (rs : Actor) (r : Region) → times_made n xs ≤ 1 → slice_get xs place ≡ Some (Some rs) → at rs ≡ Some r → (r.number == n) ≡ true
       → status_with n first xs ≡ Some (status_in (first + place) r)
@@ -67,5 +67,5 @@ module _ (b address n : ℕ) where
           held (z ∷ zs) y f = turn (z.number == n) refl f (held zs y)
             where
               turn : (c : Bool) → (z.number == n) ≡ c → cond c (Some z) (region_among n zs) ≡ Some y → (region_among n zs ≡ Some y → 1 ≤ times zs) → 1 ≤ times (z ∷ zs)
-              turn true k g rest = omega (arith, times-cons n z zs, has_one z k)
-              turn false k g rest = omega (arith, times-cons n z zs, rest g)
+              turn true k g rest = omega (arith, times-cons (is_numbered n) z zs, has_one z k)
+              turn false k g rest = omega (arith, times-cons (is_numbered n) z zs, rest g)

@@ -1,7 +1,6 @@
 -- A parent's tree children after one of them went or gave its place to another, by numbers and by
 -- names.
-use Rattle.std.proofs.Common.{◌≡◌, ◌≢◌, ◌⊎◌, ℕ, ◌≤◌, ◌==◌, true, false, cond, not, List, [], ◌∷◌, map, length, Option, Some, None, slice_get, refl, sym, ap, ◌∙◌, inl, inr, arith}
-use Rattle.std.specs.Prelude.{option_and_then}
+use Rattle.std.proofs.Common.{◌≡◌, ◌≢◌, ◌⊎◌, ℕ, ◌==◌, true, false, cond, not, List, [], ◌∷◌, map, Option, Some, None, refl, sym, ap, ◌∙◌, inl, inr, arith}
 use Rattle.std.specs.List.{cons_option}
 use Rattle.std.proofs.lemmas.Bool.Decides.{nat_tests}
 use Rattle.vm_ids.specs.declared.node_name.NodeName.{NodeName}
@@ -11,10 +10,10 @@ use Rattle.vm_ids.specs.Forest.NameLists.{renamed}
 use Rattle.vm_ids.specs.Forest.NameLists as names
 use Rattle.vm_ids.specs.declared.numbers.NodeId.{NodeId}
 use Rattle.local_cache.specs.Arena.{Arena, HasNode}
+use Rattle.local_cache.specs.NodeCells.{exchanged, in_place}
 use Rattle.local_cache.specs.Reading.{name_of, AreNamesApart}
 use Rattle.local_cache.specs.Sound.{◌∈◌}
 use Rattle.local_cache.proofs.Changes.SameNodes.{id_cases}
-use Rattle.tree_merge.specs.TreeLists.{exchanged, in_place}
 
 pub equal : (a b : ℕ) → a ≡ b → (a == b) ≡ true
 equal a b e = grind (arith, nat_tests)
@@ -27,14 +26,6 @@ place_same n m o e = ap (λ b. cond b o (Some m)) (equal m.0 n.0 (ap (λ k. k.0)
 
 pub place_other : (n m : NodeId) (o : Option NodeId) → m ≢ n → in_place n o m ≡ Some m
 place_other n m o ne = ap (λ b. cond b o (Some m)) (unequal m.0 n.0 (λ e. ne (λ i. record { 0 = e i })))
-
--- the two places of a list that has no more
-pub two_places : (n : NodeId) (o : Option NodeId) (ms : List NodeId) → length ms ≤ 2
-    → cons_option (option_and_then (in_place n o) (slice_get ms 0)) (cons_option (option_and_then (in_place n o) (slice_get ms 1)) []) ≡ exchanged n o ms
-two_places n o [] few = refl
-two_places n o (x ∷ []) few = refl
-two_places n o (x ∷ y ∷ []) few = refl
-two_places n o (x ∷ y ∷ z ∷ ms) few = absurd (omega arith)
 
 in_cons : (o : Option NodeId) (ms : List NodeId) (m : NodeId) → m ∈ cons_option o ms → (o ≡ Some m) ⊎ (m ∈ ms)
 in_cons None ms m i = inr i

@@ -1,9 +1,10 @@
 -- Rows of nodes of which no two have a node in common, but for those of one page.
-use Rattle.std.proofs.Common.{◌≡◌, ◌≢◌, ℕ, ◌+◌, ◌<◌, List, [], ◌∷◌, sym, ap, subst, arith, inl, inr}
+use Rattle.std.proofs.Common.{◌≡◌, ◌≢◌, ℕ, ◌+◌, ◌<◌, ◌≤◌, ◌^◌, List, [], ◌∷◌, Option, Some, None, sym, ap, subst, arith, inl, inr}
+use Rattle.std.specs.Prelude.{IfSome}
 use Rattle.vm_ids.specs.declared.numbers.NodeId.{NodeId}
 use Rattle.local_cache.specs.ManyNodes.{next_node}
 use Rattle.local_cache.specs.Sound.{◌∈◌}
-use Rattle.tree_merge.specs.Copying.{AreApart, AreSameOrApart, IsBeside}
+use Rattle.tree_merge.specs.Copying.{AreApart, AreFree, AreSameOrApart, IsBeside}
 
 -- nodes of different pages are different
 abbrev pub Pass : NodeId → NodeId → ℕ → Type 0
@@ -24,6 +25,39 @@ pass_back n m count pass i j low high other e = pass j i high low (λ same. othe
 
 pub apart_back : (n m : NodeId) (count : ℕ) → AreApart n m count → AreApart m n count
 apart_back n m count apart i low j high e = apart j high i low (sym e)
+
+-- what holds of so many holds of fewer
+pub fewer_apart : (n m : NodeId) (most count : ℕ) → count ≤ most → AreApart n m most → AreApart n m count
+fewer_apart n m most count few apart k less j below = apart k (omega arith) j (omega arith)
+
+pub fewer_same : (n m : NodeId) (most count : ℕ) → count ≤ most → AreSameOrApart n m most → AreSameOrApart n m count
+fewer_same n m most count few (inl e) = inl e
+fewer_same n m most count few (inr apart) = inr (fewer_apart n m most count few apart)
+
+pub fewer_sources : (parent : Option NodeId) (s : NodeId) (most count : ℕ) → count ≤ most → IfSome parent (λ p. AreSameOrApart p s most) → IfSome parent (λ p. AreSameOrApart p s count)
+fewer_sources None s most count few all = tt
+fewer_sources (Some p) s most count few all = fewer_same p s most count few all
+
+pub fewer_parents : (parent history : Option NodeId) (most count : ℕ) → count ≤ most → IfSome parent (λ p. IfSome history (λ h. AreSameOrApart p h most)) → IfSome parent (λ p. IfSome history (λ h. AreSameOrApart p h count))
+fewer_parents None history most count few all = tt
+fewer_parents (Some p) None most count few all = tt
+fewer_parents (Some p) (Some h) most count few all = fewer_same p h most count few all
+
+fewer_histories : (history : Option NodeId) (d s : NodeId) (most count : ℕ) → count ≤ most → IfSome history (λ h. AreApart h s most × AreApart h d most) → IfSome history (λ h. AreApart h s count × AreApart h d count)
+fewer_histories None d s most count few all = tt
+fewer_histories (Some h) d s most count few all = (fewer_apart h s most count few all.0, fewer_apart h d most count few all.1)
+
+fewer_short : (history : Option NodeId) (most count : ℕ) → count ≤ most → IfSome history (λ h. h.0 + most ≤ 2 ^ 64) → IfSome history (λ h. h.0 + count ≤ 2 ^ 64)
+fewer_short None most count few short = tt
+fewer_short (Some h) most count few short = omega (arith, short)
+
+pub fewer_free : (parent history : Option NodeId) (d s : NodeId) (most count : ℕ) → count ≤ most → AreFree parent history d s most → AreFree parent history d s count
+fewer_free parent history d s most count few free = record {
+  sources = fewer_sources parent s most count few free.sources;
+  parents = fewer_parents parent history most count few free.parents;
+  histories = fewer_histories history d s most count few free.histories;
+  short = fewer_short history most count few free.short;
+}
 
 -- Many rows
 

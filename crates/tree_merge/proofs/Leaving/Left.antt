@@ -26,7 +26,7 @@ use Rattle.local_cache.proofs.Names.WorkingName.{vacated}
 use Rattle.local_cache.proofs.Nodes.Cells.{cell-put, find-put_other, held-new, stays-put}
 use Rattle.page_stubs.specs.Threading.{loose}
 use Rattle.page_stubs.proofs.Lists.NoStubs.{no_stubs, same_links}
-use Rattle.history_tree.proofs.OnCells.{here, on_swap}
+use Rattle.history_tree.proofs.OnCells.{on_swap}
 use Rattle.tree_merge.specs.declared.released.Released.TheVariants.{Dropped, Nothing}
 use Rattle.tree_merge.specs.Releasing.{IsRetired}
 use Rattle.tree_merge.specs.Staying.{HasLeft}
@@ -38,13 +38,10 @@ use Rattle.tree_merge.proofs.Leaving.Detached.{detached-forest, detached-sound, 
 use Rattle.tree_merge.proofs.Leaving.Freed.{Freed, drop-Freed}
 use Rattle.tree_merge.proofs.Leaving.Retired.{retire_none, retired-forest, retired-sound, retired_leaf, retired_parent}
 use Rattle.tree_merge.proofs.Place.Cut.{cut_stub-Step, no_parent-Step}
-use Rattle.tree_merge.proofs.Place.TreeCut.{cut_tree-Step}
+use Rattle.tree_merge.proofs.Place.TreeCut.{cut_tree-Step, one_exchanged}
 use Rattle.tree_merge.proofs.Releases.{retire_released}
 
 -- Whichever way it hung
-
-one_exchanged : (a : Arena) (p n : NodeId) → on_cells a p (λ k. with_child (next_node n k) (next_if None k)) 1 ≡ with_tree a p (exchanged n None (cell a p).tree)
-one_exchanged a p n = λ i. on_cell a (here p i) (with_child (here n i) None)
 
 module _ (a : Arena) (sound : IsSound a) (n : NodeId) (hn : HasNode a n) where
   pub left_root : (cell a n).links.parent ≡ None → HasLeft a a n
@@ -73,7 +70,7 @@ module _ (a : Arena) (sound : IsSound a) (n : NodeId) (hn : HasNode a n) where
         }
 
     pub left_tree : (cell a n).links.by_stub ≡ false → (b : Arena) → b ≡ on_cells a p (λ k. with_child (next_node n k) (next_if None k)) 1 → HasLeft a b n
-    left_tree by_tree b is = subst (λ x. HasLeft a x n) (sym (is ∙ one_exchanged a p n)) (under by_tree)
+    left_tree by_tree b is = subst (λ x. HasLeft a x n) (sym (is ∙ one_exchanged a p n None)) (under by_tree)
 
     pub left_stub : (cell a n).links.by_stub ≡ true → (b : Arena) → forest_of (loose b n) ≡ cut_stub (forest_of a) (name_of a n) → IsSound (loose b n) → Relinked a (loose b n)
         → (loose b n).room ≡ a.room → HasNode b n → HasLeft a b n

@@ -1,6 +1,6 @@
 -- The only child takes the page and the place of a node where neither hangs by a stub link: it and
 -- the parent are written once each.
-use Rattle.std.proofs.Common.{◌≡◌, ◌≢◌, ◌<◌, ◌≤◌, false, length, Option, Some, None, refl, sym, ap, ap₂, ◌∙◌, subst, arith}
+use Rattle.std.proofs.Common.{◌≡◌, ◌≢◌, ◌<◌, false, Option, Some, None, refl, sym, ap, ap₂, ◌∙◌, subst, arith}
 use Rattle.std.specs.Prelude.{IfSome}
 use Rattle.vm_ids.specs.Forest.Changes.{cut}
 use Rattle.vm_ids.specs.Forest.Nodes.{child_count, node, parent, parent_of}
@@ -9,39 +9,28 @@ use Rattle.vm_ids.specs.Forest.Settling.{pass_page}
 use Rattle.vm_ids.specs.declared.numbers.NodeId.{NodeId}
 use Rattle.local_cache.specs.declared.own_state.OwnState.{OwnState}
 use Rattle.local_cache.specs.Arena.{Arena, Cell, HasNode, cell, hung, with_own, with_tree, without}
-use Rattle.local_cache.specs.OnCells.{on_cell}
+use Rattle.local_cache.specs.NodeCells.{exchanged, hanging, owning, with_child}
+use Rattle.local_cache.specs.OnCells.{cut_from, on_cell}
 use Rattle.local_cache.specs.Own.{own_of}
 use Rattle.local_cache.specs.Reading.{forest_of, hang_by, name_of}
 use Rattle.local_cache.specs.Sound.{IsSound}
 use Rattle.local_cache.proofs.Changes.SameNodes.{links-with_links_other, links-with_tree, parent-read}
 use Rattle.local_cache.proofs.Forest.Reading.{node-forest_of}
 use Rattle.local_cache.proofs.Nodes.Cells.{cell-put_other}
-use Rattle.tree_merge.specs.declared.released.Released.{Released}
+use Rattle.history_tree.proofs.OnCells.{on_swap, on_twice}
 use Rattle.tree_merge.specs.Releasing.{HasGivenWay, given, released_to}
 use Rattle.tree_merge.specs.Staying.{HasNoChild, IsBelow, placed}
-use Rattle.tree_merge.specs.TreeLists.{exchanged, exchanged_under}
-use Rattle.history_tree.proofs.OnCells.{on_swap, on_twice}
 use Rattle.tree_merge.proofs.CopiedPages.Changes.{without_put}
 use Rattle.tree_merge.proofs.Merge.Page.{Passed, passed}
 use Rattle.tree_merge.proofs.Merge.Step.{cut_root, given_forest, given_gone, given_owns, given_released, passed_below, passed_none, passed_root}
 use Rattle.tree_merge.proofs.Place.Heir.{give_way-Freed, no_parent-placed, tree-placed}
 use Rattle.tree_merge.proofs.Place.Step.{Step}
-use Rattle.tree_merge.proofs.Place.TreeCut.{cut_tree-Step, few_tree}
+use Rattle.tree_merge.proofs.Place.TreeCut.{cut_tree-Step}
 use Rattle.tree_merge.proofs.Place.TreeExchange.{take_tree_place-Step}
 
 -- What is written
 
 module _ (a : Arena) (w y : NodeId) (y_w : y ≢ w) (s : OwnState) where
-  -- what is done to a cell
-  abbrev on : Option NodeId → Cell → Cell
-  on up c = record c { links = record c.links { parent = up; by_stub = false } }
-
-  abbrev owning : Cell → Cell
-  owning c = record c { own = s }
-
-  abbrev over : NodeId → Option NodeId → Cell → Cell
-  over n instead c = record c { tree = exchanged n instead c.tree }
-
   abbrev w_y : w ≢ y
   w_y e = y_w (sym e)
 
@@ -54,26 +43,26 @@ module _ (a : Arena) (w y : NodeId) (y_w : y ≢ w) (s : OwnState) where
 
   -- the same before anything is written to w
   abbrev loose_first : Arena
-  loose_first = on_cell (on_cell a y (on None)) y owning
+  loose_first = on_cell (on_cell a y (hanging None)) y (owning s)
 
-  loose_is : loose ≡ on_cell loose_first w (over y None)
+  loose_is : loose ≡ on_cell loose_first w (with_child y None)
   loose_is =
-      ap (λ (x : Arena). on_cell x y owning) (on_swap a w y (over y None) (on None) w_y)
-      ∙ on_swap (on_cell a y (on None)) w y (over y None) owning w_y
+      ap (λ (x : Arena). on_cell x y (owning s)) (on_swap a w y (with_child y None) (hanging None) w_y)
+      ∙ on_swap (on_cell a y (hanging None)) w y (with_child y None) (owning s) w_y
 
   -- where y is written last, it doesn't matter that it was cut off
-  hung_last : (x : Arena) (up : Option NodeId) → on_cell (on_cell (on_cell x y (on None)) y owning) y (on up) ≡ on_cell (on_cell x y owning) y (on up)
+  hung_last : (x : Arena) (up : Option NodeId) → on_cell (on_cell (on_cell x y (hanging None)) y (owning s)) y (hanging up) ≡ on_cell (on_cell x y (owning s)) y (hanging up)
   hung_last x up =
-      ap (λ (z : Arena). on_cell z y (on up)) (on_twice x y (on None) owning)
-      ∙ on_twice x y (λ c. owning (on None c)) (on up)
-      ∙ sym (on_twice x y owning (on up))
+      ap (λ (z : Arena). on_cell z y (hanging up)) (on_twice x y (hanging None) (owning s))
+      ∙ on_twice x y (λ c. owning s (hanging None c)) (hanging up)
+      ∙ sym (on_twice x y (owning s) (hanging up))
 
   -- w has no parent
   once_root : without loose w ≡ without (hung (with_own a y s) y None) w
   once_root =
       ap (λ (x : Arena). without x w) loose_is
-      ∙ without_put loose_first w (over y None (cell loose_first w)) refl
-      ∙ ap (λ (x : Arena). without x w) (on_twice a y (on None) owning ∙ sym (on_twice a y owning (on None)))
+      ∙ without_put loose_first w (with_child y None (cell loose_first w)) refl
+      ∙ ap (λ (x : Arena). without x w) (on_twice a y (hanging None) (owning s) ∙ sym (on_twice a y (owning s) (hanging None)))
 
   -- w hangs on p by a tree link
   module _ (p : NodeId) (p_y : p ≢ y) (p_w : p ≢ w) where
@@ -88,43 +77,39 @@ module _ (a : Arena) (w y : NodeId) (y_w : y ≢ w) (s : OwnState) where
 
     -- the same before anything is written to w
     abbrev hung_first : Arena
-    hung_first = on_cell (on_cell loose_first p (over w (Some y))) y (on (Some p))
+    hung_first = on_cell (on_cell loose_first p (with_child w (Some y))) y (hanging (Some p))
 
-    put_under_is : put_under ≡ on_cell hung_first w (over y None)
+    put_under_is : put_under ≡ on_cell hung_first w (with_child y None)
     put_under_is =
-        ap (λ (x : Arena). on_cell (on_cell x p (over w (Some y))) y (on (Some p))) loose_is
-        ∙ ap (λ (x : Arena). on_cell x y (on (Some p))) (on_swap loose_first w p (over y None) (over w (Some y)) w_p)
-        ∙ on_swap (on_cell loose_first p (over w (Some y))) w y (over y None) (on (Some p)) w_y
+        ap (λ (x : Arena). on_cell (on_cell x p (with_child w (Some y))) y (hanging (Some p))) loose_is
+        ∙ ap (λ (x : Arena). on_cell x y (hanging (Some p))) (on_swap loose_first w p (with_child y None) (with_child w (Some y)) w_p)
+        ∙ on_swap (on_cell loose_first p (with_child w (Some y))) w y (with_child y None) (hanging (Some p)) w_y
 
-    tree_first : on_cell loose_first p (over w (Some y)) ≡ on_cell (on_cell (on_cell a p (over w (Some y))) y (on None)) y owning
+    tree_first : on_cell loose_first p (with_child w (Some y)) ≡ on_cell (on_cell (on_cell a p (with_child w (Some y))) y (hanging None)) y (owning s)
     tree_first =
-        on_swap (on_cell a y (on None)) y p owning (over w (Some y)) y_p
-        ∙ ap (λ (x : Arena). on_cell x y owning) (on_swap a y p (on None) (over w (Some y)) y_p)
+        on_swap (on_cell a y (hanging None)) y p (owning s) (with_child w (Some y)) y_p
+        ∙ ap (λ (x : Arena). on_cell x y (owning s)) (on_swap a y p (hanging None) (with_child w (Some y)) y_p)
 
-    once_tree : without (hung put_under w None) w ≡ without (hung (with_own (with_tree a p (exchanged w (Some y) (cell a p).tree)) y s) y (Some p)) w
+    once_tree : without (hung put_under w None) w ≡ without (hung (with_own (on_cell a p (with_child w (Some y))) y s) y (Some p)) w
     once_tree =
-        without_put put_under w (on None (cell put_under w)) refl
+        without_put put_under w (hanging None (cell put_under w)) refl
         ∙ ap (λ (x : Arena). without x w) put_under_is
-        ∙ without_put hung_first w (over y None (cell hung_first w)) refl
-        ∙ ap (λ (x : Arena). without x w) (ap (λ (x : Arena). on_cell x y (on (Some p))) tree_first ∙ hung_last (on_cell a p (over w (Some y))) (Some p))
+        ∙ without_put hung_first w (with_child y None (cell hung_first w)) refl
+        ∙ ap (λ (x : Arena). without x w) (ap (λ (x : Arena). on_cell x y (hanging (Some p))) tree_first ∙ hung_last (on_cell a p (with_child w (Some y))) (Some p))
 
 -- What is needed
 
-module _ (a : Arena) (sound : IsSound a) (w : NodeId) (hw : HasNode a w) where
-  pub parent_held : (up : Option NodeId) → up ≡ (cell a w).links.parent → IfSome up (λ p. HasNode a p)
-  parent_held None is = tt
-  parent_held (Some p) is = sound.kept.parents w p hw (sym is)
-
-  -- the parent has at most two tree children
-  pub parent_few : (up : Option NodeId) → up ≡ (cell a w).links.parent → IfSome up (λ p. length (cell a p).tree ≤ 2)
-  parent_few None is = tt
-  parent_few (Some p) is = few_tree a sound p (sound.kept.parents w p hw (sym is))
+pub parent_held : (a : Arena) → IsSound a → (w : NodeId) → HasNode a w → (up : Option NodeId) → up ≡ (cell a w).links.parent → IfSome up (λ p. HasNode a p)
+parent_held a sound w hw None is = tt
+parent_held a sound w hw (Some p) is = sound.kept.parents w p hw (sym is)
 
 -- What it is
 
 module _ (a : Arena) (sound : IsSound a) (w y : NodeId) (hw : HasNode a w) (hy : HasNode a y) (up : parent (forest_of a) (name_of a y) ≡ Some (name_of a w))
-    (few : child_count (forest_of a) (name_of a w) < 2) (w_tree : (cell a w).links.by_stub ≡ false) (y_tree : (cell a y).links.by_stub ≡ false)
-    (s : OwnState) (s_is : s ≡ given (own_of a w) (own_of a y)) where
+    (few : child_count (forest_of a) (name_of a w) < 2) (w_tree : (cell a w).links.by_stub ≡ false) (y_tree : (cell a y).links.by_stub ≡ false) where
+  abbrev s : OwnState
+  s = given (own_of a w) (own_of a y)
+
   -- the parent of y, by its number
   parent_is : (cell a y).links.parent ≡ Some w
   parent_is = go (cell a y).links.parent refl
@@ -162,7 +147,7 @@ module _ (a : Arena) (sound : IsSound a) (w y : NodeId) (hw : HasNode a w) (hy :
   passed_y : Passed b c (pass_page (forest_of b) (name_of b w) (name_of b y)) (released_to b w (Some y))
   passed_y =
       passed b cut_y.sound w y hw_b hy_b (cut_root a sound w y up few b cut_y.forest cut_y.rehung)
-      s (s_is ∙ sym (ap₂ given (cut_y.rehung.own w) (cut_y.rehung.own y))) c refl (released_to b w (Some y)) refl
+      s (sym (ap₂ given (cut_y.rehung.own w) (cut_y.rehung.own y))) c refl (released_to b w (Some y)) refl
 
   hw_c : HasNode c w
   hw_c = passed_y.like.held w ∙ hw_b
@@ -187,22 +172,17 @@ module _ (a : Arena) (sound : IsSound a) (w y : NodeId) (hw : HasNode a w) (hy :
       ∙ links-with_tree a w (exchanged y None (cell a w).tree) w
 
   -- y is in the place of w, and w goes
-  gives : (d : Arena) → Step c d (placed (forest_of c) (name_of c w) (name_of c y)) → (r : Released) → r ≡ released_to a w (Some y) → HasGivenWay a (without d w) w y r
-  gives d step r r_is =
+  gives : (d : Arena) → Step c d (placed (forest_of c) (name_of c w) (name_of c y)) → HasGivenWay a (without d w) w y (released_to a w (Some y))
+  gives d step =
       let freed = give_way-Freed c d (without d w) passed_y.sound w y hw_c root_c below_c none_c step refl in
       let told = given_released a b w y (released_to b w (Some y)) cut_y.rehung refl in
-      subst (HasGivenWay a (without d w) w y) (told ∙ sym r_is) (record {
+      subst (HasGivenWay a (without d w) w y) told (record {
         forest = given_forest a sound w y up few b cut_y.forest cut_y.rehung c passed_y.forest passed_y.like (without d w) freed.forest;
         sound = freed.sound;
         told = told;
         gone = given_gone a sound w y up few b cut_y.forest cut_y.rehung c passed_y.forest passed_y.like (without d w) passed_y.counters passed_y.room freed.gone;
         owns = given_owns a b c (without d w) w (released_to b w (Some y)) cut_y.rehung passed_y.owns freed.owns;
       })
-
-  given_root : (cell a w).links.parent ≡ None → (r : Released) → r ≡ released_to a w (Some y) → HasGivenWay a (without (hung (with_own a y s) y None) w) w y r
-  given_root none r r_is =
-      subst (λ (k : Arena). HasGivenWay a k w y r) (once_root a w y y_w s)
-      (gives c (no_parent-placed c passed_y.sound w y hw_c hy_c root_c (ap (λ l. l.parent) links_c ∙ none)) r r_is)
 
   module _ (p : NodeId) (up_w : (cell a w).links.parent ≡ Some p) where
     p_lower : sound.linked.order.0 (name_of a p) < sound.linked.order.0 (name_of a w)
@@ -231,16 +211,10 @@ module _ (a : Arena) (sound : IsSound a) (w y : NodeId) (hw : HasNode a w) (hy :
         subst (Step c d) (sym (tree-placed c passed_y.sound w y hw_c hy_c root_c p up_c tree_c))
         (take_tree_place-Step c passed_y.sound w y p hw_c hy_c up_c tree_c root_c below_c _ _ _ refl refl refl)
 
-    given_tree : (r : Released) → r ≡ released_to a w (Some y) → HasGivenWay a (without (hung (with_own (with_tree a p (exchanged w (Some y) (cell a p).tree)) y s) y (Some p)) w) w y r
-    given_tree r r_is = subst (λ (k : Arena). HasGivenWay a k w y r) (once_tree a w y y_w s p p_y p_w) (gives d placed_y r r_is)
-
-  given_under : (up_w : Option NodeId) → (cell a w).links.parent ≡ up_w → (r : Released) → r ≡ released_to a w (Some y)
-      → HasGivenWay a (without (hung (with_own (exchanged_under a up_w w y) y s) y up_w) w) w y r
-  given_under None is r r_is = given_root is r r_is
-  given_under (Some p) is r r_is = given_tree p is r r_is
-
-  pub given_at_once : (up_w : Option NodeId) → up_w ≡ (cell a w).links.parent → (r : Released) → r ≡ released_to a w (Some y) → (k m e : Arena)
-      → k ≡ exchanged_under a up_w w y → m ≡ hung (with_own k y s) y up_w → e ≡ without m w → HasGivenWay a e w y r
-  given_at_once up_w is r r_is k m e k_is m_is e_is =
-      subst (λ (x : Arena). HasGivenWay a x w y r) (sym (e_is ∙ ap (λ (x : Arena). without x w) (m_is ∙ ap (λ (x : Arena). hung (with_own x y s) y up_w) k_is)))
-      (given_under up_w (sym is) r r_is)
+  pub given_at_once : (o : Option NodeId) → (cell a w).links.parent ≡ o → HasGivenWay a (without (hung (with_own (cut_from a o w (Some y)) y s) y o) w) w y (released_to a w (Some y))
+  given_at_once None none =
+      subst (λ (k : Arena). HasGivenWay a k w y (released_to a w (Some y))) (once_root a w y y_w s)
+      (gives c (no_parent-placed c passed_y.sound w y hw_c hy_c root_c (ap (λ l. l.parent) links_c ∙ none)))
+  given_at_once (Some p) is =
+      subst (λ (k : Arena). HasGivenWay a k w y (released_to a w (Some y))) (once_tree a w y y_w s p (p_y p is) (p_w p is))
+      (gives (d p is) (placed_y p is))

@@ -138,9 +138,6 @@ the_thin x c r sound w least m =
 -- All of them
 
 module _ (a : Arena) (w y : NodeId) (count : ℕ) (can : CanGiveMany a w y count) where
-  abbrev parents : Option NodeId
-  parents = (cell a w).links.parent
-
   abbrev done : ℕ → Arena
   done k = each (gives (cell a w).links.parent w y (own_of a w)) k a
 

@@ -7,7 +7,7 @@ use Rattle.vm_ids.specs.Forest.NameLists as names
 use Rattle.vm_ids.specs.Forest.Nodes.{node, parent}
 use Rattle.vm_ids.specs.Forest.Nodes.Hang.{TreeOf}
 use Rattle.local_cache.specs.declared.own_state.OwnState.{OwnState}
-use Rattle.local_cache.specs.Arena.{Arena, HasNode, cell, hung, put, with_own}
+use Rattle.local_cache.specs.Arena.{Arena, HasNode, cell, hung, put, with_own, without}
 use Rattle.local_cache.specs.NodeCells.{hanging, inheriting, owning, with_child}
 use Rattle.local_cache.specs.OnCells.{cut_from, given_way, on_cell}
 use Rattle.local_cache.specs.Own.{is_absent, own_of}
@@ -18,7 +18,6 @@ use Rattle.local_cache.proofs.Forest.Reading.{node-forest_of}
 use Rattle.page_stubs.proofs.Rules.Cut.{in_map}
 use Rattle.history_tree.proofs.OnCells.{on_keeps, on_twice}
 use Rattle.tree_merge.specs.Releasing.{HasGivenWay, IsMerged, first_child, given, released_to}
-use Rattle.tree_merge.specs.TreeLists.{exchanged_under}
 use Rattle.tree_merge.proofs.ChildLists.Names.{first_child_up, first_is}
 use Rattle.tree_merge.proofs.Merge.AtOnce.{given_at_once}
 use Rattle.tree_merge.proofs.Merge.Step.{few_children, merged, settle_some}
@@ -60,10 +59,6 @@ module _ (a : Arena) (sound : IsSound a) (w y : NodeId) (least : IsLeastThin a (
   kept_own None = refl
   kept_own (Some p) = on_keeps (λ c. c.own) a p (with_child w (Some y)) y (λ c. refl)
 
-  under : (o : Option NodeId) → cut_from a o w (Some y) ≡ exchanged_under a o w y
-  under None = refl
-  under (Some p) = refl
-
   written : (o : Option NodeId) → on_cell (cut_from a o w (Some y)) y (inheriting (own_of a w) o) ≡ hung (with_own (cut_from a o w (Some y)) y (given (own_of a w) (own_of a y))) y o
   written o =
       let k = cut_from a o w (Some y) in
@@ -74,9 +69,8 @@ module _ (a : Arena) (sound : IsSound a) (w y : NodeId) (least : IsLeastThin a (
     pub way : HasGivenWay a (given_way a w y) w y (released_to a w (Some y))
     way =
         let o = (cell a w).links.parent in
-        let k = cut_from a o w (Some y) in
-        given_at_once a sound w y hw child_held up (few_children a sound w least) by_link by_tree (given (own_of a w) (own_of a y)) refl o refl (released_to a w (Some y)) refl
-        k (on_cell k y (inheriting (own_of a w) o)) (given_way a w y) (under o) (written o) refl
+        subst (λ (k : Arena). HasGivenWay a (without k w) w y (released_to a w (Some y))) (sym (written o))
+        (given_at_once a sound w y hw child_held up (few_children a sound w least) by_link by_tree o refl)
 
     once : IsMerged a (given_way a w y) (released_to a w (Some y))
     once =

@@ -1,10 +1,8 @@
 -- A node that hangs by a tree link is cut off.
-use Rattle.std.proofs.Common.{◌≡◌, ◌≤◌, false, List, map, length, Some, None, sym, ap, ◌∙◌, subst, inl, inr, arith}
-use Rattle.std.proofs.lemmas.List.{length-map}
+use Rattle.std.proofs.Common.{◌≡◌, false, List, map, Option, Some, None, sym, ap, ◌∙◌, subst, inl, inr}
 use Rattle.vm_ids.specs.declared.node_name.NodeName.{NodeName}
-use Rattle.vm_ids.specs.declared.node_name.NodeName.TheVariants.{Live, Working}
 use Rattle.vm_ids.specs.Forest.NameLists as names
-use Rattle.vm_ids.specs.Forest.Nodes.{Forest, node, Hang, most_tree_children}
+use Rattle.vm_ids.specs.Forest.Nodes.{Forest, node, Hang}
 use Rattle.vm_ids.specs.Forest.Nodes.Hang.{Root, TreeOf}
 use Rattle.vm_ids.specs.Forest.Shape.{IsLinked}
 use Rattle.vm_ids.specs.Forest.Changes.{edit, with_hang, cut, relist}
@@ -13,24 +11,22 @@ use Rattle.vm_ids.proofs.Forest.Cutting.{cut-linked}
 use Rattle.vm_ids.specs.declared.numbers.NodeId.{NodeId}
 use Rattle.local_cache.specs.declared.own_state.OwnState.{OwnState}
 use Rattle.local_cache.specs.Arena.{Arena, cell, HasNode, hung, with_tree}
+use Rattle.local_cache.specs.ManyNodes.{next_if, next_node}
+use Rattle.local_cache.specs.NodeCells.{exchanged, with_child}
+use Rattle.local_cache.specs.OnCells.{on_cell, on_cells}
 use Rattle.local_cache.specs.Reading.{name_of, forest_of, hang_by}
 use Rattle.local_cache.specs.Sound.{IsSound, IsKept, ◌∈◌}
 use Rattle.local_cache.proofs.Forest.Reading.{node-forest_of}
 use Rattle.local_cache.proofs.Changes.SameNodes.{rehung_then}
 use Rattle.local_cache.proofs.Changes.OneNode.{Edited, IsNoStub, tree-edited, hang-edited, no_stub-tree}
-use Rattle.tree_merge.specs.TreeLists.{exchanged}
+use Rattle.history_tree.proofs.OnCells.{here}
 use Rattle.tree_merge.proofs.Place.Step.{Step}
 use Rattle.tree_merge.proofs.ChildLists.TreeLists.{exchanged-in, without-names}
 
--- a node has at most two tree children
-pub few_tree : (a : Arena) → IsSound a → (p : NodeId) → HasNode a p → length (cell a p).tree ≤ 2
-few_tree a sound p h =
-    let most : most_tree_children (name_of a p) ≤ 2 = most_two (name_of a p) in
-    omega (arith, sound.linked.few (name_of a p), ap (λ n. length n.tree) (node-forest_of a sound.kept.named p h), length-map (cell a p).tree (name_of a))
-  where
-    most_two : (x : NodeName) → most_tree_children x ≤ 2
-    most_two (Live c p) = omega arith
-    most_two (Working k) = omega arith
+-- the tree children of one node changed
+pub one_exchanged : (a : Arena) (p n : NodeId) (o : Option NodeId) → on_cells a p (λ k. with_child (next_node n k) (next_if o k)) 1 ≡ with_tree a p (exchanged n o (cell a p).tree)
+one_exchanged a p n None = λ i. on_cell a (here p i) (with_child (here n i) None)
+one_exchanged a p n (Some y) = λ i. on_cell a (here p i) (with_child (here n i) (Some (here y i)))
 
 -- what the forest has where a node hangs by a tree link
 module _ (a : Arena) (sound : IsSound a) (n p : NodeId) (hn : HasNode a n) (up : (cell a n).links.parent ≡ Some p) (by_tree : (cell a n).links.by_stub ≡ false) where

@@ -11,12 +11,12 @@ use Rattle.vm_ids.specs.Forest.Settling.{take_place}
 use Rattle.vm_ids.proofs.Forest.TakingPlace.{taken-linked}
 use Rattle.vm_ids.specs.declared.numbers.NodeId.{NodeId}
 use Rattle.local_cache.specs.Arena.{Arena, cell, HasNode, hung, with_tree}
+use Rattle.local_cache.specs.NodeCells.{exchanged}
 use Rattle.local_cache.specs.Reading.{name_of, forest_of}
 use Rattle.local_cache.specs.Sound.{IsSound, IsKept, ◌∈◌}
 use Rattle.local_cache.proofs.Forest.Reading.{node-forest_of}
 use Rattle.local_cache.proofs.Changes.SameNodes.{hang_root, rehung_then}
 use Rattle.local_cache.proofs.Changes.OneNode.{Edited, IsNoStub, tree-edited, hang-edited, no_stub-tree, no_stub-hung, root_no_stub}
-use Rattle.tree_merge.specs.TreeLists.{exchanged}
 use Rattle.tree_merge.specs.Staying.{IsBelow}
 use Rattle.tree_merge.proofs.Place.Step.{Step}
 use Rattle.tree_merge.proofs.ChildLists.TreeLists.{exchanged-in, renamed-names}

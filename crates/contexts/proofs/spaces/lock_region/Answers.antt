@@ -9,8 +9,11 @@ unreachable-requires c =
     let none = found_here c.args.spaces.now c.args.actor.0 _ _ c.requires.alive c.in-None.is in
     absurd (cc (subst IsSome none c.requires.alive))
 
-pub set_locked-requires : goal.set_locked-requires
-set_locked-requires c = c.requires.there c.in-Some.regions (found_here c.args.spaces.now c.args.actor.0 _ _ c.requires.alive c.in-Some.is)
+pub set_locked-requires-clause-start : goal.set_locked-requires-clause-start
+set_locked-requires-clause-start c = c.requires.start c.in-Some.regions (found_here c.args.spaces.now c.args.actor.0 _ _ c.requires.alive c.in-Some.is)
+
+pub set_locked-requires-clause-there : goal.set_locked-requires-clause-there
+set_locked-requires-clause-there c = c.requires.there c.in-Some.regions (found_here c.args.spaces.now c.args.actor.0 _ _ c.requires.alive c.in-Some.is)
 
 pub returns : goal.returns
 returns c =

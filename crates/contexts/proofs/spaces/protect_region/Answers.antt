@@ -9,8 +9,11 @@ unreachable-requires c =
     let none = found_here c.args.spaces.now c.args.actor.0 _ _ c.requires.alive c.in-None.is in
     absurd (cc (subst IsSome none c.requires.alive))
 
-pub protect-requires : goal.protect-requires
-protect-requires c = c.requires.there c.in-Some.regions (found_here c.args.spaces.now c.args.actor.0 _ _ c.requires.alive c.in-Some.is)
+pub protect-requires-clause-start : goal.protect-requires-clause-start
+protect-requires-clause-start c = c.requires.start c.in-Some.regions (found_here c.args.spaces.now c.args.actor.0 _ _ c.requires.alive c.in-Some.is)
+
+pub protect-requires-clause-there : goal.protect-requires-clause-there
+protect-requires-clause-there c = c.requires.there c.in-Some.regions (found_here c.args.spaces.now c.args.actor.0 _ _ c.requires.alive c.in-Some.is)
 
 pub returns : goal.returns
 returns c =

@@ -1,13 +1,20 @@
-use Rattle.tree_merge.proofs.Place.TreeCut.{few_tree, cut_tree-Step}
+use Rattle.std.proofs.Common.{None, ◌∙◌}
+use Rattle.history_tree.proofs.OnCells.{one_held}
+use Rattle.tree_merge.proofs.Place.TreeCut.{cut_tree-Step, one_exchanged}
 use Rattle.tree_merge.proofs.tree_lists.cut_tree.Goals as goal
 
-pub exchange-requires-clause-few : goal.exchange-requires-clause-few
-exchange-requires-clause-few c =
+pub exchange_many-requires-clause-held : goal.exchange_many-requires-clause-held
+exchange_many-requires-clause-held c =
     let r = c.requires in
-    few_tree c.args.caches.now r.sound c.args.parent (r.sound.kept.parents c.args.node c.args.parent r.held r.parent)
+    one_held c.args.caches.now c.args.parent (r.sound.kept.parents c.args.node c.args.parent r.held r.parent)
+
+pub exchange_many-requires-clause-gone : goal.exchange_many-requires-clause-gone
+exchange_many-requires-clause-gone c = one_held c.args.caches.now c.args.node c.requires.held
 
 pub returns : goal.returns
 returns c =
     let r = c.requires in
-    let step = cut_tree-Step c.args.caches.now r.sound c.args.node c.args.parent r.held r.parent r.by_tree _ _ c.exchange.ensures.changed c.hang.ensures.changed in
+    let a = c.args.caches.now in
+    let left = c.exchange_many.ensures.changed ∙ one_exchanged a c.args.parent c.args.node None in
+    let step = cut_tree-Step a r.sound c.args.node c.args.parent r.held r.parent r.by_tree _ _ left c.hang.ensures.changed in
     record { forest = step.forest; sound = step.sound; rehung = step.rehung }

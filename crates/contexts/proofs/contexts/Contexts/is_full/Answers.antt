@@ -12,18 +12,16 @@ full_if living made h = let e : nat_le LIVING_ACTORS living ≡ true = grind (ar
 full_or : (living made : ℕ) → living < LIVING_ACTORS → (nat_le LIVING_ACTORS living || nat_le MOST_MADE made) ≡ nat_le MOST_MADE made
 full_or living made h = let e : nat_le LIVING_ACTORS living ≡ false = grind (arith, nat_tests) in ap (λ (b : Bool). b || nat_le MOST_MADE made) e
 
-pub returns-then-len : goal.returns-then-len
-returns-then-len c =
+pub returns-then-self-ge-LIVING_ACTORS : goal.returns-then-self-ge-LIVING_ACTORS
+returns-then-self-ge-LIVING_ACTORS c =
     let i = c.self.inside in
-    let many : LIVING_ACTORS ≤ length i.living.items = omega (arith, c.if-len.true, c.len.ensures) in
-    let here : nat_le 256 c.len.result ≡ true = (let most = c.if-len.true in grind (arith, nat_tests)) in
-    here ∙ sym (full_if (length i.living.items) (length i.actors.items) many)
-    ∙ sym (full_by i.page (length i.living.items) i.actors.items (length i.owners.items) c.self.invariant.living) ∙ ap is_full c.self.view_is
+    let here : nat_le 256 i.living ≡ true = (let most = c.if-self-ge-LIVING_ACTORS.true in grind (arith, nat_tests)) in
+    here ∙ sym (full_if i.living (length i.actors.items) c.if-self-ge-LIVING_ACTORS.true)
+    ∙ sym (full_by i.page i.living i.actors.items (length i.owners.items) c.self.invariant.living) ∙ ap is_full c.self.view_is
 
-pub returns-else-len : goal.returns-else-len
-returns-else-len c =
+pub returns-else-self-ge-LIVING_ACTORS : goal.returns-else-self-ge-LIVING_ACTORS
+returns-else-self-ge-LIVING_ACTORS c =
     let i = c.self.inside in
-    let few : length i.living.items < LIVING_ACTORS = omega (arith, c.if-len.false, c.len.ensures) in
-    let made : c.len-else-len.result ≡ length i.actors.items = omega (arith, c.len-else-len.ensures) in
-    ap (λ (n : ℕ). nat_le MOST_MADE n) made ∙ sym (full_or (length i.living.items) (length i.actors.items) few)
-    ∙ sym (full_by i.page (length i.living.items) i.actors.items (length i.owners.items) c.self.invariant.living) ∙ ap is_full c.self.view_is
+    let made : c.len.result ≡ length i.actors.items = omega (arith, c.len.ensures) in
+    ap (λ (n : ℕ). nat_le MOST_MADE n) made ∙ sym (full_or i.living (length i.actors.items) c.if-self-ge-LIVING_ACTORS.false)
+    ∙ sym (full_by i.page i.living i.actors.items (length i.owners.items) c.self.invariant.living) ∙ ap is_full c.self.view_is

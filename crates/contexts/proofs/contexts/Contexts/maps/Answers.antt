@@ -1,15 +1,14 @@
-use Rattle.std.proofs.Common.{ap, ◌∙◌}
+use Rattle.std.proofs.Common.{sym, ap, ◌∙◌}
+use Rattle.std.specs.Prelude.{nat_lt}
 use Rattle.std.specs.List.{list_any}
 use Rattle.vm_model.specs.Answering.{maps_in}
 use Rattle.contexts.specs.Actors.{Actors}
-use Rattle.contexts.specs.Layout.{maps_at}
-use Rattle.contexts.proofs.Listing.{maps_listed}
+use Rattle.contexts.specs.Layout.{regions_in}
+use Rattle.contexts.proofs.Counted.{mapped_counted}
 use Rattle.contexts.proofs.contexts.Contexts.maps.Goals as goal
 
 pub returns : goal.returns
 returns c =
     let n = c.args.cache.0 in
-    let i = c.self.inside in
-    c.maps_any.ensures ∙ (λ j. list_any (maps_at (c.deref.ensures.value j) n) (c.deref-2.ensures.value j))
-    ∙ maps_listed n i.actors.items i.living.items c.self.invariant.listed
+    c.has.ensures ∙ ap (nat_lt 0) (c.self.invariant.mapped n) ∙ sym (mapped_counted n (regions_in c.self.inside.actors.items))
     ∙ ap (λ (a : Actors). list_any (maps_in n) a.actors) c.self.view_is

@@ -2,7 +2,7 @@ use Rattle.std.proofs.Common.{◌≡◌, Some, refl, sym, ap, ◌∙◌, arith}
 use Rattle.std.specs.Prelude.{is_some}
 use Rattle.vm_model.specs.Machine.{Region}
 use Rattle.vm_model.specs.Regions.{status_with}
-use Rattle.contexts.proofs.Changing.{inside_alive, inside_seen, inside_sound, inside_there}
+use Rattle.contexts.proofs.Changing.{inside_alive, inside_seen, inside_sound, inside_starts, inside_there}
 use Rattle.contexts.proofs.Told.{told_some}
 use Rattle.contexts.proofs.contexts.Contexts.set_locked.Goals.{In-Some}
 use Rattle.contexts.proofs.contexts.Contexts.set_locked.Goals as goal
@@ -20,10 +20,13 @@ lock_region-requires-clause-alive c = inside_alive c.self.inside c.args.self.now
 pub lock_region-requires-clause-there : goal.lock_region-requires-clause-there
 lock_region-requires-clause-there c = inside_there c.self.inside c.args.self.now c.self.view_is c.args.region.0 c.in-Some.status (told (goal.at.lock_region-requires-clause-there c).In-Some) _ c.deref_mut.ensures.value
 
+pub lock_region-requires-clause-start : goal.lock_region-requires-clause-start
+lock_region-requires-clause-start c = inside_starts c.self.inside c.args.self.now c.self.view_is c.args.region.0 c.in-Some.status (told (goal.at.lock_region-requires-clause-start c).In-Some) _ c.deref_mut.ensures.value c.self.invariant
+
 pub invariant_of-self : goal.invariant_of-self
 invariant_of-self c =
     inside_sound c.self.inside c.args.self.now c.self.view_is c.args.region.0 c.in-Some.status (told (goal.at.invariant_of-self c).In-Some) _ c.deref_mut.ensures.value (λ (r : Region). record r { locked = c.args.locked })
-    c.lock_region.new.spaces (omega (arith, c.lock_region.auto.spaces, c.deref_mut.ensures.len)) c.lock_region.ensures (λ r. refl) c.self.invariant
+    c.lock_region.new.spaces (omega (arith, c.lock_region.auto.spaces, c.deref_mut.ensures.len)) c.lock_region.ensures (λ r. refl) (λ r. refl) (λ r. refl) c.self.invariant
 
 pub returns-clause-found : goal.returns-clause-found
 returns-clause-found c = ap is_some (sym c.in-Some.is ∙ c.status.ensures) ∙ told_some c.args.region.0 1 c.args.self.now.actors

@@ -1,18 +1,13 @@
 use Rattle.std.proofs.result.Match.{err_is}
-use Rattle.std.proofs.Common.{◌≡◌, ◌+◌, ◌<◌, ◌≤◌, Err, ap, arith, length, refl, subst, sym, ◌∙◌, false}
-use Rattle.std.specs.Prelude.{nat_le, nat_lt, Result}
+use Rattle.std.proofs.Common.{◌≡◌, ◌+◌, ◌<◌, ◌≤◌, Err, ap, arith, length, refl, sym, ◌∙◌, false}
+use Rattle.std.specs.Prelude.{nat_le, nat_lt}
 use Rattle.std.proofs.lemmas.Bool.Decides.{nat_tests}
 use Rattle.vm_ids.specs.declared.command.Command.TheVariants as commands
-use Rattle.vm_ids.specs.declared.numbers.CacheId.{CacheId}
 use Rattle.vm_ids.specs.declared.refusal.Refusal.TheVariants as refusals
-use Rattle.vm_ids.specs.declared.reply.Reply.TheVariants as replies
-use Rattle.vm_ids.specs.declared.reply.Trouble.{Trouble}
 use Rattle.vm_ids.specs.declared.reply.Trouble.TheVariants as troubles
 use Rattle.vm_model.specs.declared.limits.TheConstants.{LIVE_PAGES, MOST_MADE}
-use Rattle.vm_model.specs.Answering.{answer_by}
 use Rattle.vm_model.specs.Machine.{live_pages}
-use Rattle.gmi_calls.specs.Calling.{CallDone}
-use Rattle.flat_mm.specs.Manager.{Manager, flat, machine_in, room_of}
+use Rattle.flat_mm.specs.Manager.{Manager, machine_in, room_of}
 use Rattle.flat_mm.proofs.Acting.{stayed}
 use Rattle.flat_mm.proofs.Making.{few_made, made_call, made_sound, temp_full, temp_large, temp_lacks, temp_many}
 use Rattle.flat_mm.proofs.manager.FlatMm.make_temp.Goals.{Else-has_made_all, Else-lacks_room, Else-passes_live_pages}

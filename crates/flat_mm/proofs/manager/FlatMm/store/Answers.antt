@@ -8,7 +8,8 @@ use Rattle.std.proofs.lemmas.Bool.{not-false, not-true}
 use Rattle.vm_ids.specs.declared.command.Command.TheVariants as commands
 use Rattle.vm_ids.specs.declared.refusal.Refusal.TheVariants as refusals
 use Rattle.vm_ids.specs.declared.reply.Reply.TheVariants as replies
-use Rattle.gmi_calls.specs.Parking.{AccessCall, NoPull}
+use Rattle.gmi_calls.specs.Parking.{AccessCall}
+use Rattle.gmi_calls.specs.Reaching.{NoPages}
 use Rattle.flat_mm.specs.Accessing.{IsPlacedAt, place_at}
 use Rattle.flat_mm.specs.Manager.{IsValid, Manager, flat, machine_in}
 use Rattle.flat_mm.specs.Store.{Page, Store, with_page}
@@ -81,5 +82,5 @@ returns g c =
     let answer = subst (λ (p : Manager). IfSome held (λ h. c.in-Ok-true.field-0 ≡ not (list_any (is_denied_page (machine_in p) (segments_in h) at.cache.0) (range_with_len at.page.0 1)))) (sym c.self.view_is) E.answer in
     let P = page g c in
     let is = c.write.ensures.written P.0 (page_is i.store at.cache.0 at.page.0 P.0 P.1) ∙ ap (λ (b : List ℕ). with_page at.cache.0 at.page.0 (record { bytes = overwrite at.at b P.0.bytes; changed = true }) i.store) c.as_slice-bytes.ensures.bytes in
-    subst (λ (p : Manager). AccessCall g.M.Mapper flat NoPull c.args.mapper.now p (commands.Store c.args.actor c.args.address c.args.piece.now) (Ok replies.Done) c.may_change.new.mapper (record { store = c.write.new.self; actors = i.contexts })) c.self.view_is
+    subst (λ (p : Manager). AccessCall g.M.Mapper flat NoPages c.args.mapper.now p (commands.Store c.args.actor c.args.address c.args.piece.now) (Ok replies.Done) c.may_change.new.mapper (record { store = c.write.new.self; actors = i.contexts })) c.self.view_is
     (store_granted g.M.Mapper c.args.actor c.args.address c.args.piece.now _ _ old _ at F (not-false at.prot.write c.if-not-at.false) E.asked valid i.actors c.self.invariant c.in-Ok-true.field-0 c.in-Ok-true.field-0-test answer P.0 P.1 c.write.new.self is c.write.ensures.whole)

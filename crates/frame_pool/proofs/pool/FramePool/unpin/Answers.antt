@@ -1,7 +1,6 @@
 use Rattle.std.proofs.Common.{false, refl, sym, ◌∙◌}
 use Rattle.frame_pool.specs.Pool.{frames_seen, is_held}
-use Rattle.frame_pool.proofs.Evictable.{and_unpinned, mark_within, pinned_changed}
-use Rattle.frame_pool.proofs.Views.{held_inside}
+use Rattle.frame_pool.proofs.Evictable.{and_unpinned, held_inside, mark_within, pinned_changed}
 use Rattle.frame_pool.proofs.pool.FramePool.unpin.Goals as goal
 
 pub put-requires : goal.put-requires

@@ -8,4 +8,4 @@ pub returns : goal.returns
 returns c =
     let below : c.args.list < length c.self.inside.heads.items = omega (arith, c.requires, ap (λ (m : Membership). m.lists) c.self.view_is) in
     subst (λ (m : Membership). MatchOption c.index.result.now ((entry : ℕ) → list_of m entry ≢ Some c.args.list) (λ entry. list_of m entry ≡ Some c.args.list)) c.self.view_is
-    (first_listed c.self.inside.heads.items c.self.inside.counts.items c.self.inside.links.items c.args.list c.self.invariant c.index.result.now (read_as c.self.inside.heads.items c.args.list c.index.result.now None below c.index.ensures))
+    (first_listed c.self.inside.heads.items c.self.inside.counts.items c.self.inside.links c.args.list c.self.invariant c.index.result.now (read_as c.self.inside.heads.items c.args.list c.index.result.now None below c.index.ensures))

@@ -2,12 +2,11 @@ use Rattle.std.proofs.Common.{List, Option, None, subst, sym, ◌≡◌, ◌<◌
 use Rattle.std.specs.Prelude.{IfSome}
 use Rattle.page_tables.specs.Translations.{entries_for}
 use Rattle.page_tables.specs.declared.entry.Entry.{Entry}
-use Rattle.page_tables.proofs.LinkReads.{read_as}
 use Rattle.page_tables.proofs.Seeing.{alone_at}
 use Rattle.page_tables.proofs.places.Places.get.Goals as goal
 
 pub returns-clause-alone : goal.returns-clause-alone
 returns-clause-alone c =
-    let P : List (Option Entry) → Type 0 = λ xs. IfSome c.index.result.now (λ e. entries_for (set xs c.args.place None) e.actor.0 e.page ≡ 0) in
-    let below : c.args.place < length c.self.inside.entries.items = subst (λ (xs : List (Option Entry)). c.args.place < length xs) (sym c.self.view_is) c.requires in
-    subst P c.self.view_is (alone_at c.self.inside.entries.items c.args.place c.self.invariant.once below c.index.result.now (read_as c.self.inside.entries.items c.args.place c.index.result.now None below c.index.ensures))
+    let P : List (Option Entry) → Type 0 = λ xs. IfSome c.get.result (λ e. entries_for (set xs c.args.place None) e.actor.0 e.page ≡ 0) in
+    let below : c.args.place < length c.self.inside.entries = subst (λ (xs : List (Option Entry)). c.args.place < length xs) (sym c.self.view_is) c.requires in
+    subst P c.self.view_is (alone_at c.self.inside.entries c.args.place c.self.invariant.once below c.get.result (sym c.get.ensures))

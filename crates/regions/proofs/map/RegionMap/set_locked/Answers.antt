@@ -1,12 +1,25 @@
 use Rattle.std.proofs.Common.{◌≡◌, ◌-◌, List, set, map, refl, sym, ap, subst}
-use Rattle.std.specs.Prelude.{vec_capacity, vec_len}
-use Rattle.regions.specs.AddressSpace.{AddressSpace}
-use Rattle.vm_model.specs.Regions.{replace_region, with_lock}
+use Rattle.std.specs.Prelude.{IsSome, vec_capacity, vec_len}
+use Rattle.regions.specs.AddressSpace.{AddressSpace, StartsAt}
+use Rattle.vm_model.specs.Regions.{region_among, replace_region, with_lock}
 use Rattle.regions.specs.Seen.{region_seen, IsPlaceOf}
 use Rattle.regions.specs.declared.region.Region.{Region}
 use Rattle.regions.proofs.Changed.{changed, same_space, space}
 use Rattle.regions.proofs.Ordered.{lock_keeps}
 use Rattle.regions.proofs.map.RegionMap.set_locked.Goals as goal
+
+pub known_place-place-requires-clause-order : goal.known_place-place-requires-clause-order
+known_place-place-requires-clause-order c = rw c.deref.ensures.value c.self.invariant.order
+
+pub known_place-place-requires-clause-start : goal.known_place-place-requires-clause-start
+known_place-place-requires-clause-start c =
+    subst (λ (ys : List Region). StartsAt c.args.id.0 c.args.start (map region_seen ys)) (sym c.deref.ensures.value)
+    (subst (λ (s : AddressSpace). StartsAt c.args.id.0 c.args.start s.regions) (sym c.self.view_is) c.requires.start)
+
+pub known_place-place-requires-clause-there : goal.known_place-place-requires-clause-there
+known_place-place-requires-clause-there c =
+    subst (λ (ys : List Region). IsSome (region_among c.args.id.0 (map region_seen ys))) (sym c.deref.ensures.value)
+    (subst (λ (s : AddressSpace). IsSome (region_among c.args.id.0 s.regions)) (sym c.self.view_is) c.requires.there)
 
 pub invariant_of-self : goal.invariant_of-self
 invariant_of-self c =

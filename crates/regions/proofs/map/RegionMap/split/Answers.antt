@@ -1,16 +1,25 @@
-use Rattle.std.proofs.Common.{◌≡◌, ◌-◌, ◌+◌, ◌<◌, ◌≤◌, List, map, sym, ap, ◌∙◌, subst, arith, refl}
+use Rattle.std.proofs.Common.{◌≡◌, ◌-◌, ◌+◌, ◌*◌, ◌<◌, ◌≤◌, List, get_or, map, Option, sym, ap, ◌∙◌, subst, arith, refl}
 use Rattle.std.specs.Prelude.{IsSome, IsSomeAnd, vec_capacity, vec_len}
 use Rattle.vm_model.specs.Machine as model
 use Rattle.vm_model.specs.Regions.{region_among, replace_region, split_at}
-use Rattle.regions.specs.AddressSpace.{AddressSpace, AreInOrder, IsWellFormed}
+use Rattle.regions.specs.AddressSpace.{AddressSpace, AreInOrder, IsWellFormed, StartsAt}
 use Rattle.regions.specs.Seen.{region_seen, IsPlaceOf}
 use Rattle.regions.specs.declared.region.Region.{Region}
 use Rattle.regions.proofs.Changed.{cut, is_there, same_space, so_of_found, space}
+use Rattle.regions.proofs.Found.{among_found}
 use Rattle.regions.proofs.Ordered.{formed_at}
 use Rattle.regions.proofs.map.RegionMap.split.Goals as goal
 
-pub known_place-place-requires : goal.known_place-place-requires
-known_place-place-requires c =
+pub known_place-place-requires-clause-order : goal.known_place-place-requires-clause-order
+known_place-place-requires-clause-order c = rw c.deref.ensures.value c.self.invariant.order
+
+pub known_place-place-requires-clause-start : goal.known_place-place-requires-clause-start
+known_place-place-requires-clause-start c =
+    subst (λ (ys : List Region). StartsAt c.args.id.0 c.args.start (map region_seen ys)) (sym c.deref.ensures.value)
+    (subst (λ (s : AddressSpace). StartsAt c.args.id.0 c.args.start s.regions) (sym c.self.view_is) c.requires.start)
+
+pub known_place-place-requires-clause-there : goal.known_place-place-requires-clause-there
+known_place-place-requires-clause-there c =
     let n = c.args.id.0 in
     let P : model.Region → Type 0 = λ r. c.args.pages < r.pages in
     let there = is_there (region_among n c.args.self.now.regions) P c.requires.fewer in
@@ -66,8 +75,8 @@ invariant_of-self c =
       order = subst (λ (ys : List Region). AreInOrder b 0 (map region_seen ys)) (sym c.in-Ok.ensures.items) made.order;
     }
 
-pub returns : goal.returns
-returns c =
+pub returns-clause-cut : goal.returns-clause-cut
+returns-clause-cut c =
     let n = c.args.id.0 in
     let b = c.self.inside.page_bytes in
     let rs = c.self.inside.regions.items in
@@ -102,3 +111,17 @@ returns c =
     ≡ record s { spare = s.spare - 1; regions = replace_region n (split_at s.page_bytes c.args.pages c.args.fresh.0) s.regions })
     c.self.view_is
     (same_space b _ _ _ _ less there)
+
+pub returns-clause-address : goal.returns-clause-address
+returns-clause-address c =
+    let n = c.args.id.0 in
+    let b = c.self.inside.page_bytes in
+    let rs = c.self.inside.regions.items in
+    let k = c.known_place-place.result in
+    let read = c.index.result.now in
+    let address = c.start-address.result in
+    let place = subst (λ (ys : List Region). IsPlaceOf n ys k) c.deref.ensures.value c.known_place-place.ensures in
+    let start : address ≡ (region_seen read).start + b * c.args.pages = c.start-address.ensures ∙ ap (λ (x : model.Region). x.start) c.back-back.ensures in
+    let here : address ≡ (region_seen (get_or rs k read)).start + b * c.args.pages = subst (λ (r : Region). address ≡ (region_seen r).start + b * c.args.pages) c.index.ensures start in
+    subst (λ (s : AddressSpace). IsSomeAnd (region_among n s.regions) (λ r. address ≡ r.start + s.page_bytes * c.args.pages)) c.self.view_is
+    (subst (λ (o : Option model.Region). IsSomeAnd o (λ r. address ≡ r.start + b * c.args.pages)) (sym (among_found n rs k read place)) here)

@@ -1,11 +1,19 @@
 use Rattle.std.proofs.Common.{◌≡◌, List, get_or, map, Some, sym, ap, subst, ◌∙◌}
 use Rattle.std.specs.Prelude.{option_map}
 use Rattle.vm_model.specs.Regions.{region_among}
-use Rattle.regions.specs.AddressSpace.{AddressSpace, view_of}
+use Rattle.regions.specs.AddressSpace.{AddressSpace, StartsAt, view_of}
 use Rattle.regions.specs.Seen.{region_seen, IsPlaceOf}
 use Rattle.regions.specs.declared.region.Region.{Region}
 use Rattle.regions.proofs.Found.{among_found, among_none}
 use Rattle.regions.proofs.map.RegionMap.status.Goals as goal
+
+pub place_of-requires-clause-order : goal.place_of-requires-clause-order
+place_of-requires-clause-order c = rw c.deref.ensures.value c.self.invariant.order
+
+pub place_of-requires-clause-start : goal.place_of-requires-clause-start
+place_of-requires-clause-start c =
+    subst (λ (ys : List Region). StartsAt c.args.id.0 c.args.start (map region_seen ys)) (sym c.deref.ensures.value)
+    (subst (λ (s : AddressSpace). StartsAt c.args.id.0 c.args.start s.regions) (sym c.self.view_is) c.requires)
 
 pub returns : goal.returns
 returns c =
