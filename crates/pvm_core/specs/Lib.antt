@@ -13,3 +13,4 @@ pub mod Writes
 pub mod Saving
 pub mod Translated
 pub mod Standing
+pub mod Leaving

@@ -1,20 +1,19 @@
 // Temporary caches are made, and caches copied, moved and destroyed.
-ghost use Rattle.std.specs.Prelude.{◌≡◌, ◌⊎◌, ◌≤◌, ◌^◌, false, Err, IfErr, OnErr, OnOk};
+ghost use Rattle.std.specs.Prelude.{◌≡◌, ◌⊎◌, ◌≤◌, ◌^◌, false, Err, OnErr, OnOk};
 ghost use Rattle.vm_ids.specs.Forest.Commands.{extent_names};
 ghost use Rattle.vm_ids.specs.Forest.NameLists.{◌∈◌};
 ghost use Rattle.vm_ids.specs.Forest.Laws.Settling.{IsSettled};
 ghost use Rattle.vm_model.specs.Answering.{answer_by};
 ghost use Rattle.gmi_calls.specs.Calling.{CallDone, Fits, MapperCall, done_by};
-ghost use Rattle.pvm_core.specs.Keeping.{CopiesNothing, FillsOnly, HasMoreRoom};
-ghost use Rattle.pvm_core.specs.Saving.{CopiesSaved, IfNotReady, IsBeforeSaves, NeedsNoSave, NeedsNothing, RefusedOf, all_of, is_named};
+ghost use Rattle.pvm_core.specs.Keeping.{CopiesNothing, HasMoreRoom};
+ghost use Rattle.pvm_core.specs.Leaving.{ReplacesPages};
+ghost use Rattle.pvm_core.specs.Saving.{CopiesSaved, all_of, is_named};
 ghost use Rattle.pvm_core.specs.Spans.{read_from, replaced};
-ghost use Rattle.pvm_core.specs.Writes.{AreWritable, GrantsWithin, OnlyAsked};
 ghost use Rattle.pvm_core.specs.Manager.{IsValid, machine_of, meaning, nodes_of, numbered};
 
 use crate::Pvm;
 use crate::nodes::reserve;
 use crate::spans::{copy_refusal, destination, move_refusal};
-use crate::translations::may_be_mapped;
 use page_release::{copy_pages, destroy_pages, move_pages};
 use vm_ids::{CacheId, Command, Extent, PageNo, Refusal, Reply, Span, Trouble};
 use vm_model::{LIVE_PAGES, MOST_MADE};
@@ -96,34 +95,15 @@ impl Pvm {
         requires fits { Fits (M.page_bytes mapper.old) (machine_of self.old (M.held mapper.old)) }
         ensures call { MapperCall M.Mapper meaning mapper.old self.old
             (Command.Copy span) (done_by result) mapper.new self.new }
-        // A page is copied for a save alone. Where none is needed, none is pulled or pushed either,
-        // and frames are given back alone; where the writes are granted too, the mapper isn't
-        // called. Where saves are needed, no page comes to a frame but those that are saved and
-        // those that get them.
-        ensures copies { CopiesSaved (replaced span) self.old (M.held mapper.old) self.new result }
-        ensures still { NeedsNoSave self.old.caches (replaced span)
-            → OnlyAsked M.Mapper mapper.old mapper.new × (chooser.new ≡ chooser.old)
-            × CopiesNothing self.old self.new }
-        ensures idle { NeedsNothing self.old.caches (replaced span) → (mapper.new ≡ mapper.old)
-            × OnErr result (HasMoreRoom self.old self.new) }
-        ensures fills { FillsOnly (replaced span)
-            (λ x. x ∈ extent_names (replaced span)) self.old self.new }
-        ensures settled { OnOk result (IsSettled (nodes_of self.new)) }
-        // Write access is asked first, then memory is taken; every page is as before then, and what
-        // was granted stays so.
-        ensures refused { RefusedOf self.old self.new mapper.old mapper.new result }
-        ensures unready { IfNotReady (replaced span)
-            self.old (M.held mapper.old) self.new (M.held mapper.new) result }
-        ensures first { IfErr result (λ trouble. IsBeforeSaves trouble
-            → OnlyAsked M.Mapper mapper.old mapper.new × (chooser.new ≡ chooser.old)) }
-        ensures grants { GrantsWithin (replaced span) self.old.caches self.new.caches }
-        ensures writable { OnOk result (AreWritable (replaced span) self.new.caches) }
+        ensures replaces { ReplacesPages M.Mapper (replaced span)
+            (λ x. x ∈ extent_names (replaced span))
+            mapper.old chooser.old self.old result mapper.new chooser.new self.new }
     {
         if let Some(refusal) = copy_refusal(&self.caches, span) {
             return Err(Trouble::Refused(refusal));
         }
         self.make_ready(destination(span), 2 * span.pages, mapper, chooser)?;
-        let mapped = may_be_mapped(&self.contexts, span.to, span.pages);
+        let mapped = self.contexts.maps(span.to);
         copy_pages(&mut self.store, &mut self.caches, span, mapped);
         Ok(())
     }
@@ -142,36 +122,16 @@ impl Pvm {
         requires fits { Fits (M.page_bytes mapper.old) (machine_of self.old (M.held mapper.old)) }
         ensures call { MapperCall M.Mapper meaning mapper.old self.old
             (Command.Move span) (done_by result) mapper.new self.new }
-        // A page is copied for a save alone. Where none is needed, none is pulled or pushed either,
-        // and frames are given back alone; where the writes are granted too, the mapper isn't
-        // called. Where saves are needed, no page comes to a frame but those that are saved and
-        // those that get them.
-        ensures copies { CopiesSaved (replaced span) self.old (M.held mapper.old) self.new result }
-        ensures still { NeedsNoSave self.old.caches (replaced span)
-            → OnlyAsked M.Mapper mapper.old mapper.new × (chooser.new ≡ chooser.old)
-            × CopiesNothing self.old self.new }
-        ensures idle { NeedsNothing self.old.caches (replaced span) → (mapper.new ≡ mapper.old)
-            × OnErr result (HasMoreRoom self.old self.new) }
-        ensures fills { FillsOnly (replaced span)
+        ensures replaces { ReplacesPages M.Mapper (replaced span)
             (λ x. (x ∈ extent_names (replaced span)) ⊎ (x ∈ extent_names (read_from span)))
-            self.old self.new }
-        ensures settled { OnOk result (IsSettled (nodes_of self.new)) }
-        // Write access is asked first, then memory is taken; every page is as before then, and what
-        // was granted stays so.
-        ensures refused { RefusedOf self.old self.new mapper.old mapper.new result }
-        ensures unready { IfNotReady (replaced span)
-            self.old (M.held mapper.old) self.new (M.held mapper.new) result }
-        ensures first { IfErr result (λ trouble. IsBeforeSaves trouble
-            → OnlyAsked M.Mapper mapper.old mapper.new × (chooser.new ≡ chooser.old)) }
-        ensures grants { GrantsWithin (replaced span) self.old.caches self.new.caches }
-        ensures writable { OnOk result (AreWritable (replaced span) self.new.caches) }
+            mapper.old chooser.old self.old result mapper.new chooser.new self.new }
     {
         if let Some(refusal) = move_refusal(&self.caches, span) {
             return Err(Trouble::Refused(refusal));
         }
         self.make_ready(destination(span), span.pages, mapper, chooser)?;
-        let from_mapped = may_be_mapped(&self.contexts, span.from, span.pages);
-        let to_mapped = may_be_mapped(&self.contexts, span.to, span.pages);
+        let from_mapped = self.contexts.maps(span.from);
+        let to_mapped = self.contexts.maps(span.to);
         move_pages(
             &mut self.store,
             &mut self.caches,

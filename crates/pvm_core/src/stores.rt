@@ -1,5 +1,5 @@
 // The parts of a store: the page is found by its translation, or else made ready for the write.
-ghost use Rattle.std.specs.Prelude.{◌≡◌, ◌≢◌, ℕ, ◌+◌, ◌≤◌, ◌^◌, Option, length, true, false, Ok, Err, IfErr, IfNone, IfOk, IfSome, IsOk, IsSome, List, OnErr, OnOk};
+ghost use Rattle.std.specs.Prelude.{◌≡◌, ◌≢◌, ℕ, ◌+◌, ◌≤◌, ◌^◌, Option, length, true, false, Ok, Err, IfErr, IfNone, IfOk, IfSome, IsOk, List, OnErr, OnOk};
 ghost use Rattle.vm_ids.specs.Held.{Held};
 ghost use Rattle.vm_ids.specs.Forest.Commands.{page_name};
 ghost use Rattle.vm_model.specs.Machine.{numbered as has_number};
@@ -12,8 +12,8 @@ ghost use Rattle.gmi_calls.specs.Calling.{CallDone, Fits, MapperCall, done_by};
 ghost use Rattle.gmi_calls.specs.Parking.{AccessCall, IsDelivered, NoMoreReady, NoPull, StillAdmits, Waits};
 ghost use Rattle.segment_ops.specs.Access.{GrantsStay};
 ghost use Rattle.pvm_core.specs.Access.{Admits, AreNodesOf, AskedInVain, IsLookedFor, IsMissAt, IsNoPage, IsReadyToWrite, OnNoAccess, is_ready};
+ghost use Rattle.pvm_core.specs.Leaving.{IsTranslatedToWrite};
 ghost use Rattle.pvm_core.specs.Manager.{IsValid, machine_of, meaning, numbered, state_at};
-ghost use Rattle.pvm_core.specs.Translated.{found_for, frame_to_write};
 
 use crate::Pvm;
 use crate::loads::NodesAt;
@@ -39,8 +39,8 @@ impl Pvm {
         ensures admits { StillAdmits Admits self.old self.new }
         ensures copies { self.new.caches.copies ≡ self.old.caches.copies }
         ensures grants { GrantsStay self.old.caches self.new.caches }
-        ensures translated { result ≡ true → IsSome (frame_to_write (found_for
-            self.new.page_bytes self.new.store.tables actor.0 address (length piece.now))) }
+        ensures translated { result ≡ true
+            → IsTranslatedToWrite self.new actor.0 address (length piece.now) }
     {
         let bytes = piece.as_slice();
         let length = bytes.len() as u8;
@@ -141,8 +141,8 @@ impl Pvm {
         ensures victim { is_ready self.old actor.0 address ≡ true
             → IfErr result (λ trouble. trouble ≡ Trouble.Mapper FaultAt.Victim) }
         ensures grants { GrantsStay self.old.caches self.new.caches }
-        ensures translated { OnOk result (IsSome (frame_to_write (found_for self.new.page_bytes
-            self.new.store.tables actor.0 address (length piece.now)))) }
+        ensures translated { OnOk result
+            (IsTranslatedToWrite self.new actor.0 address (length piece.now)) }
     {
         let bytes = piece.as_slice();
         match write_from_owner(
@@ -207,8 +207,9 @@ impl Pvm {
     }
 
     /// Issues a store: it is answered as by `store`, or it has to wait for its page, which is
-    /// `None`: exactly where nothing refuses it, no call of the mapper failed and the page is
-    /// neither in a frame nor zeros. No page is pulled.
+    /// `None`. Where the page is in a frame or zeros it is answered; where it isn't, the store is
+    /// refused, answers a fault of the mapper, or else waits, and then a call of the mapper may have
+    /// failed all the same. No page is pulled.
     pub fn issue_store<M: Mapper, C: Chooser>(
         &mut self,
         actor: ActorId,
@@ -234,8 +235,8 @@ impl Pvm {
         ensures still_admits { StillAdmits Admits self.old self.new }
         ensures copies { self.new.caches.copies ≤ self.old.caches.copies + 2 }
         ensures grants { GrantsStay self.old.caches self.new.caches }
-        ensures translated { IfSome result (λ r. OnOk r (IsSome (frame_to_write (found_for
-            self.new.page_bytes self.new.store.tables actor.0 address (length piece.now))))) }
+        ensures translated { IfSome result (λ r. OnOk r
+            (IsTranslatedToWrite self.new actor.0 address (length piece.now))) }
     {
         if self.store_seen(actor, address, piece) {
             return Some(Ok(()));
@@ -277,8 +278,8 @@ impl Pvm {
         ensures still_admits { StillAdmits Admits self.old self.new }
         ensures copies { self.new.caches.copies ≤ self.old.caches.copies + 2 }
         ensures grants { GrantsStay self.old.caches self.new.caches }
-        ensures translated { OnOk result.0 (IsSome (frame_to_write (found_for
-            self.new.page_bytes self.new.store.tables actor.0 address (length piece.now)))) }
+        ensures translated { OnOk result.0
+            (IsTranslatedToWrite self.new actor.0 address (length piece.now)) }
     {
         if self.store_seen(actor, address, piece) {
             return (Ok(()), true);

@@ -53,7 +53,8 @@ use Rattle.seg_manager.specs.ReferenceMachine.{start as no_openings}
 use Rattle.seg_manager.specs.Stepping.{State as SegmentState}
 use Rattle.seg_manager.specs.Tying.{IsBare as IsBareForSegments, noted_regions}
 use Rattle.replay.specs.Ending.{CommandScene, EndsAs, FlatEnds, KeepEnds, MixEnds, Outside, PortEnds, RunEnds, scene_of_frames, scene_of_ports, scene_of_processes, scene_of_segments, scene_with, status_of, stored_in}
-use Rattle.flat_mm.specs.TwoManagers.{frames_left}
+use Rattle.flat_mm.specs.Manager.{IsValid, flat}
+use Rattle.flat_mm.specs.Manager.{Manager as FramedManager}
 use Rattle.replay.specs.Framed.{framed_command_of, framed_semantics}
 use Rattle.replay.specs.Managing.{CanCall, CanCallFramed}
 use Rattle.replay.specs.Posting.{port_semantics}
@@ -216,14 +217,12 @@ can_call G gmi told page_bytes frames bytes valid unlimited pages starts = recor
   living = living_start frames bytes (G.machine gmi told) starts;
 }
 
--- and one whose live pages have frames
-pub can_call_framed : {Manager Mapper Chooser : Type 0} (G : GhostsOfGmi Manager Mapper Chooser) (gmi : Manager) (told : Option Held) (page_bytes : Option ℕ) (frames named : ℕ)
-    → G.valid gmi told → ((now : Manager) (held : Option Held) → G.valid now held → G.room now ≡ Some (frames_left (G.machine now held))) → IfSome page_bytes (λ n. n ≡ named) → named ≡ PAGE → G.machine gmi told ≡ start frames PAGE → CanCallFramed G gmi told page_bytes
-can_call_framed G gmi told page_bytes frames named valid room pages same starts = record {
+-- and the one whose live pages have frames
+pub can_call_framed : (gmi : FramedManager) (told : Option Held) (page_bytes : Option ℕ) (frames named : ℕ) → IsValid gmi told → IfSome page_bytes (λ n. n ≡ named) → named ≡ PAGE → flat.machine gmi told ≡ start frames PAGE → CanCallFramed gmi told page_bytes
+can_call_framed gmi told page_bytes frames named valid pages same starts = record {
   valid = valid;
-  room = room;
-  fits = fits_start page_bytes frames PAGE named (G.machine gmi told) pages same starts;
-  live = live_start frames PAGE (G.machine gmi told) starts;
+  fits = fits_start page_bytes frames PAGE named (flat.machine gmi told) pages same starts;
+  live = live_start frames PAGE (flat.machine gmi told) starts;
 }
 
 -- what it takes to make processes over a manager that began

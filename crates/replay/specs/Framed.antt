@@ -9,6 +9,7 @@ use Rattle.vm_model.specs.Answering.{Answer}
 use Rattle.vm_model.specs.Run.{Read, State}
 use Rattle.vm_model.specs.Steps.{Semantics}
 use Rattle.actor_script.specs.Forms.{command_of}
+use Rattle.flat_mm.specs.Alone.{AsksAlone}
 use Rattle.flat_mm.specs.TwoManagers.{IsAnsweredWithin}
 use Rattle.replay.specs.AtOnce.{Meaning, at_once}
 
@@ -32,11 +33,12 @@ IsQuietlyFull (Err (Refused Full)) rises = rises ≡ no_counts
 IsQuietlyFull answer rises = Unit {0}
 
 -- A command is answered as by the machine, or `Full` exactly where more pages are asked than frames
--- are left.
+-- are left; with a load, a store, a lock or a page-out no page comes or goes.
 pub record IsFramedAnswer (before : State) (command : Command) (answer : Answer)
     (rises : MapperCounts) (after : State) : Type 0 where
   pub within : IsAnsweredWithin before (Ok command) answer rises after
   pub quiet : IsQuietlyFull answer rises
+  pub alone : AsksAlone command rises
 
 -- what its commands mean
 abbrev pub framed_meaning : Meaning Command

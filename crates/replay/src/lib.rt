@@ -10,10 +10,10 @@
 //!
 //! It stands on the loop over lines (`line_service`), for which a manager of the interface answers
 //! the commands of a script (`commands`), or whoever answers each at once (`at_once`): processes,
-//! message ports and segments over a manager, or a manager without paging (`frames`). Only
-//! `replaying` and `trying` name managers: the demand-paged one, and for one word the other. The
-//! program makes one call, [`run`]. The lines that a number makes are
-//! written by `generating`, and answered by `trying`, which writes their summary.
+//! message ports and segments over a manager, or the manager without paging (`frames`). Only
+//! `replaying` and `trying` name the demand-paged manager, and for one word `replaying` and `frames`
+//! the other. The program makes one call, [`run`]. The lines that a number makes are written by
+//! `generating`, and answered by `trying`, which writes their summary.
 #![tactic(auto)]
 
 mod asked;

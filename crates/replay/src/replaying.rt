@@ -10,7 +10,6 @@ use crate::Status;
 use crate::asked::Size;
 use crate::at_once::AtOnce;
 use crate::commands::Commands;
-use crate::frames::Frames;
 use flat_mm::FlatMm;
 use line_service::{Service, replay};
 use mix_process::Mix;
@@ -233,8 +232,7 @@ pub fn replay_flat<S: Source, K: Sink, M: Mapper, C: Chooser, D: Dispatcher>(
         Ok(manager) => manager,
         Err(_) => return Status::NoMemory,
     };
-    let answerer = Frames { gmi: manager };
-    let mut commands = AtOnce { answerer };
+    let mut commands = AtOnce { answerer: manager };
     replay_lines(
         alloc,
         &mut commands,

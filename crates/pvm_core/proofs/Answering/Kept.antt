@@ -1,5 +1,5 @@
 -- What stays where actors alone change, and where pages are moved about.
-use Rattle.std.proofs.Common.{◌≡◌, ℕ, ◌+◌, ◌≤◌, Bool, true, false, cond, List, [], ◌∷◌, length, Option, Some, None, is_some, refl, sym, ap, ◌∙◌, subst, arith}
+use Rattle.std.proofs.Common.{◌≡◌, ℕ, ◌+◌, ◌≤◌, Bool, List, length, Option, Some, None, is_some, refl, sym, ap, ◌∙◌, subst, arith}
 use Rattle.std.specs.Prelude.{IfSome, OnErr, Result, Ok, Err, option_map, sum_by, count_by}
 use Rattle.std.specs.FinMap as ids
 use Rattle.std.proofs.lemmas.List.{length-map}
@@ -10,10 +10,8 @@ use Rattle.vm_ids.specs.declared.numbers.SegId.{SegId}
 use Rattle.vm_ids.specs.declared.node_name.NodeName.{NodeName}
 use Rattle.vm_ids.specs.declared.node_name.NodeName.TheVariants.{Working}
 use Rattle.vm_ids.specs.Forest.Commands.{page_name}
-use Rattle.vm_ids.specs.Forest.NameMap.{contains_key, from_entries, len}
 use Rattle.vm_ids.specs.Forest.Nodes.{IsNode}
 use Rattle.vm_ids.proofs.Forest.Agreeing.{bounded_from, live_count-le, working_count-le}
-use Rattle.vm_ids.proofs.Forest.NameMap.{len-insert}
 use Rattle.local_cache.specs.Arena.{Arena, Cell, Table, page_count, table_at}
 use Rattle.local_cache.specs.Arena as arena_of
 use Rattle.local_cache.specs.Changes.{Like}
@@ -70,15 +68,6 @@ seated_valid p q h caches store page v = valid caches store page
         moved v = record { right = v.right; sized = v.sized; full = v.full; whole = v.whole }
 
 -- The number of nodes
-
-one_more : (b : Bool) (n k : ℕ) → n ≤ k → cond b n (n + 1) ≤ k + 1
-one_more true n k e = omega (arith, e)
-one_more false n k e = omega (arith, e)
-
-entries_len : {X : Type 0} (es : List (NodeName × X)) → len (from_entries es) ≤ length es
-unfolding from_entries Rattle.vm_ids.specs.Forest.NameMap.empty
-entries_len [] = omega arith
-entries_len (e ∷ es) = omega (arith, len-insert (from_entries es) e.0 e.1, one_more (contains_key (from_entries es) e.0) (len (from_entries es)) (length es) (entries_len es))
 
 keys_states : (a : Arena) → length (own_states a) ≡ length (ids.keys a.cells)
 keys_states a = length-map (ids.values a.cells) (λ c. c.own) ∙ length-map (ids.entries a.cells) (λ e. e.1) ∙ sym (length-map (ids.entries a.cells) (λ e. e.0))

@@ -6,6 +6,7 @@ use Rattle.vm_ids.specs.Held.{Held, Segments, segments_of}
 use Rattle.vm_ids.specs.declared.command.Command.TheVariants as commands
 use Rattle.vm_ids.specs.declared.command.Extent.{Extent}
 use Rattle.vm_ids.specs.declared.numbers.PageNo.{PageNo}
+use Rattle.vm_ids.specs.declared.refusal.Refusal.{Refusal}
 use Rattle.vm_ids.specs.declared.reply.FaultAt.TheVariants as faults
 use Rattle.vm_ids.specs.declared.reply.Reply.TheVariants as replies
 use Rattle.vm_ids.specs.declared.reply.Trouble.{Trouble}
@@ -41,6 +42,11 @@ failing (Err page) = Err (troubles.Mapper (faults.Page page))
 pub failing_ok : (P : Type 0) (r : Result (Unit {0}) PageNo) → OnOk r P → OnOk (failing r) P
 failing_ok P (Ok x) p = p
 failing_ok P (Err page) p = tt
+
+-- which is no refusal
+pub never_refused : (r : Result (Unit {0}) PageNo) (x : Refusal) → failing r ≡ Err (troubles.Refused x) → ⊥
+never_refused (Ok u) x e = cc e
+never_refused (Err page) x e = cc e
 
 pub fault_rose : (c d : MapperCounts) (miss : Miss) → HasMissCause c d miss → Rose c.faults d.faults
 fault_rose c d Pull cause = cause.faults

@@ -64,9 +64,6 @@ module _ (p q : Manager) (h : Option Held) (seg : SegId) (n : ℕ) (free : IsOpe
   machine : machine_of q h ≡ machine_of p h
   machine = ap (machine_by q) forest ∙ by (forest_of p h)
 
-  zero_pages : List Page
-  zero_pages = replicate n (zero_page p.page_bytes)
-
   long : length (pages_for h seg n) ≡ n
   long = many h seg p.page_bytes n has
 

@@ -5,7 +5,7 @@ use Rattle.std.proofs.lemmas.Bool.{cases_lt}
 use Rattle.vm_ids.specs.declared.command.Prot.{Prot}
 use Rattle.vm_model.specs.Machine.{Region}
 use Rattle.vm_model.specs.Place.{holds, region_at}
-use Rattle.vm_model.specs.Regions.{back_of, split_at, with_lock, with_prot}
+use Rattle.vm_model.specs.Regions.{back_of, split_at, with_prot}
 use Rattle.pvm_core.proofs.Translating.Held.{held_from, held_not, held_parts}
 use Rattle.pvm_core.proofs.Translating.Places.{Shows}
 use Rattle.pvm_core.proofs.Translating.Regions.{Becomes}
@@ -25,12 +25,6 @@ module _ (b address : ℕ) (writable : Bool) (r : Region) where
   prot_becomes prot allows = record {
     holding = λ k. (record r { may_write = prot.write }, alone (record r { may_write = prot.write }) k, record { cache = refl; page = refl; allowed = λ w may. allows k w });
     other = λ k. none (record r { may_write = prot.write }) k;
-  }
-
-  pub lock_becomes : (locked : Bool) → Becomes b address writable r (with_lock locked r)
-  lock_becomes locked = record {
-    holding = λ k. (record r { locked = locked }, alone (record r { locked = locked }) k, record { cache = refl; page = refl; allowed = λ w may. may });
-    other = λ k. none (record r { locked = locked }) k;
   }
 
   -- it keeps its first pages, and another region has those behind them

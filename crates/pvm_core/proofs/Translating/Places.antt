@@ -51,10 +51,6 @@ module _ (t : Actors) (actor page : ℕ) (at : Place) where
                 is = sym is ∙ ap (place_in b first) same;
               }
 
-pub place_is : (u : Actors) (actor page : ℕ) (rs : Actor) (r : Region) → numbered u.actors actor ≡ Some rs → nat_lt u.page_bytes ((page * u.page_bytes) % u.page_bytes + 1) ≡ false
-    → region_at u.page_bytes (page * u.page_bytes) rs ≡ Some r → place_of_page u actor page ≡ Ok (place_in u.page_bytes (page * u.page_bytes) r)
-place_is u actor page rs r here whole found = rw (here, whole, found) refl
-
 -- what one region shows at an address another shows too, and allows as much where that matters
 pub record Shows (b address : ℕ) (writable : Bool) (r q : Region) : Type 0 where
   pub cache : q.cache ≡ r.cache

@@ -1,7 +1,6 @@
-use Rattle.std.proofs.Common.{◌∙◌, Some, ap, refl}
+use Rattle.std.proofs.Common.{◌∙◌, ap, refl}
 use Rattle.vm_model.specs.Outcome.{seen_at}
-use Rattle.flat_mm.specs.Manager.{machine_in}
-use Rattle.flat_mm.proofs.Rooms.{same_left, seen_start}
+use Rattle.flat_mm.proofs.Rooms.{seen_start}
 use Rattle.replay.specs.Ending.{outside_of}
 use Rattle.replay.proofs.Promise.{can_call_framed, flat_ends, unbegun}
 use Rattle.replay.proofs.replaying.replay_flat.Goals as goal
@@ -10,7 +9,7 @@ pub replay_lines-requires-clause-able : goal.replay_lines-requires-clause-able
 replay_lines-requires-clause-able g c =
     let M = g.M.Mapper in
     let told = M.held c.args.mapper.now in
-    can_call_framed _ _ told (M.page_bytes c.args.mapper.now) c.args.frames 4096 (c.in-Ok.ensures.valid told) (λ now held valid. ap (λ n. Some n) (same_left held (machine_in now))) c.requires.page refl (ap (seen_at told) c.in-Ok.ensures.machine ∙ seen_start told c.args.frames 4096)
+    can_call_framed _ told (M.page_bytes c.args.mapper.now) c.args.frames 4096 (c.in-Ok.ensures.valid told) c.requires.page refl (ap (seen_at told) c.in-Ok.ensures.machine ∙ seen_start told c.args.frames 4096)
 
 pub returns-clause-ends : goal.returns-clause-ends
 returns-clause-ends g c = λ some.

@@ -33,12 +33,12 @@ use Rattle.pvm_core.proofs.Readiness.Readying.{named_same}
 use Rattle.pvm_core.proofs.Spanning.Readied.{IsReadied, readied, readied_replace, readied_room, readied_transfer, transferred, transferred_right, undenied_then}
 use Rattle.pvm_core.proofs.Meaning.Shown.{shown_size}
 use Rattle.pvm_core.proofs.Spanning.SpanRows.{IsOpen, is_movable, is_open, move_refused}
-use Rattle.pvm_core.proofs.Spanning.Transferring.{IsTransfer, copies_itself, nothing_given_back}
-use Rattle.pvm_core.proofs.Spanning.Unready.{unready}
+use Rattle.pvm_core.proofs.Spanning.Transferring.{IsTransfer, nothing_given_back}
+use Rattle.pvm_core.proofs.Spanning.Unready.{refused_first, unready}
 use Rattle.pvm_core.proofs.Spanning.Transfers.{move_follows, moved_outcome, moved_transfer, moved_valid, named_machine, named_there}
 use Rattle.page_release.proofs.CommandSteps.Ranges.{destination_names, source_names}
-use Rattle.pvm_core.proofs.Readiness.Filled.{fills_but, fills_itself, fills_then}
-use Rattle.pvm_core.proofs.Readiness.Granted.{asked_itself, within_itself, within_then}
+use Rattle.pvm_core.proofs.Readiness.Filled.{fills_then}
+use Rattle.pvm_core.proofs.Readiness.Granted.{within_then}
 use Rattle.pvm_core.proofs.Translating.Left.{left_right}
 use Rattle.pvm_core.proofs.Translating.Unmapped.{seen_sought}
 use Rattle.pvm_core.proofs.Translating.Writable.{homes_writable}
@@ -57,17 +57,8 @@ returns-in-Some-clause-call g c = refused_seen c.self.view_is c.requires.valid (
     (λ j. any_same p f c.self.invariant.sound.locked.counted (read_from s) j || any_same p f c.self.invariant.sound.locked.counted (replaced s) j)
     ((λ j. move_refusal (shown_size f p.caches.caches s.from.0 j) (is_named p.caches s.from.0) (shown_size f p.caches.caches s.to.0 j) (any_locked p.caches (read_from s) || any_locked p.caches (replaced s)) s) ∙ sym c.move_refusal.ensures.refusal ∙ c.in-Some.is)))
 
-pub returns-in-Some-clause-unready : goal.returns-in-Some-clause-unready
-returns-in-Some-clause-unready g c = λ trouble e only. absurd (c.move_refusal.ensures.unasked (c.in-Some.is ∙ ap (λ r. Some r) (only c.in-Some.refusal (let k : trouble ≡ troubles.Refused c.in-Some.refusal = cc e in k))))
-
-pub returns-in-Some-clause-first : goal.returns-in-Some-clause-first
-returns-in-Some-clause-first g c = λ before. (asked_itself g.M.Mapper c.args.mapper.now, refl)
-
-pub returns-in-Some-clause-still : goal.returns-in-Some-clause-still
-returns-in-Some-clause-still g c = λ none. (asked_itself g.M.Mapper c.args.mapper.now, refl, copies_itself c.args.self.now)
-
-pub returns-in-Some-clause-grants : goal.returns-in-Some-clause-grants
-returns-in-Some-clause-grants g c = within_itself (replaced c.args.span) c.args.self.now.caches
+pub returns-in-Some-clause-replaces : goal.returns-in-Some-clause-replaces
+returns-in-Some-clause-replaces g c = refused_first g.M.Mapper c.args.mapper.now c.args.mapper.now c.args.chooser.now c.args.chooser.now c.args.self.now c.args.self.now (replaced c.args.span) (λ x. (x ∈ extent_names (replaced c.args.span)) ⊎ (x ∈ extent_names (read_from c.args.span))) c.in-Some.refusal (λ asked. c.move_refusal.ensures.unasked (c.in-Some.is ∙ ap (λ r. Some r) asked))
 
 -- nothing refuses the move
 movable : (g : Over) (c : In_default g) → (copy_refusal (size_of c.self.inside.caches c.args.span.from.0) (size_of c.self.inside.caches c.args.span.to.0) (any_locked c.self.inside.caches (replaced c.args.span)) c.args.span ≡ None)
@@ -109,21 +100,9 @@ returns-in_err-make_ready g c =
     let i = c.self.inside in
     let out = open_span g places.In_default in
     let e = c.make_ready.ensures in
-    let ends = unready g.M.Mapper c.args.mapper.now c.make_ready.new.mapper c.args.chooser.now c.make_ready.new.chooser c.args.self.now c.make_ready.new.self (seen i.caches i.store i.contexts) c.self.view_is c.args.span (commands.Move c.args.span) (transfer g places.In_default) c.self.invariant.sound.nodes out.to out.to_is out.to_ends
-    c.destination.result c.destination.ensures c.make_ready.result c.from_residual.result c.in_err-make_ready.field-0.0 c.in_err-make_ready.was (err_is c.from_residual.result _ c.from_residual.ensures.1) c.requires.valid e.valid e.keeps e.whole e.not_ready e.cause e.page e.grants e.first e.still e.idle in
-    record {
-      call = ends.call;
-      copies = ends.copies;
-      still = ends.still;
-      idle = ends.idle;
-      fills = fills_but (replaced c.args.span) (λ x. (x ∈ extent_names (replaced c.args.span)) ⊎ (x ∈ extent_names (read_from c.args.span))) c.args.self.now c.make_ready.new.self (filled g places.After-make_ready);
-      settled = search rules;
-      refused = ends.refused;
-      unready = ends.unready;
-      first = ends.first;
-      grants = ends.grants;
-      writable = search rules;
-    }
+    let ends = unready g.M.Mapper c.args.mapper.now c.make_ready.new.mapper c.args.chooser.now c.make_ready.new.chooser c.args.self.now c.make_ready.new.self (seen i.caches i.store i.contexts) c.self.view_is c.args.span (commands.Move c.args.span) (λ x. (x ∈ extent_names (replaced c.args.span)) ⊎ (x ∈ extent_names (read_from c.args.span))) (transfer g places.In_default) c.self.invariant.sound.nodes out.to out.to_is out.to_ends
+    c.destination.result c.destination.ensures c.make_ready.result c.from_residual.result c.in_err-make_ready.field-0.0 c.in_err-make_ready.was (err_is c.from_residual.result _ c.from_residual.ensures.1) c.requires.valid e.valid e.keeps e.whole e.not_ready e.cause e.page e.grants e.fills e.first e.still e.idle in
+    record { call = ends.0; replaces = ends.1 }
 
 -- the destination is ready
 ready_span : (g : Over) (c : After-self-2 g)
@@ -202,8 +181,8 @@ invariant_of-self g c = record {
       let d = c.move_pages.new.caches in
       let u = c.move_pages.new.store in
       left_right _ _ _ j.caches d j.store u j.contexts e.translations (λ actor page at is i. elim i [
-        | inl to ↦ inl (seen_sought j.contexts s.to s.to_page.0 s.pages _ (destination_names s) _ c.may_be_mapped-to_mapped.ensures actor page at is to)
-        | inr from ↦ inr (seen_sought j.contexts s.from s.from_page.0 s.pages _ (source_names s) _ c.may_be_mapped-from_mapped.ensures actor page at is from)
+        | inl to ↦ inl (seen_sought j.contexts s.to s.to_page.0 s.pages _ (destination_names s) _ (λ none. sym c.maps-to_mapped.ensures ∙ none) actor page at is to)
+        | inr from ↦ inr (seen_sought j.contexts s.from s.from_page.0 s.pages _ (source_names s) _ (λ none. sym c.maps-from_mapped.ensures ∙ none) actor page at is from)
       ]) (homes_writable _ j.caches d e.kept.sizes e.kept.homes) c.self-2.invariant.translated
       );
 }
@@ -211,44 +190,35 @@ invariant_of-self g c = record {
 pub returns-clause-call : goal.returns-clause-call
 returns-clause-call g c = ended_call g.M.Mapper c.args.mapper.now c.make_ready.new.mapper (moved g c).0 tt (search rules)
 
-pub returns-clause-copies : goal.returns-clause-copies
-returns-clause-copies g c = (moved g c).1
-
-pub returns-clause-still : goal.returns-clause-still
-returns-clause-still g c = λ none.
+pub returns-clause-replaces : goal.returns-clause-replaces
+returns-clause-replaces g c =
+    let at = goal.at.returns-clause-replaces g c in
     let j = c.self-2.inside in
     let e = c.move_pages.ensures in
-    let still = c.make_ready.ensures.still (subst (NeedsNoSave c.args.self.now.caches) (sym c.destination.ensures) none) in (
-      still.0,
-      still.1,
-      nothing_given_back c.args.self.now j.caches c.move_pages.new.caches j.store c.move_pages.new.store j.contexts (subst (CopiesNothing c.args.self.now) (sym c.self-2.view_is) still.2) e.pages.settles.copies (e.kept.gives_back None None (ready_span g (goal.at.returns-clause-still g c).After-self-2).tied),
-    )
-
-pub returns-clause-idle : goal.returns-clause-idle
-returns-clause-idle g c = λ nothing. ((c.make_ready.ensures.idle (subst (NeedsNothing c.args.self.now.caches) (sym c.destination.ensures) nothing)).0, tt)
-
-pub returns-clause-grants : goal.returns-clause-grants
-returns-clause-grants g c =
-    let was = subst (λ (range : Extent). GrantsWithin range c.args.self.now.caches c.make_ready.new.self.caches) c.destination.ensures c.make_ready.ensures.grants in
-    within_then (replaced c.args.span) c.args.self.now.caches c.self-2.inside.caches c.move_pages.new.caches (subst (λ (m : Manager). GrantsWithin (replaced c.args.span) c.args.self.now.caches m.caches) (sym c.self-2.view_is) was) c.move_pages.ensures.kept.homes.grants
-
-pub returns-clause-writable : goal.returns-clause-writable
-returns-clause-writable g c =
-    let e = c.move_pages.ensures in
-    λ page of. homes_writable _ c.self-2.inside.caches c.move_pages.new.caches e.kept.sizes e.kept.homes (page_name (replaced c.args.span).cache page) ((ready_span g (goal.at.returns-clause-writable g c).After-self-2).ready.writable page of)
-
--- Which pages come to frames
-
-pub returns-in-Some-clause-fills : goal.returns-in-Some-clause-fills
-returns-in-Some-clause-fills g c = fills_itself (replaced c.args.span) (λ x. (x ∈ extent_names (replaced c.args.span)) ⊎ (x ∈ extent_names (read_from c.args.span))) c.args.self.now
-
-pub returns-clause-fills : goal.returns-clause-fills
-returns-clause-fills g c =
-    let at = goal.at.returns-clause-fills g c in
-    let j = c.self-2.inside in
-    let e = c.move_pages.ensures in
-    fills_then (replaced c.args.span) (λ x. (x ∈ extent_names (replaced c.args.span)) ⊎ (x ∈ extent_names (read_from c.args.span))) (λ x. (x ∈ firsts (span_pairs c.args.span)) ⊎ (x ∈ seconds (span_pairs c.args.span))) _ (λ x. ⊥) c.args.self.now j.caches c.move_pages.new.caches j.store c.move_pages.new.store j.contexts (λ x i. elim i [
-      | inl to ↦ inl (subst (λ (xs : List NodeName). x ∈ xs) (destination_names c.args.span) to)
-      | inr from ↦ inr (subst (λ (xs : List NodeName). x ∈ xs) (let s = c.args.span in pairs_read_sources s.from s.to s.from_page.0 s.to_page.0 s.pages) from)
-    ])
-    (subst (FillsOnly (replaced c.args.span) (λ x. ⊥) c.args.self.now) (sym c.self-2.view_is) (filled g at.After-make_ready)) e.translations (e.kept.gives_back None None (ready_span g at.After-self-2).tied)
+    let d = c.move_pages.new.caches in
+    let u = c.move_pages.new.store in
+    let r = ready_span g at.After-self-2 in
+    record {
+      copies = (moved g c).1;
+      still = λ none. (
+          let still = c.make_ready.ensures.still (subst (NeedsNoSave c.args.self.now.caches) (sym c.destination.ensures) none) in (
+            still.0,
+            still.1,
+            nothing_given_back c.args.self.now j.caches d j.store u j.contexts (subst (CopiesNothing c.args.self.now) (sym c.self-2.view_is) still.2) e.pages.settles.copies (e.kept.gives_back None None r.tied),
+          ));
+      idle = λ nothing. ((c.make_ready.ensures.idle (subst (NeedsNothing c.args.self.now.caches) (sym c.destination.ensures) nothing)).0, tt);
+      fills = fills_then (replaced c.args.span) (λ x. (x ∈ extent_names (replaced c.args.span)) ⊎ (x ∈ extent_names (read_from c.args.span))) (λ x. (x ∈ firsts (span_pairs c.args.span)) ⊎ (x ∈ seconds (span_pairs c.args.span))) _ (λ x. ⊥) c.args.self.now j.caches d j.store u j.contexts (λ x i. elim i [
+        | inl to ↦ inl (subst (λ (xs : List NodeName). x ∈ xs) (destination_names c.args.span) to)
+        | inr from ↦ inr (subst (λ (xs : List NodeName). x ∈ xs) (let s = c.args.span in pairs_read_sources s.from s.to s.from_page.0 s.to_page.0 s.pages) from)
+      ])
+          (subst (FillsOnly (replaced c.args.span) (λ x. ⊥) c.args.self.now) (sym c.self-2.view_is) (filled g at.After-make_ready)) e.translations (e.kept.gives_back None None r.tied);
+      settled = e.pages.settles.settled;
+      refused = λ refusal is other. absurd (cc is);
+      unready = λ trouble is only. absurd (cc is);
+      first = tt;
+      grants = (
+          let was = subst (λ (range : Extent). GrantsWithin range c.args.self.now.caches c.make_ready.new.self.caches) c.destination.ensures c.make_ready.ensures.grants in
+          within_then (replaced c.args.span) c.args.self.now.caches j.caches d (subst (λ (m : Manager). GrantsWithin (replaced c.args.span) c.args.self.now.caches m.caches) (sym c.self-2.view_is) was) e.kept.homes.grants
+          );
+      writable = λ page of. homes_writable _ j.caches d e.kept.sizes e.kept.homes (page_name (replaced c.args.span).cache page) (r.ready.writable page of);
+    }

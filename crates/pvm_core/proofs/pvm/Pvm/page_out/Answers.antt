@@ -1,9 +1,7 @@
 use Rattle.std.proofs.Common.{rules, ◌≡◌, refl, sym, ap, subst, ◌∙◌}
-use Rattle.std.specs.Prelude.{◌+◌, length, min, IfSome, OnOk, Result}
-use Rattle.frame_pool.specs.Pool.{held_count}
+use Rattle.std.specs.Prelude.{◌+◌, length, IfSome, OnOk, Result}
 use Rattle.local_cache.specs.Arena.{Arena}
 use Rattle.residency.specs.Between.{world_at}
-use Rattle.residency.specs.Frames.{evictable_count}
 use Rattle.residency.proofs.Forests.StillForest.{still_forest}
 use Rattle.residency.proofs.Translations.Kept.{still_drops}
 use Rattle.fault_path.proofs.Calls.Kept.{still_kept}
@@ -12,6 +10,8 @@ use Rattle.vm_ids.specs.declared.reply.Reply.TheVariants as replies
 use Rattle.vm_ids.specs.declared.reply.Trouble.{Trouble}
 use Rattle.vm_model.specs.Answering.{answer_by}
 use Rattle.vm_model.specs.Run.{CallIs}
+use Rattle.pvm_core.specs.Keeping.{SameMeaning}
+use Rattle.pvm_core.specs.Leaving.{FrameCountFalls}
 use Rattle.pvm_core.specs.Manager.{Manager, forest_of, machine_by, machine_of, numbered, state_at}
 use Rattle.pvm_core.proofs.Answering.Answered.{called, made_stays, on_victim, paged_out, victim}
 use Rattle.pvm_core.proofs.Accesses.Seen.{fits_frames, same_grants}
@@ -91,21 +91,16 @@ returns-clause-call g c = record {
   page = search rules;
 }
 
-pub returns-clause-machine : goal.returns-clause-machine
-returns-clause-machine g c =
+pub returns-clause-stays : goal.returns-clause-stays
+returns-clause-stays g c =
+    let s = paged g (goal.at.returns-clause-stays g c).After-page_out in
     let q : Manager = seen c.page_out.new.caches c.page_out.new.self c.self.inside.contexts in
-    subst (λ (p : Manager). machine_of q (g.M.Mapper.held c.page_out.new.mapper) ≡ machine_of p (g.M.Mapper.held c.args.mapper.now)) c.self.view_is (paged g (goal.at.returns-clause-machine g c).After-page_out).machine
-
-pub returns-clause-forest : goal.returns-clause-forest
-returns-clause-forest g c =
-    let q : Manager = seen c.page_out.new.caches c.page_out.new.self c.self.inside.contexts in
-    subst (λ (p : Manager). forest_of q (g.M.Mapper.held c.page_out.new.mapper) ≡ forest_of p (g.M.Mapper.held c.args.mapper.now)) c.self.view_is (paged g (goal.at.returns-clause-forest g c).After-page_out).forest
+    subst (λ (p : Manager). SameMeaning p q (g.M.Mapper.held c.args.mapper.now) (g.M.Mapper.held c.page_out.new.mapper)) c.self.view_is (record { machine = s.machine; forest = s.forest })
 
 pub returns-clause-fewer : goal.returns-clause-fewer
 returns-clause-fewer g c =
     let i = c.self.inside in
-    let n = c.page_out.new in
-    let before = held_count i.store.frames in
-    subst (λ (p : Manager). OnOk c.match-page_out.result (held_count n.self.frames + min c.args.count (evictable_count p.store.frames) ≡ held_count p.store.frames)) c.self.view_is
-    (subst (λ (r : Result (Unit {0}) Trouble). OnOk r (held_count n.self.frames + min c.args.count (evictable_count i.store.frames) ≡ before)) (turned g (goal.at.returns-clause-fewer g c).Joined-page_out)
+    let q : Manager = seen c.page_out.new.caches c.page_out.new.self i.contexts in
+    subst (λ (p : Manager). OnOk c.match-page_out.result (FrameCountFalls c.args.count p q)) c.self.view_is
+    (subst (λ (r : Result (Unit {0}) Trouble). OnOk r (FrameCountFalls c.args.count (seen i.caches i.store i.contexts) q)) (turned g (goal.at.returns-clause-fewer g c).Joined-page_out)
     (on_victim _ c.page_out.result c.page_out.ensures.fewer))

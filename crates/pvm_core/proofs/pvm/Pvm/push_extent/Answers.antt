@@ -1,4 +1,4 @@
-use Rattle.std.proofs.Common.{rules, ◌≡◌, ◌+◌, Bool, true, false, None, Some, refl, sym, ap, subst, ◌∙◌}
+use Rattle.std.proofs.Common.{rules, ◌≡◌, ◌+◌, ◌*◌, arith, Bool, true, false, None, Some, refl, sym, ap, subst, ◌∙◌}
 use Rattle.std.specs.Prelude.{◌&&◌, OnOk, Err, Result, option_map}
 use Rattle.vm_ids.specs.declared.command.Command.{Command}
 use Rattle.vm_ids.specs.declared.command.Command.TheVariants as commands
@@ -6,7 +6,8 @@ use Rattle.vm_ids.specs.declared.command.Extent.{Extent}
 use Rattle.vm_ids.specs.declared.reply.Trouble.{Trouble}
 use Rattle.vm_ids.specs.declared.reply.Trouble.TheVariants as troubles
 use Rattle.local_cache.specs.Arena.{Arena, Table, table_of}
-use Rattle.segment_ops.specs.Synced.{AreSynced}
+use Rattle.fault_path.specs.Costs.{TrafficAtMost}
+use Rattle.segment_ops.specs.Synced.{AreSynced, unclean_count}
 use Rattle.residency.specs.World.{world}
 use Rattle.vm_model.specs.Answering.{Answer}
 use Rattle.vm_model.specs.Run.{CallIs}
@@ -18,7 +19,7 @@ use Rattle.pvm_core.specs.Manager.{Manager, machine_of, numbered, state_at, mean
 use Rattle.pvm_core.specs.contracts.pvm.Pvm.{the_view}
 use Rattle.pvm_core.proofs.Answering.Answered.{called, made_stays}
 use Rattle.pvm_core.proofs.Answering.Recorded.{asks_failing, refused_seen}
-use Rattle.pvm_core.proofs.Extents.Push.{all_unsized, failing, failing_ok, flush_is, stop_unsized, sync_is}
+use Rattle.pvm_core.proofs.Extents.Push.{all_unsized, failing, failing_ok, flush_is, never_refused, stop_unsized, sync_is}
 use Rattle.pvm_core.proofs.Extents.Rows.{extent_open, extent_unlocked, flush_refused, sync_refused}
 use Rattle.pvm_core.proofs.Answering.Kept.{seen, valid_seen, call_seen}
 use Rattle.pvm_core.proofs.Answering.Standing.{Stands}
@@ -57,6 +58,14 @@ returns-in-Some-clause-flush g c = λ up. refused_seen c.self.view_is c.requires
     let i = c.self.invariant.sound in
     called before before p p h h (commands.Flush c.args.extent) (Err (troubles.Refused c.in-Some.refusal)) (reach_none _ h before) i.nodes i.nodes valid refl (λ done m f s none. none) tt tt (λ f. refl) (λ page. refl)
     (λ f s. flush_refused p f c.args.extent i.locked.counted c.in-Some.refusal (any_or c.self.inside.caches c.args.extent true c.args.give_up (sym up) ∙ sym c.extent_refusal.ensures ∙ c.in-Some.is)))
+
+pub returns-in-Some-clause-pushes : goal.returns-in-Some-clause-pushes
+returns-in-Some-clause-pushes g c = record {
+  stays = record { machine = refl; forest = refl };
+  refused = λ r e. (refl, refl);
+  synced = tt;
+  most = record { pulled = λ low. omega arith; pushed = λ low. omega arith };
+}
 
 pub push_range-requires-clause-range : goal.push_range-requires-clause-range
 push_range-requires-clause-range g c =
@@ -155,16 +164,25 @@ returns-clause-flush g c = λ up.
     (all_unsized k now n.caches n.store c.args.extent c.push_range.result e.synced) (stop_unsized k now n.caches n.store c.args.extent c.push_range.result e.failed) e.cause
     (λ f. any_same p f c.self.invariant.sound.locked.counted c.args.extent ∙ none_locked i.caches c.args.extent c.args.give_up up (sym c.extent_refusal.ensures ∙ c.in_default.is)))
 
-pub returns-clause-stays : goal.returns-clause-stays
-returns-clause-stays g c =
-    let k = pushed g (goal.at.returns-clause-stays g c).After-push_range in
-    let q : Manager = seen c.push_range.new.caches c.push_range.new.store c.self.inside.contexts in
-    subst (λ (p : Manager). SameMeaning p q (g.M.Mapper.held c.args.mapper.now) (g.M.Mapper.held c.push_range.new.mapper)) c.self.view_is (record { machine = k.machine; forest = k.forest })
-
-pub returns-clause-synced : goal.returns-clause-synced
-returns-clause-synced g c =
+pub returns-clause-pushes : goal.returns-clause-pushes
+returns-clause-pushes g c =
+    let at = goal.at.returns-clause-pushes g c in
     let n = c.push_range.new in
+    let e = c.push_range.ensures in
+    let h = g.M.Mapper.held c.args.mapper.now in
     let k = g.M.Mapper.held n.mapper in
-    let now = g.M.Mapper.page_bytes n.mapper in
-    subst (λ (r : Result (Unit {0}) Trouble). OnOk r (AreSynced c.args.extent (c.args.extent.first.0 + c.args.extent.pages) (world k None n.caches n.store))) (turned g (goal.at.returns-clause-synced g c).Joined-push_range)
-    (failing_ok _ c.push_range.result (all_unsized k now n.caches n.store c.args.extent c.push_range.result c.push_range.ensures.synced))
+    let q : Manager = seen n.caches n.store c.self.inside.contexts in
+    let told = turned g at.Joined-push_range in
+    record {
+      stays = (
+          let s = pushed g at.After-push_range in
+          subst (λ (p : Manager). SameMeaning p q h k) c.self.view_is (record { machine = s.machine; forest = s.forest })
+          );
+      refused = λ r is. absurd (never_refused c.push_range.result r (told ∙ is));
+      synced = subst (λ (r : Result (Unit {0}) Trouble). OnOk r (AreSynced c.args.extent (c.args.extent.first.0 + c.args.extent.pages) (world k None n.caches n.store))) told
+          (failing_ok _ c.push_range.result (all_unsized k (g.M.Mapper.page_bytes n.mapper) n.caches n.store c.args.extent c.push_range.result e.synced));
+      most = (
+          let x = c.args.extent in
+          subst (λ (p : Manager). TrafficAtMost (unclean_count p.caches x.cache.0 x.first.0 x.pages) (2 * unclean_count p.caches x.cache.0 x.first.0 x.pages) (g.M.Mapper.counts c.args.mapper.now) (g.M.Mapper.counts n.mapper)) c.self.view_is e.most
+          );
+    }
