@@ -6,12 +6,12 @@ use Rattle.regions.specs.declared.region.Region.{Region}
 abbrev pub region_seen : Region → model.Region
 region_seen r = record {
   number = r.number.0;
-  start = r.view.mapping.address;
-  pages = r.view.mapping.extent.pages;
-  may_write = r.view.mapping.prot.write;
-  cache = r.view.mapping.extent.cache.0;
-  offset = r.view.mapping.extent.first.0;
-  locked = r.view.locked;
+  start = r.address;
+  pages = r.pages;
+  may_write = r.prot.write;
+  cache = r.cache.0;
+  offset = r.first.0;
+  locked = r.locked;
 }
 
 abbrev pub start_at : List Region → ℕ → Region → ℕ

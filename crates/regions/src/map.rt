@@ -104,7 +104,7 @@ impl RegionMap {
         let back = self.regions[place].back(self.page_bytes, pages, fresh);
         let address = back.start();
         let front = &mut self.regions[place];
-        front.view.mapping.extent.pages = pages;
+        front.pages = pages;
         match self.regions.insert(place + 1, back) {
             Ok(()) => address,
             Err(_) => unreachable!(),
@@ -121,7 +121,7 @@ impl RegionMap {
     {
         let place = known_place(&self.regions, self.page_bytes, id, start);
         let region = &mut self.regions[place];
-        region.view.mapping.prot = prot;
+        region.prot = prot;
     }
 
     /// Locks or unlocks a region.
@@ -134,7 +134,7 @@ impl RegionMap {
     {
         let place = known_place(&self.regions, self.page_bytes, id, start);
         let region = &mut self.regions[place];
-        region.view.locked = locked;
+        region.locked = locked;
     }
 
     /// Takes a region away.
@@ -156,7 +156,7 @@ impl RegionMap {
         ensures { result ≡ option_map view_of (region_among id.0 self.now.regions) }
     {
         let place = place_of(&self.regions, self.page_bytes, id, start)?;
-        Some(self.regions[place].view)
+        Some(self.regions[place].view())
     }
 
     /// What there is to tell of the region at a place, from 0, in the order of addresses. `None`
@@ -164,7 +164,7 @@ impl RegionMap {
     pub fn nth(&self, place: usize) -> Option<RegionView>
         ensures { result ≡ option_map view_of (slice_get self.now.regions place) }
     {
-        Some(self.regions.get(place)?.view)
+        Some(self.regions.get(place)?.view())
     }
 
     /// How many regions there are.

@@ -4,7 +4,7 @@ ghost use Rattle.vm_model.specs.Answering.{overlaps, region_of};
 ghost use Rattle.vm_model.specs.Place.{holds};
 ghost use Rattle.vm_model.specs.Regions.{back_of};
 ghost use Rattle.regions.specs.Seen.{region_seen};
-ghost use Rattle.regions.specs.AddressSpace.{access_of, end_of, IsWellFormed};
+ghost use Rattle.regions.specs.AddressSpace.{access_of, end_of, view_of, IsWellFormed};
 
 use vm_ids::{CacheId, Extent, Mapping, PageNo, Prot, RegionId};
 
@@ -28,11 +28,17 @@ pub struct Place {
     pub prot: Prot,
 }
 
-/// A region under its number.
+/// A region under its number. It has its fields side by side, so that it takes 32 bytes: many of
+/// them move where one comes or goes.
 #[derive(Clone, Copy, Debug, PartialEq, Eq)]
 pub struct Region {
+    pub address: u64,
     pub number: RegionId,
-    pub view: RegionView,
+    pub cache: CacheId,
+    pub first: PageNo,
+    pub pages: u32,
+    pub prot: Prot,
+    pub locked: bool,
 }
 
 impl Region {
@@ -41,11 +47,31 @@ impl Region {
         ensures { region_seen result ≡ region_of number.0 mapping }
     {
         Region {
+            address: mapping.address,
             number,
-            view: RegionView {
-                mapping,
-                locked: false,
+            cache: mapping.extent.cache,
+            first: mapping.extent.first,
+            pages: mapping.extent.pages,
+            prot: mapping.prot,
+            locked: false,
+        }
+    }
+
+    // What there is to tell of it.
+    pub(crate) fn view(&self) -> RegionView
+        ensures { result ≡ view_of (region_seen self.now) }
+    {
+        RegionView {
+            mapping: Mapping {
+                extent: Extent {
+                    cache: self.cache,
+                    first: self.first,
+                    pages: self.pages,
+                },
+                address: self.address,
+                prot: self.prot,
             },
+            locked: self.locked,
         }
     }
 
@@ -53,7 +79,7 @@ impl Region {
     pub(crate) fn start(&self) -> u64
         ensures { result ≡ (region_seen self.now).start }
     {
-        self.view.mapping.address
+        self.address
     }
 
     // The address behind its last byte.
@@ -61,7 +87,7 @@ impl Region {
         requires { IsWellFormed page_bytes (region_seen self.now) }
         ensures { result ≡ end_of page_bytes (region_seen self.now) }
     {
-        self.view.mapping.address + page_bytes * self.view.mapping.extent.pages as u64
+        self.address + page_bytes * self.pages as u64
     }
 
     // Whether it shares an address with so many bytes at this one.
@@ -79,24 +105,15 @@ impl Region {
     pub(crate) fn back(&self, page_bytes: u64, pages: u32, number: RegionId) -> Region
         requires page { page_bytes ≤ 2 ^ 16 }
         requires formed { IsWellFormed page_bytes (region_seen self.now) }
-        requires fewer { pages < self.now.view.mapping.extent.pages }
+        requires fewer { pages < self.now.pages }
         ensures { region_seen result ≡ back_of page_bytes pages number.0 (region_seen self.now) }
     {
-        let mapping = self.view.mapping;
         Region {
+            address: self.address + page_bytes * pages as u64,
             number,
-            view: RegionView {
-                mapping: Mapping {
-                    extent: Extent {
-                        cache: mapping.extent.cache,
-                        first: PageNo(mapping.extent.first.0 + pages),
-                        pages: mapping.extent.pages - pages,
-                    },
-                    address: mapping.address + page_bytes * pages as u64,
-                    prot: mapping.prot,
-                },
-                locked: self.view.locked,
-            },
+            first: PageNo(self.first.0 + pages),
+            pages: self.pages - pages,
+            ..*self
         }
     }
 
@@ -109,13 +126,12 @@ impl Region {
         requires below { address < end_of page_bytes (region_seen self.now) }
         ensures { result ≡ access_of page_bytes address (region_seen self.now) }
     {
-        let mapping = self.view.mapping;
-        let ahead = (address - mapping.address) / page_bytes;
+        let ahead = (address - self.address) / page_bytes;
         Place {
-            cache: mapping.extent.cache,
-            page: PageNo((mapping.extent.first.0 as u64 + ahead) as u32),
+            cache: self.cache,
+            page: PageNo((self.first.0 as u64 + ahead) as u32),
             at: (address % page_bytes) as u16,
-            prot: mapping.prot,
+            prot: self.prot,
         }
     }
 }

@@ -15,7 +15,7 @@ pub(crate) fn count_up_to(regions: &[Region], page_bytes: u64, address: u64) -> 
     requires { AreInOrder page_bytes 0 (map region_seen regions.now) }
     ensures { IsCountUpTo address regions.now result }
 {
-    regions.partition_point(|region| region.view.mapping.address <= address)
+    regions.partition_point(|region| region.address <= address)
 }
 
 // The region that holds the address.

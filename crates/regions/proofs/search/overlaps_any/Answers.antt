@@ -9,15 +9,13 @@ use Rattle.regions.proofs.search.overlaps_any.Goals.{else-count-ne0-via-then-cou
 -- what stands for a region where none is read
 abbrev blank : Region
 blank = record {
+  address = 0;
   number = record { 0 = 0 };
-  view = record {
-    mapping = record {
-      extent = record { cache = record { 0 = 0 }; first = record { 0 = 0 }; pages = 0 };
-      address = 0;
-      prot = record { write = false };
-    };
-    locked = false;
-  };
+  cache = record { 0 = 0 };
+  first = record { 0 = 0 };
+  pages = 0;
+  prot = record { write = false };
+  locked = false;
 }
 
 pub overlaps-requires-clause-formed : goal.overlaps-requires-clause-formed

@@ -29,7 +29,7 @@ invariant_of-self c =
     let by = with_prot c.args.prot in
     let place = subst (λ (ys : List Region). IsPlaceOf c.args.id.0 ys k) c.deref.ensures.value c.known_place-place.ensures in
     let became = ap (λ (r : Region). by (region_seen r)) (sym c.index_mut-region.ensures.value) in
-    let made = changed c.args.id.0 c.self.inside.page_bytes by rs k old (record { number = old.number; view = record { mapping = record { extent = old.view.mapping.extent; address = old.view.mapping.address; prot = c.args.prot }; locked = old.view.locked } }) place became (prot_keeps c.self.inside.page_bytes c.args.prot) c.self.invariant.order in
+    let made = changed c.args.id.0 c.self.inside.page_bytes by rs k old (record old { prot = c.args.prot }) place became (prot_keeps c.self.inside.page_bytes c.args.prot) c.self.invariant.order in
     record { some = c.self.invariant.some; most = c.self.invariant.most; order = made.order }
 
 pub returns : goal.returns
@@ -40,7 +40,7 @@ returns c =
     let by = with_prot c.args.prot in
     let place = subst (λ (ys : List Region). IsPlaceOf c.args.id.0 ys k) c.deref.ensures.value c.known_place-place.ensures in
     let became = ap (λ (r : Region). by (region_seen r)) (sym c.index_mut-region.ensures.value) in
-    let x : Region = record { number = old.number; view = record { mapping = record { extent = old.view.mapping.extent; address = old.view.mapping.address; prot = c.args.prot }; locked = old.view.locked } } in
+    let x : Region = record old { prot = c.args.prot } in
     let made = changed c.args.id.0 c.self.inside.page_bytes by rs k old x place became (prot_keeps c.self.inside.page_bytes c.args.prot) c.self.invariant.order in
     let spare = vec_capacity c.self.inside.regions - vec_len c.self.inside.regions in
     subst (λ (s : AddressSpace). space c.self.inside.page_bytes spare (map region_seen (set rs k x)) ≡ record s { regions = replace_region c.args.id.0 by s.regions })

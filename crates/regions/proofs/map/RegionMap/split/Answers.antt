@@ -52,18 +52,7 @@ invariant_of-self c =
     let rs = c.self.inside.regions.items in
     let k = c.known_place-place.result in
     let old = c.index_mut-front.result.now in
-    let mapping = old.view.mapping in
-    let x : Region = record {
-      number = old.number;
-      view = record {
-        mapping = record {
-          extent = record { cache = mapping.extent.cache; first = mapping.extent.first; pages = c.args.pages };
-          address = mapping.address;
-          prot = mapping.prot;
-        };
-        locked = old.view.locked;
-      };
-    } in
+    let x : Region = record old { pages = c.args.pages } in
     let P : model.Region → Type 0 = λ r. c.args.pages < r.pages in
     let place = subst (λ (ys : List Region). IsPlaceOf n ys k) c.deref.ensures.value c.known_place-place.ensures in
     let fewer = subst (λ (s : AddressSpace). IsSomeAnd (region_among n s.regions) P) (sym c.self.view_is) c.requires.fewer in
@@ -82,18 +71,7 @@ returns-clause-cut c =
     let rs = c.self.inside.regions.items in
     let k = c.known_place-place.result in
     let old = c.index_mut-front.result.now in
-    let mapping = old.view.mapping in
-    let x : Region = record {
-      number = old.number;
-      view = record {
-        mapping = record {
-          extent = record { cache = mapping.extent.cache; first = mapping.extent.first; pages = c.args.pages };
-          address = mapping.address;
-          prot = mapping.prot;
-        };
-        locked = old.view.locked;
-      };
-    } in
+    let x : Region = record old { pages = c.args.pages } in
     let P : model.Region → Type 0 = λ r. c.args.pages < r.pages in
     let place = subst (λ (ys : List Region). IsPlaceOf n ys k) c.deref.ensures.value c.known_place-place.ensures in
     let fewer = subst (λ (s : AddressSpace). IsSomeAnd (region_among n s.regions) P) (sym c.self.view_is) c.requires.fewer in

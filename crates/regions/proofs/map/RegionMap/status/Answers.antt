@@ -21,8 +21,9 @@ returns c =
     let read = c.index.result.now in
     let place = subst (λ (ys : List Region). IsPlaceOf c.args.id.0 ys c.in_ok-place.place) c.deref.ensures.value c.in_ok-place.ensures in
     let found = among_found c.args.id.0 rs c.in_ok-place.place read place in
-    let same : Some read.view ≡ option_map view_of (Some (region_seen (get_or rs c.in_ok-place.place read))) = ap (λ (r : Region). Some r.view) c.index.ensures in
-    same ∙ ap (option_map view_of) (sym found) ∙ ap (λ (s : AddressSpace). option_map view_of (region_among c.args.id.0 s.regions)) c.self.view_is
+    let same : Some (view_of (region_seen read)) ≡ option_map view_of (Some (region_seen (get_or rs c.in_ok-place.place read))) = ap (λ (r : Region). Some (view_of (region_seen r))) c.index.ensures in
+    ap (λ v. Some v) c.view.ensures
+    ∙ same ∙ ap (option_map view_of) (sym found) ∙ ap (λ (s : AddressSpace). option_map view_of (region_among c.args.id.0 s.regions)) c.self.view_is
 
 pub returns-in_err-place : goal.returns-in_err-place
 returns-in_err-place c =
