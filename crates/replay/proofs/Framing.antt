@@ -14,9 +14,9 @@ use Rattle.gmi_calls.specs.Room.{AnswerWithin, LimitedCall}
 use Rattle.gmi_calls.proofs.Ready.{fits_after, live_after}
 use Rattle.line_service.specs.Serving.{AnswersBy, AnyRise}
 use Rattle.flat_mm.specs.Alone.{AsksAlone, FlatCall}
-use Rattle.flat_mm.specs.Manager.{Manager, flat, room_of}
+use Rattle.flat_mm.specs.Manager.{Manager, flat, machine_in, room_of}
 use Rattle.flat_mm.specs.TwoManagers.{frames_left}
-use Rattle.flat_mm.proofs.Rooms.{frames_are_room}
+use Rattle.flat_mm.proofs.Rooms.{same_left}
 use Rattle.replay.specs.Framed.{IsQuietlyFull, framed_meaning, framed_semantics}
 use Rattle.replay.specs.Managing.{CanCallFramed}
 use Rattle.replay.proofs.Answered.{answered}
@@ -31,7 +31,7 @@ none_moves command = tt
 
 -- there is room for as many pages as frames are left
 room_is : (p : Manager) (held : Option Held) → room_of p ≡ frames_left (flat.machine p held)
-room_is p held = let e : Some (room_of p) ≡ Some (frames_left (flat.machine p held)) = frames_are_room p held in cc e
+room_is p held = same_left held (machine_in p)
 
 module _ (n : ℕ) (c d : MapperCounts) (s t : State) (command : Command) (is : n ≡ frames_left s.machine) where
   told : (a : Answer) (pushes : List (ℕ × ℕ)) (rises : MapperCounts) → Rise c d rises → AnswerWithin (Some n) s command a pushes rises t → IsQuietlyFull a rises → AsksAlone command rises → AnswersBy framed_semantics AnyRise c d s (Ok command) a t
