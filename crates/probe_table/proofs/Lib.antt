@@ -1,5 +1,5 @@
 pub mod Writes
+pub mod Growing
 pub mod Standing
-pub mod Entering
 pub mod Removing
 pub mod Closing

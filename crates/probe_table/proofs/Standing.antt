@@ -2,7 +2,8 @@
 use Rattle.std.proofs.Common.{◌≡◌, ◌≢◌, ℕ, zero, suc, ◌+◌, ◌*◌, ◌<◌, ◌≤◌, ◌==◌, true, List, [], ◌∷◌, length, Option, Some, None, refl, ap, ◌∙◌, arith, inl, inr}
 use Rattle.std.specs.Prelude.{is_some, count_by}
 use Rattle.std.specs.Option.{option_eq}
-use Rattle.std.proofs.lemmas.Bool.{cases_eq, cases_lt}
+use Rattle.std.proofs.lemmas.Bool.{cases_eq}
+use Rattle.std.proofs.lemmas.Grind.{common_steps}
 use Rattle.vm_ids.proofs.Places.{same_number, other_number, bit_true, bit_false, count_cons, count_some, count_not_all}
 use Rattle.probe_table.specs.Entries.{hash_of}
 use Rattle.probe_table.specs.Probing.{bucket, home_of, IsPassed, is_number, times, IsProbing}
@@ -39,11 +40,11 @@ taken_from (x ∷ xs) (suc from) h =
     let rest : length xs ≤ from + count_by is_some xs = taken_from xs from (λ at low high. h (suc at) (omega arith) (omega arith)) in
     omega (arith, count_cons is_some x xs)
 
--- while a number isn't entered, there is a free bucket behind each home
-pub is_room : (hashes buckets : List (Option ℕ)) (number from : ℕ) → IsProbing hashes buckets (length buckets) → number < length hashes → hash_of hashes number ≡ None → from ≤ 2 * length hashes → IsPassed buckets from (length buckets) None → {A : Type 0} → A
-is_room hashes buckets number from is below absent low passed =
+-- while a number isn't entered, there is a free bucket behind the homes
+pub is_room : (hashes buckets : List (Option ℕ)) (number : ℕ) → IsProbing hashes buckets (length buckets) → number < length hashes → hash_of hashes number ≡ None → IsPassed buckets (2 * length hashes) (length buckets) None → ⊥
+is_room hashes buckets number is below absent passed =
     let fewer : count_by is_some hashes < length hashes = count_not_all is_some hashes number None below (ap is_some absent) in
-    absurd (omega (arith, taken_from buckets from passed, is.taken, is.room))
+    omega (arith, taken_from buckets (2 * length hashes) passed, is.taken, is.room)
 
 -- where a number that is entered stands
 pub place_of : (hashes buckets : List (Option ℕ)) (gap number hash : ℕ) → IsProbing hashes buckets gap → hash_of hashes number ≡ Some hash → (at : ℕ) × (bucket buckets at ≡ Some number)
@@ -67,13 +68,7 @@ its_below hashes buckets gap at number is stands =
 
 -- a number that is entered stands before the first free bucket from its home on
 pub before_free : (hashes buckets : List (Option ℕ)) (number hash at free : ℕ) → IsProbing hashes buckets (length buckets) → hash_of hashes number ≡ Some hash → bucket buckets at ≡ Some number → home_of (length hashes) hash ≤ free → bucket buckets free ≡ None → at < free
-before_free hashes buckets number hash at free is entered stands low empty = elim (cases_lt at free) [
-  | inl before ↦ before
-  | inr after ↦ (elim (cases_eq at free) [
-    | inl same ↦ (let none : bucket buckets at ≡ None = ap (bucket buckets) same ∙ empty in absurd (cc))
-    | inr differs ↦ (let within : at < length buckets = some_below buckets at number stands in absurd (is.reached at number hash stands entered free low (omega arith) (λ e. omega arith) empty))
-  ])
-]
+before_free hashes buckets number hash at free is entered stands low empty = grind (arith, common_steps, is.reached at number hash stands entered free, some_below buckets at number stands)
 
 -- where the walk from its home to a free bucket comes by a number that is entered
 pub on_the_walk : (hashes buckets : List (Option ℕ)) (number hash count home free : ℕ) → IsProbing hashes buckets (length buckets) → hash_of hashes number ≡ Some hash → count ≡ length hashes → home ≡ home_of count hash → home ≤ free → bucket buckets free ≡ None → (at : ℕ) × (home ≤ at) × (at < free) × (bucket buckets at ≡ Some number)

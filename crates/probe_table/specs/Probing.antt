@@ -1,5 +1,6 @@
 -- Where numbers stand: each in one bucket, at or behind its home, with no empty bucket on the way.
-use Rattle.std.specs.Prelude.{◌≡◌, ◌≢◌, ℕ, ◌*◌, ◌/◌, ◌^◌, ◌≤◌, ◌<◌, ◌==◌, Bool, false, List, length, Option, Some, None, is_some, slice_index_or, count_by}
+use Rattle.std.specs.Prelude.{◌≡◌, ◌≢◌, ℕ, ◌*◌, ◌/◌, ◌^◌, ◌≤◌, ◌<◌, ◌==◌, Bool, false, List, length, Option, Some, None, is_some, slice_index_or, count_by, vec_capacity}
+use Rattle.std.proofs.Common.{Vec, Global}
 use Rattle.probe_table.specs.Entries.{hash_of}
 
 -- what is in a bucket; nothing past the last
@@ -35,3 +36,11 @@ pub record IsProbing (hashes buckets : List (Option ℕ)) (gap : ℕ) : Type 0 w
   pub reached : (at number hash : ℕ) → bucket buckets at ≡ Some number
       → hash_of hashes number ≡ Some hash → (on_way : ℕ) → home_of (length hashes) hash ≤ on_way
       → on_way < at → on_way ≢ gap → bucket buckets on_way ≢ None
+
+-- the numbers that have hashes stand in the buckets, and there is room for all
+pub record IsKept (count : ℕ) (hashes buckets : Vec (Option ℕ) Global) : Type 0 where
+  pub probing : IsProbing hashes.items buckets.items (length buckets.items)
+  pub few : count ≤ 2 ^ 18
+  pub within : length hashes.items ≤ count
+  pub hashes_room : count ≤ vec_capacity hashes
+  pub buckets_room : 3 * count ≤ vec_capacity buckets

@@ -1,5 +1,6 @@
 // Buckets on their own: where a hash begins, walks to a bucket, and the gap that a removal leaves.
-ghost use Rattle.std.specs.Prelude.{◌≡◌, ◌≢◌, ◌*◌, ◌^◌, ◌<◌, ◌≤◌, None, length};
+ghost use Rattle.std.specs.Prelude.{◌≡◌, ◌≢◌, ◌*◌, ◌^◌, ◌<◌, ◌≤◌, None, Some, ℕ, List, Option, length, slice_set};
+ghost use Rattle.probe_table.specs.Entries.{hash_of};
 ghost use Rattle.probe_table.specs.Probing.{bucket, home_of, IsProbing, IsPassed};
 
 // The first bucket at which a number with this hash may stand, in a table for `count` numbers.
@@ -26,6 +27,20 @@ pub(crate) fn first_with(buckets: &[Option<u32>], from: usize, wanted: Option<u3
         at += 1;
     }
     at
+}
+
+// Puts a number into the first bucket from its home on that is empty.
+#[inline(always)]
+pub(crate) fn put(buckets: &mut [Option<u32>], count: usize, number: u32, hash: u32)
+    requires count { count ≤ 2 ^ 18 }
+    requires room { ¬ IsPassed buckets.old (2 * count) (length buckets.old) None }
+    ensures { (hashes : List (Option ℕ)) → IsProbing hashes buckets.old (length buckets.old)
+        → length hashes ≡ count → number < length hashes → hash_of hashes number ≡ None
+        → IsProbing (slice_set hashes number (Some hash)) buckets.new (length buckets.new) }
+{
+    let home = home_of(hash, count);
+    let at = first_with(buckets, home, None);
+    buckets[at] = Some(number);
 }
 
 // Fills an emptied bucket from behind, and each that this empties, until none is missed on the way.

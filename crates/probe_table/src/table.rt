@@ -2,7 +2,8 @@
 ghost use Rattle.std.specs.Prelude.{◌≡◌, ℕ, ◌<◌, ◌≤◌, ◌^◌, true, false, length, None, Some, replicate, slice_set, IfOk, IfNone, IfSome, IsSome};
 ghost use Rattle.probe_table.specs.Entries.{hash_of};
 
-use crate::probe::{close_gap, first_with, home_of};
+use crate::growth::bring;
+use crate::probe::{close_gap, first_with, home_of, put};
 use std::alloc::Global;
 use std::marker::Model;
 use vm_ids::NoMemory;
@@ -11,20 +12,24 @@ use vm_ids::NoMemory;
 /// several may be entered under the same.
 #[derive(Drop)]
 pub struct ProbeTable {
+    // For how many numbers the table is made.
+    count: u32,
+    // The hashes of the numbers up to some, and room for all. Those behind aren't entered.
     hashes: Vec<Option<u32>>,
+    // The buckets for so many numbers as have hashes, and room for those of all.
     buckets: Vec<Option<u32>>,
 }
 
 impl Model for ProbeTable {
-    ghost use Rattle.std.specs.Prelude.{ℕ, List, Option, length};
+    ghost use Rattle.std.specs.Prelude.{ℕ, List, Option};
+    ghost use Rattle.probe_table.specs.Entries.{table_of};
+    ghost use Rattle.probe_table.specs.Probing.{IsKept};
 
     ghost Value = { List (Option ℕ) };
 
-    ghost view = { λ t. t.hashes.items };
+    ghost view = { λ t. table_of t.count t.hashes.items };
 
-    ghost use Rattle.probe_table.specs.Probing.{IsProbing};
-
-    ghost invariant = { λ t. IsProbing t.hashes.items t.buckets.items (length t.buckets.items) };
+    ghost invariant = { λ t. IsKept t.count t.hashes t.buckets };
 }
 
 impl ProbeTable {
@@ -33,19 +38,21 @@ impl ProbeTable {
         requires { count ≤ 2 ^ 18 }
         ensures { IfOk result (λ table. table ≡ replicate count None) }
     {
-        let mut hashes = Vec::new(alloc);
-        hashes.resize(count as usize, None)?;
+        let hashes = Vec::with_capacity(alloc, count as usize)?;
         // The homes are the first 2 * count buckets, so a walk from one ends before the last.
-        let mut buckets = Vec::new(alloc);
-        buckets.resize(3 * count as usize, None)?;
-        Ok(ProbeTable { hashes, buckets })
+        let buckets = Vec::with_capacity(alloc, 3 * count as usize)?;
+        Ok(ProbeTable {
+            count,
+            hashes,
+            buckets,
+        })
     }
 
     /// For how many numbers the table is made.
     pub fn count(&self) -> u32
         ensures { result ≡ length self.now }
     {
-        self.hashes.len() as u32
+        self.count
     }
 
     /// A number that is entered under the hash and passes the test; `None` exactly where none does.
@@ -74,9 +81,8 @@ impl ProbeTable {
         requires absent { hash_of self.old number ≡ None }
         ensures { self.new ≡ slice_set self.old number (Some hash) }
     {
-        let home = home_of(hash, self.hashes.len());
-        let at = first_with(&self.buckets, home, None);
-        self.buckets[at] = Some(number);
+        bring(&mut self.hashes, &mut self.buckets, self.count, number);
+        put(&mut self.buckets, self.hashes.len(), number, hash);
         self.hashes[number as usize] = Some(hash);
     }
 

@@ -1,30 +1,36 @@
-use Rattle.std.proofs.Common.{◌≡◌, ℕ, ◌<◌, ◌≤◌, length, None, Some, ◌*◌, List, Option, sym, ap, subst, ◌∙◌, arith, length-set}
-use Rattle.probe_table.specs.Entries.{hash_of}
-use Rattle.probe_table.specs.Probing.{bucket, home_of, IsPassed}
+use Rattle.std.proofs.Common.{◌≡◌, ℕ, ◌*◌, List, Option, None, Some, length, set, sym, subst, ◌∙◌, arith, length-set}
+use Rattle.std.proofs.lemmas.List.{with_items_is}
+use Rattle.probe_table.specs.Probing.{IsPassed, IsProbing}
 use Rattle.probe_table.proofs.Standing.{is_room}
-use Rattle.probe_table.proofs.Entering.{entered}
+use Rattle.probe_table.proofs.Growing.{hash_in, set_in}
 use Rattle.probe_table.proofs.table.ProbeTable.enter.Goals as goal
 
-pub first_with-at-requires : goal.first_with-at-requires
-first_with-at-requires c = λ passed.
-    let buckets : List (Option ℕ) = c.self.inside.buckets.items in
-    let hashes : List (Option ℕ) = c.self.inside.hashes.items in
-    let below : c.args.number < length hashes = omega (arith, ap (λ (xs : List (Option ℕ)). length xs) c.self.view_is) in
-    let absent : hash_of hashes c.args.number ≡ None = ap (λ (xs : List (Option ℕ)). hash_of xs c.args.number) c.self.view_is ∙ c.requires.absent in
-    let low : c.home_of-home.result ≤ 2 * length hashes = omega arith in
-    is_room hashes buckets c.args.number c.home_of-home.result c.self.invariant below absent low
-    (subst (λ (xs : List (Option ℕ)). IsPassed xs c.home_of-home.result (length xs) None) c.deref.ensures.value passed)
+pub put-requires-clause-room : goal.put-requires-clause-room
+put-requires-clause-room c = λ passed.
+    let hashes : List (Option ℕ) = c.bring.new.hashes.items in
+    let buckets : List (Option ℕ) = c.bring.new.buckets.items in
+    let size : c.len.result ≡ length hashes = omega arith in
+    is_room hashes buckets c.args.number c.bring.ensures.kept.probing c.bring.ensures.at
+    (hash_in c.self.inside.count hashes c.args.self.now c.args.number (c.bring.ensures.same ∙ c.self.view_is) ∙ c.requires.absent)
+    (subst (λ (n : ℕ). IsPassed buckets (2 * n) (length buckets) None) size
+    (subst (λ (xs : List (Option ℕ)). IsPassed xs (2 * c.len.result) (length xs) None) c.deref_mut.ensures.value passed))
 
 pub invariant_of-self : goal.invariant_of-self
 invariant_of-self c =
-    let buckets : List (Option ℕ) = c.self.inside.buckets.items in
-    let hashes : List (Option ℕ) = c.self.inside.hashes.items in
-    let below : c.args.number < length hashes = omega (arith, ap (λ (xs : List (Option ℕ)). length xs) c.self.view_is) in
-    let absent : hash_of hashes c.args.number ≡ None = ap (λ (xs : List (Option ℕ)). hash_of xs c.args.number) c.self.view_is ∙ c.requires.absent in
-    let size : c.len.result ≡ length hashes = omega arith in
-    let home : c.home_of-home.result ≡ home_of (length hashes) c.args.hash = c.home_of-home.ensures.value ∙ ap (λ (n : ℕ). home_of n c.args.hash) size in
-    let within : c.first_with-at.result < length buckets = omega (arith, ap (λ (xs : List (Option ℕ)). length xs) c.deref.ensures.value) in
-    let empty : bucket buckets c.first_with-at.result ≡ None = ap (λ (xs : List (Option ℕ)). bucket xs c.first_with-at.result) (sym c.deref.ensures.value) ∙ c.first_with-at.ensures.at in
-    let passed : IsPassed buckets (home_of (length hashes) c.args.hash) c.first_with-at.result None
-    = subst (λ (xs : List (Option ℕ)). IsPassed xs (home_of (length hashes) c.args.hash) c.first_with-at.result None) c.deref.ensures.value (λ k from to. c.first_with-at.ensures.passed k (omega arith) to) in
-    entered hashes buckets c.args.number c.args.hash c.first_with-at.result c.self.invariant below absent within empty (omega arith) passed _ (omega (arith, length-set buckets c.first_with-at.result (Some c.args.number)))
+    let hashes : List (Option ℕ) = c.bring.new.hashes.items in
+    let kept = c.bring.ensures.kept in
+    let size : length hashes ≡ c.len.result = omega arith in
+    let In : List (Option ℕ) → List (Option ℕ) → Type 0 = λ xs buckets. IsProbing xs buckets (length buckets) in
+    let written = with_items_is c.bring.new.buckets c.put.new.buckets (omega (arith, c.put.auto.buckets, c.deref_mut.ensures.len)) in
+    record {
+      probing = subst (In (set hashes c.args.number (Some c.args.hash))) (sym written)
+          (c.put.ensures hashes (subst (In hashes) (sym c.deref_mut.ensures.value) kept.probing) size c.bring.ensures.at
+          (hash_in c.self.inside.count hashes c.args.self.now c.args.number (c.bring.ensures.same ∙ c.self.view_is) ∙ c.requires.absent));
+      few = kept.few;
+      within = omega (arith, kept.within, length-set hashes c.args.number (Some c.args.hash));
+      hashes_room = kept.hashes_room;
+      buckets_room = kept.buckets_room;
+    }
+
+pub returns : goal.returns
+returns c = set_in c.self.inside.count c.bring.new.hashes.items c.args.self.now c.args.number (Some c.args.hash) (c.bring.ensures.same ∙ c.self.view_is) c.bring.ensures.at
