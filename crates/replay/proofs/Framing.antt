@@ -17,7 +17,7 @@ use Rattle.flat_mm.specs.Alone.{AsksAlone, FlatCall}
 use Rattle.flat_mm.specs.Manager.{Manager, flat, machine_in, room_of}
 use Rattle.flat_mm.specs.TwoManagers.{frames_left}
 use Rattle.flat_mm.proofs.Rooms.{same_left}
-use Rattle.replay.specs.Framed.{IsQuietlyFull, framed_meaning, framed_semantics}
+use Rattle.replay.specs.Framed.{IsQuietlyFull, StaysInFrames, framed_meaning, framed_semantics}
 use Rattle.replay.specs.Managing.{CanCallFramed}
 use Rattle.replay.proofs.Answered.{answered}
 
@@ -29,6 +29,13 @@ none_moves (commands.Lock region) = record { pulled = refl; pushed = refl }
 none_moves (commands.PageOut count) = record { pulled = refl; pushed = refl }
 none_moves command = tt
 
+stays_of : (command : Command) (rises : MapperCounts) → AsksAlone command rises → StaysInFrames command rises
+stays_of (commands.Load actor address bytes) rises alone = (alone.pulled, alone.pushed)
+stays_of (commands.Store actor address piece) rises alone = (alone.pulled, alone.pushed)
+stays_of (commands.Lock region) rises alone = (alone.pulled, alone.pushed)
+stays_of (commands.PageOut count) rises alone = (alone.pulled, alone.pushed)
+stays_of command rises alone = tt
+
 -- there is room for as many pages as frames are left
 room_is : (p : Manager) (held : Option Held) → room_of p ≡ frames_left (flat.machine p held)
 room_is p held = same_left held (machine_in p)
@@ -36,7 +43,7 @@ room_is p held = same_left held (machine_in p)
 module _ (n : ℕ) (c d : MapperCounts) (s t : State) (command : Command) (is : n ≡ frames_left s.machine) where
   told : (a : Answer) (pushes : List (ℕ × ℕ)) (rises : MapperCounts) → Rise c d rises → AnswerWithin (Some n) s command a pushes rises t → IsQuietlyFull a rises → AsksAlone command rises → AnswersBy framed_semantics AnyRise c d s (Ok command) a t
   told a pushes rises rose w quiet alone =
-      answered framed_meaning command c d rises s a t rose (record { within = (pushes, subst (λ (room : ℕ). AnswerWithin (Some room) s command a pushes rises t) is w); quiet = quiet; alone = alone })
+      answered framed_meaning command c d rises s a t rose (record { within = (pushes, subst (λ (room : ℕ). AnswerWithin (Some room) s command a pushes rises t) is w); quiet = quiet; stays = stays_of command rises alone })
 
   -- where it is `Full` no page came or went, and no fault is told
   quietly : (a : Answer) (w : LimitedCall n c d s command a t) → AsksFirst command a c d → AsksAlone command w.rises → AnswersBy framed_semantics AnyRise c d s (Ok command) a t

@@ -9,7 +9,6 @@ use Rattle.vm_model.specs.Answering.{Answer}
 use Rattle.vm_model.specs.Run.{Read, State}
 use Rattle.vm_model.specs.Steps.{Semantics}
 use Rattle.actor_script.specs.Forms.{command_of}
-use Rattle.flat_mm.specs.Alone.{AsksAlone}
 use Rattle.flat_mm.specs.TwoManagers.{IsAnsweredWithin}
 use Rattle.replay.specs.AtOnce.{Meaning, at_once}
 
@@ -27,6 +26,18 @@ without_forest (Ok command) = if asks_forest command then Err BadLine else Ok co
 abbrev pub framed_command_of : List ℕ → Read
 framed_command_of line = without_forest (command_of line)
 
+-- no page came or went
+abbrev NoPage : MapperCounts → Type 0
+NoPage rises = (rises.pulls ≡ 0) × (rises.pushes ≡ 0)
+
+-- with a load, a store, a lock and a page-out no page comes or goes
+abbrev pub StaysInFrames : Command → MapperCounts → Type 0
+StaysInFrames (commands.Load actor address bytes) rises = NoPage rises
+StaysInFrames (commands.Store actor address piece) rises = NoPage rises
+StaysInFrames (commands.Lock region) rises = NoPage rises
+StaysInFrames (commands.PageOut count) rises = NoPage rises
+StaysInFrames command rises = Unit {0}
+
 -- with `Full` no count of the mapper rises
 abbrev pub IsQuietlyFull : Answer → MapperCounts → Type 0
 IsQuietlyFull (Err (Refused Full)) rises = rises ≡ no_counts
@@ -38,7 +49,7 @@ pub record IsFramedAnswer (before : State) (command : Command) (answer : Answer)
     (rises : MapperCounts) (after : State) : Type 0 where
   pub within : IsAnsweredWithin before (Ok command) answer rises after
   pub quiet : IsQuietlyFull answer rises
-  pub alone : AsksAlone command rises
+  pub stays : StaysInFrames command rises
 
 -- what its commands mean
 abbrev pub framed_meaning : Meaning Command
