@@ -1,8 +1,8 @@
 // The links of entries, of which those that were never written take room alone.
-ghost use Rattle.std.specs.Prelude.{◌≡◌, ◌<◌, ◌≤◌, ◌^◌, length, map, slice_set, vec_capacity, IfOk};
+ghost use Rattle.std.specs.Prelude.{◌≡◌, ◌<◌, ◌≤◌, ◌^◌, Some, length, map, slice_set, vec_capacity, IfOk};
 ghost use Rattle.std.specs.List.{range_with_len};
 ghost use Rattle.page_tables.specs.Links as spec;
-ghost use Rattle.page_tables.specs.Links.{link_of, links_in, number_before};
+ghost use Rattle.page_tables.specs.Links.{link_of, links_in, number_before, with_before, with_behind};
 
 use crate::lists::{LOOSE, Link};
 use std::alloc::Global;
@@ -89,6 +89,7 @@ impl Links {
     }
 
     /// The link of an entry.
+    #[inline(always)]
     pub fn get(&self, entry: u32) -> Link
         requires { entry < length self.now }
         ensures { result ≡ link_of self.now entry }
@@ -101,11 +102,34 @@ impl Links {
     }
 
     /// Sets the link of an entry.
+    #[inline(always)]
     pub fn set(&mut self, entry: u32, link: Link)
         requires { entry < length self.old }
         ensures { self.new ≡ slice_set self.old entry link }
     {
         bring(&mut self.there, self.list, self.entries, entry);
         self.there[entry as usize] = link;
+    }
+
+    /// Sets who stands before an entry.
+    #[inline(always)]
+    pub fn set_before(&mut self, entry: u32, before: Option<u32>)
+        requires { entry < length self.old }
+        ensures { self.new ≡ with_before self.old (Some entry) before }
+    {
+        bring(&mut self.there, self.list, self.entries, entry);
+        let link = &mut self.there[entry as usize];
+        link.before = before;
+    }
+
+    /// Sets who stands behind an entry.
+    #[inline(always)]
+    pub fn set_behind(&mut self, entry: u32, behind: Option<u32>)
+        requires { entry < length self.old }
+        ensures { self.new ≡ with_behind self.old (Some entry) behind }
+    {
+        bring(&mut self.there, self.list, self.entries, entry);
+        let link = &mut self.there[entry as usize];
+        link.behind = behind;
     }
 }
