@@ -60,7 +60,8 @@ fn first_link(list: Option<u32>, entries: u32, entry: u32) -> Link
 }
 
 // Makes the links up to that of an entry be there.
-fn bring(there: &mut Vec<Link>, list: Option<u32>, entries: u32, entry: u32)
+#[inline(never)]
+fn extend(there: &mut Vec<Link>, list: Option<u32>, entries: u32, entry: u32)
     requires below { entry < entries }
     requires within { length there.old.items ≤ entries }
     requires room { entries ≤ vec_capacity there.old }
@@ -72,6 +73,22 @@ fn bring(there: &mut Vec<Link>, list: Option<u32>, entries: u32, entry: u32)
     while there.len() <= entry as usize {
         let next = there.len() as u32;
         there.push_reserved(first_link(list, entries, next));
+    }
+}
+
+// Sees to it that the link of an entry is there.
+#[inline(always)]
+fn bring(there: &mut Vec<Link>, list: Option<u32>, entries: u32, entry: u32)
+    requires below { entry < entries }
+    requires within { length there.old.items ≤ entries }
+    requires room { entries ≤ vec_capacity there.old }
+    ensures at { entry < length there.new.items }
+    ensures within { length there.new.items ≤ entries }
+    ensures room { entries ≤ vec_capacity there.new }
+    ensures same { links_in list entries there.new.items ≡ links_in list entries there.old.items }
+{
+    if there.len() <= entry as usize {
+        extend(there, list, entries, entry);
     }
 }
 
