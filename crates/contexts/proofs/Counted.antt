@@ -28,17 +28,6 @@ same_one cache n e = ap (λ (c : Bool). cond c 1 0) (eq-eqb cache n e)
 other_none : (cache n : ℕ) → cache ≢ n → one_for cache n ≡ 0
 other_none cache n e = ap (λ (c : Bool). cond c 1 0) (let t : (cache == n) ≡ false = grind (arith, nat_tests) in t)
 
--- more places change nothing
-blank : (k n : ℕ) → count_of (replicate k 0) n ≡ 0
-blank zero n = refl
-blank (suc k) zero = refl
-blank (suc k) (suc n) = blank k n
-
-pub counted_longer : (counts : List ℕ) (k n : ℕ) → count_of (counts ++ replicate k 0) n ≡ count_of counts n
-counted_longer [] k n = blank k n
-counted_longer (c ∷ counts) k zero = refl
-counted_longer (c ∷ counts) k (suc n) = counted_longer counts k n
-
 -- what is counted has a place
 pub counted_within : (counts : List ℕ) (n : ℕ) → 1 ≤ count_of counts n → n < length counts
 counted_within [] n some = absurd (omega (arith, some))

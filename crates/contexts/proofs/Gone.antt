@@ -87,10 +87,6 @@ alive_with : (n : ℕ) (o : Option model.Actor) → has_region n o ≡ true → 
 alive_with n None h = absurd (cc h)
 alive_with n (Some rs) h = (rs, refl, h)
 
-pub alive_has : (n : ℕ) (o : Option model.Actor) → has_region n o ≡ true → IsSome o
-alive_has n None h = absurd (cc h)
-alive_has n (Some rs) h = refl
-
 pub with_actor : (n : ℕ) (xs : List (Option model.Actor)) (a : ℕ) → has_region n (numbered xs a) ≡ true → is_some (region_with n xs) ≡ true
 with_actor n xs a h =
     let found = alive_with n (numbered xs a) h in

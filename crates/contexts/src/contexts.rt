@@ -201,7 +201,7 @@ impl Contexts {
         Ok(self.cut(region, status, pages)?)
     }
 
-    // The same, where nothing refuses it and this is told of the region.
+    // Cuts the region in two, where nothing refuses it and this is told of it.
     fn cut(
         &mut self,
         region: RegionId,

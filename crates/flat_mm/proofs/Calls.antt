@@ -73,10 +73,6 @@ flat_done p q command a fits kept E = record {
     valid None v = record { ready = E.valid None v.ready; kept = tt }
     valid (Some h) v = record { ready = E.valid (Some h) v.ready; kept = kept h v.kept }
 
--- one that tells something
-pub flat_tells : (p : Manager) (command : Command) (a : Answer) → FitsCall p command a p → AnswersWithin eager (machine_in p) command a (machine_in p) → AnswersWithin flat p command a p
-flat_tells p command a fits E = λ h v. within (room_of p) (eager_state h (machine_in p)) (eager_state h (machine_in p)) command a [] no_counts (fits h h) (E h v.ready)
-
 abbrev pub limited : (room : ℕ) (c d : MapperCounts) (before after : State) (command : Command) (a : Answer) → FitsRoom room before.machine command a after.machine → CallIs c d before command a after → LimitedCall room c d before command a after
 limited room c d before after command a fits E = record { pushes = E.pushes; rises = E.rises; rose = E.rose; is = within room before after command a E.pushes E.rises fits E.is }
 

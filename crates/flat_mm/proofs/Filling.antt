@@ -68,9 +68,6 @@ pulled_bytes (Some h) seg first pages P = λ i less.
 abbrev pub roomed : Store → ℕ → Store
 roomed s pages = record s { free = s.free - pages; loose = replicate pages (zeros s.page_bytes) }
 
-pub roomed_whole : (s : Store) (pages : ℕ) → AreWhole s → AreWhole (roomed s pages)
-roomed_whole s pages w = record { caches = w.caches; loose = All-replicate (IsWhole s.page_bytes) pages (zeros s.page_bytes) (length-replicate s.page_bytes 0) }
-
 -- they were taken and filled
 module _ (s a b : Store) (pages : ℕ) (room : pages ≤ s.free) (settled : s.loose ≡ []) (taken : a ≡ roomed s pages) (R : IsReloosed a b) where
   pub filled_many : length b.loose ≡ pages
@@ -78,9 +75,6 @@ module _ (s a b : Store) (pages : ℕ) (room : pages ≤ s.free) (settled : s.lo
 
   pub filled : b ≡ record s { free = s.free - pages; loose = b.loose }
   filled = R.loose ∙ ap (with_loose b.loose) taken
-
-  pub filled_whole : AreWhole s → AreWhole b
-  filled_whole w = R.whole (subst AreWhole (sym taken) (roomed_whole s pages w))
 
   -- and given up again
   pub given_up : (c : Store) → c ≡ record b { free = b.free + length b.loose; loose = [] } → c ≡ s

@@ -138,13 +138,6 @@ page_seen f caches n k = ap (option_and_then (λ (c : Cache). slice_get c.pages 
     go None = refl
     go (Some c) = slice_get-map (page_shown f) c.pages k
 
-some_seen : (f : Frames) (o : Option FramedPage) → IsSome (option_map (page_shown f) o) → IsSome o
-some_seen f None h = absurd (cc h)
-some_seen f (Some p) h = refl
-
-pub framed_some : (f : Frames) (caches : List (Option Framed)) (n k : ℕ) → IsSome (page_at (caches_shown f caches) n k) → IsSome (framed_at caches n k)
-framed_some f caches n k h = some_seen f (framed_at caches n k) (subst IsSome (page_seen f caches n k) h)
-
 module _ (f : Frames) (caches : List (Option Framed)) (loose : List FramedPage) (S : IsFramed f caches loose) where
   -- what is used is held, and has its bytes
   held_if : (g : ℕ) (b : Bool) → is_held f g ≡ b → 1 ≤ times_used caches loose g → is_held f g ≡ true
@@ -369,9 +362,6 @@ module _ (f : Frames) (caches : List (Option Framed)) where
 -- what is lent as a slice comes back as long
 pub refilled : (old w : List ℕ) → length w ≡ length old → refill old w ≡ w
 refilled old w same = grind (arith, common_steps)
-
-pub whole_of : (f : Frames) (caches now : List (Option Framed)) (loose then : List FramedPage) → IsFramed f caches loose → caches ≡ now → loose ≡ then → AreWhole (store_shown f now then)
-whole_of f caches now loose then S same rest = whole_seen f now then (subst (λ (cs : List (Option Framed)). IsFramed f cs then) same (subst (λ (ps : List FramedPage). IsFramed f caches ps) rest S))
 
 -- a live cache is one of the frames' caches
 pub alive_some : (f : Frames) (caches : List (Option Framed)) (n : ℕ) → IsSome (numbered (caches_shown f caches) n) → (c : Framed) × (numbered caches n ≡ Some c)

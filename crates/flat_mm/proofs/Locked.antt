@@ -22,15 +22,6 @@ module _ {A : Type 0} (f : A → Bool) where
   any_next (y ∷ xs) (suc k) zero x step e t = absurd (omega (arith, step))
   any_next (y ∷ xs) (suc k) (suc n) x step e t = any_next xs k n x (omega (arith, step)) e t
 
-  pub any_gone : (xs : List A) (k : ℕ) (b : Bool) → length xs < k + 1 → list_any f (drop k xs) ≡ b → false ≡ b
-  any_gone [] k b past e = nothing k ∙ e
-    where
-      nothing : (k : ℕ) → false ≡ list_any f (drop k [])
-      nothing zero = refl
-      nothing (suc k) = refl
-  any_gone (x ∷ xs) zero b past e = absurd (omega (arith, past))
-  any_gone (x ∷ xs) (suc k) b past e = any_gone xs k b (omega (arith, past)) e
-
 -- what has the next number
 pub next_numbered : {A : Type 0} (xs : List (Option A)) (k : ℕ) → k < length xs → slice_get xs k ≡ Some (numbered xs (k + 1))
 next_numbered xs k less =

@@ -90,19 +90,6 @@ module _ (f : Frames) (caches : List (Option Framed)) (loose : List FramedPage) 
           caches = caches_else (with_held f g true) g (zero_page f.page) caches (omega (arith, unused)) i;
           loose = (pushed ∙ (λ j. same j ++ page j ∷ [])) i;
         })
-
-    pub took_sound : IsFramed took caches (loose ++ p ∷ [])
-    took_sound = record {
-      frames = record {
-        few = omega (arith, S.frames.few, length-set f.held g true);
-        listed = omega (arith, S.frames.listed, length-set f.held g true, length-set f.bytes g (zero_page f.page));
-        whole = All-set (λ b. length b ≡ f.page) f.bytes g (zero_page f.page) (length-replicate f.page 0) S.frames.whole;
-        unpinned = S.frames.unpinned;
-      };
-      used = by_frame (λ h. times_used caches (loose ++ p ∷ []) h ≡ cond (is_held took h) 1 0) g
-          (omega (arith, sum_by_push (bit g) loose p, bit_same g p refl, unused) ∙ sym (ap {B = ℕ} (λ (b : Bool). cond b 1 0) (get_or-set_same f.held g true false less)))
-          (λ h other. omega (arith, sum_by_push (bit h) loose p, bit_other h p (λ e. other (sym e)), S.used h) ∙ sym (ap {B = ℕ} (λ (b : Bool). cond b 1 0) (held_else f.held g h true other)));
-      counted = omega (arith, length-append loose (p ∷ []), fewer, S.counted, length-set f.held g true);
     }
 
   -- A loose page is filled

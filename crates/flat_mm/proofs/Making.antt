@@ -62,9 +62,6 @@ plain_temporary b n = ap (λ (ps : List model.Page). let c : model.Cache = recor
 pub caches_more : (cs : List (Option Cache)) (c : Cache) → map (option_map plain) (cs ++ Some c ∷ []) ≡ map (option_map plain) cs ++ Some (plain c) ∷ []
 caches_more cs c = map_push (option_map plain) cs (Some c)
 
-pub live_more : (cs : List (Option Cache)) (c : Cache) → live_in (cs ++ Some c ∷ []) ≡ live_in cs + length c.pages
-live_more cs c = sum_by_push size_of cs (Some c)
-
 sized_more : (cs : List (Option Cache)) (c : Option Cache) (n count : ℕ) → option_map (λ (c : Cache). length c.pages) (numbered cs n) ≡ Some count → option_map (λ (c : Cache). length c.pages) (numbered (cs ++ c ∷ []) n) ≡ Some count
 sized_more cs c n count e = elim (cases_eq n (length cs + 1)) [
   | inl last ↦ absurd (let none = ap (option_map (λ (c : Cache). length c.pages)) (numbered_past cs n last) in cc (none, e))

@@ -32,7 +32,8 @@ impl FlatMm {
         Ok(seg)
     }
 
-    // The same where no page may be locked: refused as `Locked` last.
+    // The segment that names the cache of these pages, none of which is locked. Refused as
+    // `NoCache`, `NotNamed`, `OutOfCache` or `Locked`, in this order.
     fn check_unlocked(&self, extent: &Extent) -> Result<SegId, Refusal>
         ensures refused { IfErr result (λ refusal.
             RefusesFlush (machine_in self.now) extent.now refusal) }
@@ -63,8 +64,8 @@ impl FlatMm {
         }
     }
 
-    /// The same; the pages keep their frames. Refused as `NoCache`, `NotNamed`, `OutOfCache` or
-    /// `Locked`, in this order.
+    /// Pushes those of these pages that were changed, as `sync` does; the pages keep their frames.
+    /// Refused as `NoCache`, `NotNamed`, `OutOfCache` or `Locked`, in this order.
     pub fn flush<M: Mapper>(&mut self, extent: Extent, mapper: &mut M) -> Result<(), Trouble>
         requires some { 1 ≤ extent.pages }
         requires valid { IsValid self.old (M.held mapper.old) }

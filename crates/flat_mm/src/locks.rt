@@ -23,7 +23,7 @@ fn locks(view: RegionView, cache: CacheId, page: u64) -> bool
         && page < extent.first.0 as u64 + extent.pages as u64
 }
 
-// The same of one of these regions.
+// Whether one of these regions is locked and covers this page of the cache.
 fn any_locks(regions: &RegionMap, cache: CacheId, page: u64) -> bool
     ensures { result ≡ list_any (locks cache.0 page) regions.now.regions }
 {

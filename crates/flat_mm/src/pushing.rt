@@ -73,8 +73,8 @@ impl FlatMm {
         Ok(())
     }
 
-    /// The same of all pages of a cache, which has so many; nothing is pushed where no segment
-    /// names it.
+    /// Pushes those of all pages of a cache, which has so many, that were changed, in rising order;
+    /// nothing where no segment names it.
     pub(crate) fn push_cache<M: Mapper>(
         &mut self,
         cache: CacheId,

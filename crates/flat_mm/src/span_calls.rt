@@ -90,8 +90,8 @@ impl FlatMm {
         Ok(())
     }
 
-    // The same of a move, whose source is temporary: else it is refused as `NotTemp`, before
-    // `Overlap`.
+    // Whether pages may be moved, as far as the mapper isn't asked. Refused as `NoCache`,
+    // `OutOfCache`, `NotTemp` where a segment names the source, `Overlap` or `Locked`, in this order.
     fn check_move(&self, span: &Span) -> Result<(), Refusal>
         ensures refused { IfErr result (λ refusal. (h : Segments)
             → move_of (machine_in self.now) span.now h ≡ refuse (machine_in self.now) refusal) }

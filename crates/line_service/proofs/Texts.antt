@@ -40,9 +40,6 @@ module _ (S : Semantics) (known : Known S.Read) (a b c : Scene S Told) (s t u : 
   pub goes_texts_then : Goes S Texts known a b s t → Goes S Texts known b c t u → Goes S Texts known a c s u
   goes_texts_then p q = goes_joined S Texts Texts Texts (λ v xs w ys x. texts_join v xs w ys x) known a b c s t u p q
 
-  pub goes_texts_cut : Goes S Texts known a b s t → Goes S TextsFront known b c t u → Goes S TextsFront known a c s u
-  goes_texts_cut p q = goes_joined S Texts TextsFront TextsFront (λ v xs w ys x. texts_cut v xs w ys x) known a b c s t u p q
-
   pub goes_texts_or : {T E : Type 0} (r : Result T E) → Goes S Texts known a b s t → GoesOr r S Texts TextsFront known b c t u → GoesOr r S Texts TextsFront known a c s u
   goes_texts_or (Ok x) p q = goes_texts_then p q
   goes_texts_or (Err e) p q = (q.0, q.1, goes_joined S Texts TextsFront TextsFront (λ v xs w ys x. texts_cut v xs w ys x) known a b c s t q.0 p q.2)

@@ -66,7 +66,7 @@ outcome_at p q (Some h) (Some g) command answer rises untold nodes then same bli
 outcome_at p q None (Some g) command answer rises untold nodes then same blind told = absurd (cc same)
 outcome_at p q (Some h) None command answer rises untold nodes then same blind told = absurd (cc same)
 
--- The same where the machine stays, though its forest may not.
+-- The outcome of an answer at which the machine stays, though its forest may not.
 pub outcome_by : (p q : Manager) (h g : Option Held) (command : Command) (answer : Answer) (rises : MapperCounts) (untold : Segments) → IsWhole p.caches → IsWhole q.caches → is_some (segments_of g) ≡ is_some (segments_of h) → machine_of q g ≡ machine_of p h
     → (h ≡ None → (f : PageForest) → Outcome (machine_by p f) (Some (forest_of p h)) command untold answer (machine_by q f) rises)
     → ((s : Segments) → segments_of g ≡ Some s → Outcome (machine_of p h) (Some (forest_of p h)) command s answer (machine_by q (forest_of p h)) rises)
@@ -122,14 +122,14 @@ failed_at c d p q h g command answer untold reach nodes then valid forest stays 
     (outcome_at p q h g command answer (rises_between (length reach.pushes) c d) untold nodes then (reach_told (machine_of p h) h g c d reach) (λ e f. blind f)
     (λ s e. subst (λ (f : PageForest). Outcome (machine_of p h) (Some (forest_of p h)) command s answer (machine_by q f) (rises_between (length reach.pushes) c d)) (sym forest) (told (forest_of p h) s e)))
 
--- The same, whatever is denied.
+-- A call with a mapper at whose answer the forest stays, where the outcome is one whatever is denied.
 pub failed : (c d : MapperCounts) (p q : Manager) (h g : Option Held) (command : Command) (answer : Answer) (reach : Reach (machine_of p h) h g c d) → IsWhole p.caches → IsWhole q.caches → IsValid q g → forest_of q g ≡ forest_of p h
     → forest_after (forest_of p h) (machine_of p h) command answer (machine_of q g) ≡ forest_of p h → ReachesMapper command (rises_between (length reach.pushes) c d) → IsSynchronised (machine_of p h) (segments_of g) command answer
     → ((f : PageForest) (s : Segments) → Outcome (machine_by p f) (Some (forest_of p h)) command s answer (machine_by q f) (rises_between (length reach.pushes) c d))
     → CallIs c d (state_at p h) command answer (state_at q g)
 failed c d p q h g command answer reach nodes then valid forest stays reaches synchronised outcome = failed_at c d p q h g command answer no_segments reach nodes then valid forest stays reaches synchronised (λ f. outcome f no_segments) (λ f s e. outcome f s)
 
--- The same where the command saves nothing.
+-- A call with a mapper, of a command that saves nothing, at whose answer the forest stays.
 pub called : (c d : MapperCounts) (p q : Manager) (h g : Option Held) (command : Command) (answer : Answer) (reach : Reach (machine_of p h) h g c d) → IsWhole p.caches → IsWhole q.caches → IsValid q g → forest_of q g ≡ forest_of p h
     → ((done : ℕ) (m : Machine) (f : Option PageForest) (s : Segments) → MayFault m f command s (faults.Save done) (rises_between (length reach.pushes) c d) → ⊥) → ReachesMapper command (rises_between (length reach.pushes) c d)
     → IsSynchronised (machine_of p h) (segments_of g) command answer → ((f : PageForest) → followed f (machine_of p h) command (machine_of q g) ≡ f) → ((page : ℕ) → pages_passed (machine_of p h) command page ≡ [])
@@ -162,7 +162,7 @@ pub answered : (p q : Manager) (h : Option Held) (command : Command) (answer : A
 answered p q h command answer nodes then valid forest stays reaches synchronised outcome = stayed p q h command answer no_counts valid forest stays reaches synchronised
     (outcome_at p q h h command answer no_counts no_segments nodes then refl (λ e f. outcome f no_segments) (λ s e. subst (λ (f : PageForest). Outcome (machine_of p h) (Some (forest_of p h)) command s answer (machine_by q f) no_counts) (sym forest) (outcome (forest_of p h) s)))
 
--- The same where the command saves nothing.
+-- A call without a mapper, of a command that saves nothing, at whose answer the forest stays.
 pub seated : (p q : Manager) (h : Option Held) (command : Command) (answer : Answer) → IsWhole p.caches → IsWhole q.caches → IsValid q h → forest_of q h ≡ forest_of p h
     → ((done : ℕ) (m : Machine) (f : Option PageForest) (s : Segments) → MayFault m f command s (faults.Save done) no_counts → ⊥) → ReachesMapper command no_counts → IsSynchronised (machine_of p h) (segments_of h) command answer
     → ((f : PageForest) → followed f (machine_of p h) command (machine_of q h) ≡ f) → ((page : ℕ) → pages_passed (machine_of p h) command page ≡ [])

@@ -71,10 +71,6 @@ module _ (m : Machine) (h g : Option Held) (c d : MapperCounts) (r : Reach m h g
   pub reach_denied : option_map (λ (s : Segments). s.denied) (segments_of g) ≡ option_map (λ (s : Segments). s.denied) (segments_of h)
   reach_denied = ap (option_map (λ (s : Segments). s.denied)) r.rule.pushed ∙ still_denied m r.pushes (segments_of h)
 
-told_of : (h : Option Held) → is_some (segments_of h) ≡ is_some h
-told_of None = refl
-told_of (Some h) = refl
-
 -- a fact of what is told goes on
 pub as_told : (T : Type 0) (h g : Option Held) → is_some (segments_of g) ≡ is_some (segments_of h) → IfSome h (λ _. T) → IfSome g (λ _. T)
 as_told T h None e x = tt

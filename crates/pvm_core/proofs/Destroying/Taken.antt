@@ -58,9 +58,6 @@ module _ (a b d : Arena) (s u : Store) (t : Actors) (live : ℕ) (cache : CacheI
   tables : d.caches ≡ tables_without b.caches cache.0
   tables = ap (λ k. k.caches) is
 
-  less : n ≤ live
-  less = omega (arith, size_le a cache.0 n size, i.counted)
-
   counted : live - n ≡ live_in d
   counted = omega (arith, left b.caches cache.0 n there_b, ap (sum_by page_count) tables, live_same a b same, i.counted)
 
@@ -94,9 +91,6 @@ module _ (a b d : Arena) (s u : Store) (t : Actors) (live : ℕ) (cache : CacheI
   module _ (h : Option Held) (v : IsValid (seen a s t) h) (right : StaysRight s a u b) (rule : ForAnyMapper s a u b (λ old new. store_forest new ≡ destroy false (page_names cache 0 n) (store_forest old))) (listed : IsListed b) (empty : (page : ℕ) → node_at b cache.0 page ≡ None) where
     abbrev p : Manager
     p = seen a s t
-
-    abbrev q : Manager
-    q = seen d u t
 
     abbrev m : Machine
     m = machine_of (seen a s t) h
@@ -134,9 +128,6 @@ module _ (a b d : Arena) (s u : Store) (t : Actors) (live : ℕ) (cache : CacheI
         actors = t.actors;
         regions_made = t.regions_made;
       }
-
-      pub touched : (f : PageForest) → pages_in (cache_of (machine_by (seen a s t) f) cache.0) ≡ n
-      touched f = ap pages_in (here f) ∙ pages f
 
       -- with the saves that were done before
       pub follows : (named : Bool) (F : PageForest) → forest_of (seen a s t) h ≡ saved named (page_names cache 0 n) F → forest_of (seen d u t) h ≡ destroy named (page_names cache 0 n) F

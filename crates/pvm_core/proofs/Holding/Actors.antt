@@ -23,9 +23,6 @@ use Rattle.pvm_core.specs.Locks.{locks_by, locks_over}
 use Rattle.pvm_core.proofs.Holding.Regions.{counted_insert, cut_counts, neither, none_goes, one_goes, prot_counts, replaced, times_none, times_some, unlocked}
 
 module _ (cache page : ℕ) where
-  abbrev by_page : Option Actor → ℕ
-  by_page o = locks_by cache page o
-
   -- an actor more, without regions
   pub over_made : (xs : List (Option Actor)) → locks_over (xs ++ Some [] ∷ []) cache page ≡ locks_over xs cache page
   over_made xs = omega (arith, sum_by_push (locks_by cache page) xs (Some []))

@@ -136,9 +136,6 @@ module _ (t : Table) (page : ℕ) (free : locks_at page t.locks ≡ 0) where
   node_less n (x ∷ ts) (suc k) at locked = node_less n ts k at locked
 
 module _ (b d : Arena) (u : Store) (actors : List (Option Actor)) (cache : CacheId) (segment : Option SegId) (own : OwnState) (nodes : List NodeId) (made : IsMade b d cache segment own nodes) (stays : CellsStay b d) (before : IsListed b) (after : IsListed d) (held : AreHeld b u actors) where
-  table : Table
-  table = new_table segment nodes
-
   locks_with : (c page : ℕ) → locks_in page (table_at (b.caches ++ Some (new_table segment nodes) ∷ []) c) ≡ locks_in page (table_at b.caches c)
   locks_with zero page = refl
   locks_with (suc k) page = locks_more (new_table segment nodes) page (none_locked (length nodes) page) b.caches k

@@ -42,9 +42,6 @@ alike_still w v c right whole same held names forest made frames page page_bytes
   told = tells_none w v c c (ap segments_of told) (omega arith);
 }
 
-pub alike_itself : (w : World) (c : MapperCounts) → IsStoreRight w → IsWhole w.caches → ReadsAlike w w c c
-alike_itself w c right whole = alike_still w w c right whole (sizes_same w.caches w.caches refl) (λ n. refl) (λ n. refl) refl refl refl refl refl refl refl
-
 -- after a fault that left what each page reads
 pub alike_answered : (w v : World) (c d : MapperCounts) → IsWhole w.caches → IsAnswered w v c d → ((x : NodeName) → value_of (store_forest v) x ≡ value_of (store_forest w) x) → ReadsAlike w v c d
 alike_answered w v c d whole answered values = record {

@@ -63,12 +63,6 @@ over_few cache page (x ∷ xs) = omega (arith, sum_by-cons (locks_by cache page)
 
 module _ (a b : Arena) (s u : Store) (h g : Option Held) (i j : Option ℕ) (c d : MapperCounts) (alike : ReadsAlike (world h i a s) (world g j b u) c d) (t : Actors) (live : ℕ) (sound : IsManagerSound a s t live) (region : RegionId) (r : Region) (found : region_with region.0 t.actors ≡ Some r) (free : r.locked ≡ false)
     (low : nat_lt (length s.frames.held - UNLOCKED_FRAMES) (locked_count a + unlocked_in a (pages_of r)) ≡ false) where
-  abbrev n : ℕ
-  n = region.0
-
-  abbrev after : Actors
-  after = with_locked region.0 true t
-
   -- all is well for the row
   row : (f : PageForest) → lock_of (machine_with (caches_shown f 1 a.caches) (length s.frames.held) t) region.0 ≡ reply replies.Done (machine_with (caches_shown f 1 a.caches) (length s.frames.held) (with_locked region.0 true t))
   row f = lock_row (caches_shown f 1 a.caches) (length s.frames.held) t region.0 r found free (limit_is a t sound.locked.counted sound.actors region.0 r found free f (length s.frames.held) ∙ low)

@@ -64,9 +64,6 @@ module _ (p q : Manager) (h : Option Held) (seg : SegId) (n : ℕ) (free : IsOpe
   machine : machine_of q h ≡ machine_of p h
   machine = ap (machine_by q) forest ∙ by (forest_of p h)
 
-  long : length (pages_for h seg n) ≡ n
-  long = many h seg p.page_bytes n has
-
   -- there is no room for so many live pages
   pub too_many : LIVE_PAGES < live + n → AnswerIs (state_at p h) (commands.OpenSegment seg) (Err (troubles.Refused refusals.TooMany)) [] no_counts (state_at q h)
   too_many past = stayed p q h (commands.OpenSegment seg) (Err (troubles.Refused refusals.TooMany)) no_counts valid forest refl tt tt

@@ -54,9 +54,6 @@ some_size (Some t) s e = (length t.pages, refl)
 
 module _ (b d : Arena) (u : Store) (t : Actors) (live n : ℕ) (cache : CacheId) (seg : SegId) (nodes : List NodeId) (size : length nodes ≡ n) (made : IsMade b d cache (Some seg) OnSegment nodes) (forest : arena.forest_of d ≡ make (pages_with OnSegment cache n) (arena.forest_of b)) (sound : arena_sound.IsSound d) (stays : CellsStay b d)
     (i : IsManagerSound b u t live) (free : IsOpened b seg → ⊥) (few : live + n ≤ LIVE_PAGES) (slots : 2 * (live + n) ≤ length u.slots) where
-  abbrev table : Table
-  table = new_table (Some seg) nodes
-
   -- a cache of a segment is the one that was made, or was there
   cases : (c : ℕ) (s : SegId) → segment_of d c ≡ Some (Some s) → (segment_of b c ≡ Some (Some s)) ⊎ ((c ≡ cache.0) × (s ≡ seg))
   cases c s e = elim (table_cases b.caches (new_table (Some seg) nodes) c s (ap (λ (ts : List (Option Table)). option_map (λ (t : Table). t.segment) (table_at ts c)) (sym made.caches) ∙ e)) [

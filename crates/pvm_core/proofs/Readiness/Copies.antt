@@ -62,10 +62,6 @@ few p (x ∷ xs) = go (p x) (few p xs)
     go true low = omega (arith, low)
     go false low = omega (arith, low)
 
-either : (a b : Bool) → (a || b) ≡ true → (a ≡ false) → b ≡ true
-either true b e f = absurd (cc f)
-either false b e f = e
-
 left_or : (a b : Bool) → a ≡ true → (a || b) ≡ true
 left_or true b e = refl
 left_or false b e = absurd (cc e)

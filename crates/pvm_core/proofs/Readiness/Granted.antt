@@ -88,7 +88,7 @@ granted_same a b e = record {
   segments = same_at (option_map (λ (t : Table). t.segment)) one_segment a.caches b.caches e;
 }
 
--- The same caches are shown
+-- No cache is shown that wasn't, and each as it was
 
 one_shown : (f : PageForest) (n : ℕ) (o p : Option Table) → option_map (λ (t : Table). length t.pages) p ≡ option_map (λ (t : Table). length t.pages) o → option_map (λ (t : Table). t.segment) p ≡ option_map (λ (t : Table). t.segment) o
     → option_map (cache_shown f n) p ≡ option_map (cache_shown f n) o

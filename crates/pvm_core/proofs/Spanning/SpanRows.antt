@@ -72,10 +72,6 @@ module _ (m : Machine) (s : Span) (h : Segments) where
     unfolding move_of with_some unless
     move_denied lock temp denied = rw (from, to, out, temp, apart, lock, denied) refl
 
-neither : (a b : Bool) → (a || b) ≡ false → (a ≡ false) × (b ≡ false)
-neither true b e = absurd (cc e)
-neither false b e = (refl, e)
-
 not_past : (a b : ℕ) → nat_lt a b ≡ false → b ≤ a
 not_past a b e = grind (arith, nat_tests)
 
