@@ -18,7 +18,7 @@ ghost use Rattle.pvm_core.specs.Keeping.{SameButSeen};
 ghost use Rattle.pvm_core.specs.Manager.{IsValid, machine_of, meaning, state_at};
 
 use crate::Pvm;
-use crate::nodes::{has_page_here, is_at_hand, node_of};
+use crate::nodes::{has_own_at_hand, has_page_at_hand, node_of};
 use crate::pieces::{fault_of, part_of};
 use crate::translations::{byte_at, remember_found, translated};
 use fault_path::read_owner;
@@ -87,7 +87,7 @@ impl Pvm {
         match self.contexts.locate(actor, address, 1) {
             Ok(place) => {
                 let node = node_of(&self.caches, place.cache, place.page);
-                is_at_hand(&self.caches, node)
+                has_page_at_hand(&self.caches, node)
             }
             Err(_) => false,
         }
@@ -110,11 +110,11 @@ impl Pvm {
     }
 
     // Whether the own page of a node is at hand.
-    pub(crate) fn is_here(&self, owner: NodeId) -> bool
+    pub(crate) fn is_owner_at_hand(&self, owner: NodeId) -> bool
         requires { HasNode self.now.caches owner }
         ensures { result ≡ faults.is_at_hand (own_of self.now.caches owner) }
     {
-        has_page_here(&self.caches, owner)
+        has_own_at_hand(&self.caches, owner)
     }
 
     // A load at a place, the nodes of whose page are told.
@@ -203,7 +203,7 @@ impl Pvm {
             None => match self.locate(actor, address, bytes) {
                 Ok(place) => {
                     let nodes = self.nodes_at(place);
-                    if self.is_here(nodes.owner) {
+                    if self.is_owner_at_hand(nodes.owner) {
                         Some(self.load_at(nodes, place, actor, address, bytes, mapper, chooser))
                     } else {
                         None
@@ -245,7 +245,7 @@ impl Pvm {
             None => match self.locate(actor, address, bytes) {
                 Ok(place) => {
                     let nodes = self.nodes_at(place);
-                    let ready = self.is_here(nodes.owner);
+                    let ready = self.is_owner_at_hand(nodes.owner);
                     match self.load_at(nodes, place, actor, address, bytes, mapper, chooser) {
                         Ok(piece) => (Ok(piece), true),
                         Err(trouble) => (Err(trouble), ready),

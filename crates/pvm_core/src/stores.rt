@@ -244,7 +244,7 @@ impl Pvm {
         match self.place_to_write(actor, address, piece, mapper) {
             Ok(place) => {
                 let nodes = self.nodes_at(place);
-                if self.is_here(nodes.owner) {
+                if self.is_owner_at_hand(nodes.owner) {
                     Some(self.store_at(nodes, place, actor, address, piece, mapper, chooser))
                 } else {
                     None
@@ -289,7 +289,7 @@ impl Pvm {
             Err(trouble) => return (Err(trouble), self.is_ready(actor, address)),
         };
         let nodes = self.nodes_at(place);
-        if self.is_here(nodes.owner) {
+        if self.is_owner_at_hand(nodes.owner) {
             return (
                 self.store_at(nodes, place, actor, address, piece, mapper, chooser),
                 true,

@@ -27,7 +27,7 @@ use Rattle.vm_model.specs.Outcome.{OutcomeAt}
 use Rattle.contexts.specs.Actors.{Actors}
 use Rattle.pvm_core.specs.Locks.{any_locked, locks_over}
 use Rattle.pvm_core.specs.Manager.{IsManagerSound, IsValid, Manager, forest_of, machine_of, numbered}
-use Rattle.pvm_core.specs.Saving.{CopiesSaved, IsReady, KeepsMachine, is_named}
+use Rattle.pvm_core.specs.Saving.{CopiesSaved, IsMadeReady, KeepsMachine, is_named}
 use Rattle.pvm_core.specs.Spans.{replaced}
 use Rattle.pvm_core.proofs.Accesses.Loading.{size_le}
 use Rattle.pvm_core.proofs.Answering.Answered.{call_is}
@@ -49,14 +49,14 @@ pub record IsReadied (p : Manager) (h g : Option Held) (c d : MapperCounts) (a :
   pub valid : IsValid (seen a s t) g
   pub tied : IsStoreTied s a
   pub keeps : KeepsMachine p (seen a s t) h g c d
-  pub ready : IsReady (replaced span) nodes p (seen a s t) h g
+  pub ready : IsMadeReady (replaced span) nodes p (seen a s t) h g
   pub out : IsOpen (size_of a span.from.0) (size_of a span.to.0) (any_locked a (replaced span)) span
 
 module _ (p : Manager) (h g : Option Held) (c d : MapperCounts) (a : Arena) (s : Store) (t : Actors) (live : ℕ) (sound : IsManagerSound a s t live) (span : Span) (nodes : ℕ) where
   -- from p, which the call that readied the range of these pages knows as old, and by q, as it left
   -- the manager
   pub readied : (old q : Manager) → p ≡ old → seen a s t ≡ q → (range : Extent) → range ≡ replaced span → ((cache page : ℕ) → locks_of p.caches cache page ≡ locks_over p.actors cache page)
-      → IsOpen (size_of p.caches span.from.0) (size_of p.caches span.to.0) (any_locked p.caches (replaced span)) span → IsValid q g → KeepsMachine old q h g c d → IsReady range nodes old q h g → IsReadied p h g c d a s t span nodes
+      → IsOpen (size_of p.caches span.from.0) (size_of p.caches span.to.0) (any_locked p.caches (replaced span)) span → IsValid q g → KeepsMachine old q h g c d → IsMadeReady range nodes old q h g → IsReadied p h g c d a s t span nodes
   readied old q view back range is counted out now kept fit =
       let valid = valid_seen back now in
       let keeps = subst (λ (m : Manager). KeepsMachine p m h g c d) (sym back) (subst (λ (m : Manager). KeepsMachine m q h g c d) (sym view) kept) in
@@ -64,7 +64,7 @@ module _ (p : Manager) (h g : Option Held) (c d : MapperCounts) (a : Arena) (s :
         valid = valid;
         tied = tied_right g None a s valid.right;
         keeps = keeps;
-        ready = subst (λ (e : Extent). IsReady e nodes p (seen a s t) h g) is (subst (λ (m : Manager). IsReady range nodes p m h g) (sym back) (subst (λ (m : Manager). IsReady range nodes m q h g) (sym view) fit));
+        ready = subst (λ (e : Extent). IsMadeReady e nodes p (seen a s t) h g) is (subst (λ (m : Manager). IsMadeReady range nodes p m h g) (sym back) (subst (λ (m : Manager). IsMadeReady range nodes m q h g) (sym view) fit));
         out = record {
           from = out.from;
           to = out.to;

@@ -16,7 +16,7 @@ use Rattle.pvm_core.proofs.Accesses.Found.{no_rise}
 use Rattle.pvm_core.proofs.Accesses.Parked.{access_call, any_access, came_not, came_ok, missed_access}
 use Rattle.pvm_core.proofs.Accesses.Parts.{mapper_call, mapper_seen}
 use Rattle.pvm_core.proofs.pvm.Pvm.deliver_load.Given.{Over}
-use Rattle.pvm_core.proofs.pvm.Pvm.deliver_load.Goals.{After-is_here-ready, After-load_at, In-None}
+use Rattle.pvm_core.proofs.pvm.Pvm.deliver_load.Goals.{After-is_owner_at_hand-ready, After-load_at, In-None}
 use Rattle.pvm_core.proofs.pvm.Pvm.deliver_load.Goals as goal
 
 -- the manager is as before where no translation leads to the page
@@ -28,12 +28,12 @@ pub nodes_at-nodes-requires : goal.nodes_at-nodes-requires
 nodes_at-nodes-requires g c = record { place = (c.args.actor.0, c.args.address, c.args.bytes, sym c.in-Ok.is ∙ c.locate.ensures.place) }
 
 -- whether the access is ready
-ready : (g : Over) (c : After-is_here-ready g) → c.is_here-ready.result ≡ is_ready c.load_seen.new.self c.args.actor.0 c.args.address
-ready g c = c.is_here-ready.ensures ∙ c.nodes_at-nodes.ensures.ready c.args.actor.0 c.args.address c.args.bytes (sym c.in-Ok.is ∙ c.locate.ensures.place)
+ready : (g : Over) (c : After-is_owner_at_hand-ready g) → c.is_owner_at_hand-ready.result ≡ is_ready c.load_seen.new.self c.args.actor.0 c.args.address
+ready g c = c.is_owner_at_hand-ready.ensures ∙ c.nodes_at-nodes.ensures.ready c.args.actor.0 c.args.address c.args.bytes (sym c.in-Ok.is ∙ c.locate.ensures.place)
 
 -- and was before
-asked : (g : Over) (c : After-is_here-ready g) → c.is_here-ready.result ≡ is_ready c.args.self.now c.args.actor.0 c.args.address
-asked g c = ready g c ∙ ap (λ (p : Manager). is_ready p c.args.actor.0 c.args.address) (unseen g (goal.at.After-is_here-ready g c).In-None)
+asked : (g : Over) (c : After-is_owner_at_hand-ready g) → c.is_owner_at_hand-ready.result ≡ is_ready c.args.self.now c.args.actor.0 c.args.address
+asked g c = ready g c ∙ ap (λ (p : Manager). is_ready p c.args.actor.0 c.args.address) (unseen g (goal.at.After-is_owner_at_hand-ready g c).In-None)
 
 -- the load at its place
 loaded : (g : Over) (c : After-load_at g) (r : Result Piece Trouble) → c.load_at.result ≡ r → MapperCall g.M.Mapper meaning c.args.mapper.now c.args.self.now (commands.Load c.args.actor c.args.address c.args.bytes) (answer_by replies.Bytes r) c.load_at.new.mapper c.load_at.new.self
@@ -53,18 +53,18 @@ returns-in-Ok-load_at-clause-delivered g c = go (is_ready c.args.self.now c.args
         access_call _ 1 (loaded g (goal.at.returns-in-Ok-load_at-clause-delivered g c).After-load_at (Ok c.in-Ok-load_at.piece) c.in-Ok-load_at.is) tt tt rose (λ r one. came_ok _ _ r (λ no. omega (arith, one)))
 
 pub returns-in-Err-load_at-clause-delivered : goal.returns-in-Err-load_at-clause-delivered
-returns-in-Err-load_at-clause-delivered g c = go c.is_here-ready.result refl
+returns-in-Err-load_at-clause-delivered g c = go c.is_owner_at_hand-ready.result refl
   where
     miss : IsMissAt (g.M.Mapper.counts c.args.mapper.now) (g.M.Mapper.counts c.load_at.new.mapper) c.in-Err-load_at.trouble
     miss = subst (λ (r : Result Piece Trouble). IfErr r (IsMissAt (g.M.Mapper.counts c.args.mapper.now) (g.M.Mapper.counts c.load_at.new.mapper))) c.in-Err-load_at.is c.load_at.ensures.missed
 
-    go : (b : Bool) → c.is_here-ready.result ≡ b
-        → AccessCall g.M.Mapper meaning (IsDelivered (is_ready c.args.self.now c.args.actor.0 c.args.address) (record { answer = Err c.in-Err-load_at.trouble; came = c.is_here-ready.result })) c.args.mapper.now c.args.self.now (commands.Load c.args.actor c.args.address c.args.bytes) (Err c.in-Err-load_at.trouble) c.load_at.new.mapper c.load_at.new.self
-    go true e = absurd (let no : false ≡ true = subst IsOk c.in-Err-load_at.is (c.load_at.ensures.idle (c.load_at.ensures.at_hand (sym (ready g (goal.at.returns-in-Err-load_at-clause-delivered g c).After-is_here-ready) ∙ e))).0 in cc no)
+    go : (b : Bool) → c.is_owner_at_hand-ready.result ≡ b
+        → AccessCall g.M.Mapper meaning (IsDelivered (is_ready c.args.self.now c.args.actor.0 c.args.address) (record { answer = Err c.in-Err-load_at.trouble; came = c.is_owner_at_hand-ready.result })) c.args.mapper.now c.args.self.now (commands.Load c.args.actor c.args.address c.args.bytes) (Err c.in-Err-load_at.trouble) c.load_at.new.mapper c.load_at.new.self
+    go true e = absurd (let no : false ≡ true = subst IsOk c.in-Err-load_at.is (c.load_at.ensures.idle (c.load_at.ensures.at_hand (sym (ready g (goal.at.returns-in-Err-load_at-clause-delivered g c).After-is_owner_at_hand-ready) ∙ e))).0 in cc no)
     go false e =
-        let away : is_ready c.args.self.now c.args.actor.0 c.args.address ≡ false = sym (asked g (goal.at.returns-in-Err-load_at-clause-delivered g c).After-is_here-ready) ∙ e in
+        let away : is_ready c.args.self.now c.args.actor.0 c.args.address ≡ false = sym (asked g (goal.at.returns-in-Err-load_at-clause-delivered g c).After-is_owner_at_hand-ready) ∙ e in
         let call = subst (λ (t : Trouble). MapperCall g.M.Mapper meaning c.args.mapper.now c.args.self.now (commands.Load c.args.actor c.args.address c.args.bytes) (Err t) c.load_at.new.mapper c.load_at.new.self) miss.is (loaded g (goal.at.returns-in-Err-load_at-clause-delivered g c).After-load_at (Err c.in-Err-load_at.trouble) c.in-Err-load_at.is) in
-        subst (λ (b : Bool). AccessCall g.M.Mapper meaning (IsDelivered b (record { answer = Err c.in-Err-load_at.trouble; came = c.is_here-ready.result })) c.args.mapper.now c.args.self.now (commands.Load c.args.actor c.args.address c.args.bytes) (Err c.in-Err-load_at.trouble) c.load_at.new.mapper c.load_at.new.self) (sym away)
+        subst (λ (b : Bool). AccessCall g.M.Mapper meaning (IsDelivered b (record { answer = Err c.in-Err-load_at.trouble; came = c.is_owner_at_hand-ready.result })) c.args.mapper.now c.args.self.now (commands.Load c.args.actor c.args.address c.args.bytes) (Err c.in-Err-load_at.trouble) c.load_at.new.mapper c.load_at.new.self) (sym away)
         (subst (λ (b : Bool). AccessCall g.M.Mapper meaning (IsDelivered false (record { answer = Err c.in-Err-load_at.trouble; came = b })) c.args.mapper.now c.args.self.now (commands.Load c.args.actor c.args.address c.args.bytes) (Err c.in-Err-load_at.trouble) c.load_at.new.mapper c.load_at.new.self) (sym e)
         (subst (λ (t : Trouble). AccessCall g.M.Mapper meaning (IsDelivered false (record { answer = Err t; came = false })) c.args.mapper.now c.args.self.now (commands.Load c.args.actor c.args.address c.args.bytes) (Err t) c.load_at.new.mapper c.load_at.new.self) (sym miss.is)
         (missed_access miss.miss miss.page call tt miss.no_pull)))

@@ -11,7 +11,7 @@ use Rattle.pvm_core.proofs.Accesses.Behind.{done_or_victim, looked_then}
 use Rattle.pvm_core.proofs.Accesses.Parked.{access_call, any_access, came_not, came_ready, came_stored, missed_access, trouble_no_page, victim_no_page}
 use Rattle.pvm_core.proofs.Accesses.Parts.{quiet_then, mapper_seen}
 use Rattle.pvm_core.proofs.pvm.Pvm.deliver_store.Given.{Over}
-use Rattle.pvm_core.proofs.pvm.Pvm.deliver_store.Goals.{After-is_here, After-place_to_write, Else-store_seen, In-Ok}
+use Rattle.pvm_core.proofs.pvm.Pvm.deliver_store.Goals.{After-is_owner_at_hand, After-place_to_write, Else-store_seen, In-Ok}
 use Rattle.pvm_core.proofs.pvm.Pvm.deliver_store.Goals as goal
 
 -- where the page is looked for, the manager is as before
@@ -23,15 +23,15 @@ pub nodes_at-nodes-requires : goal.nodes_at-nodes-requires
 nodes_at-nodes-requires g c = record { place = (c.args.actor.0, c.args.address, length c.args.piece.now, c.in-Ok.ensures.place) }
 
 -- whether the access is ready
-asked_now : (g : Over) (c : After-is_here g) → c.is_here.result ≡ is_ready c.place_to_write.new.self c.args.actor.0 c.args.address
-asked_now g c = c.is_here.ensures ∙ c.nodes_at-nodes.ensures.ready c.args.actor.0 c.args.address (length c.args.piece.now) c.in-Ok.ensures.place
+asked_now : (g : Over) (c : After-is_owner_at_hand g) → c.is_owner_at_hand.result ≡ is_ready c.place_to_write.new.self c.args.actor.0 c.args.address
+asked_now g c = c.is_owner_at_hand.ensures ∙ c.nodes_at-nodes.ensures.ready c.args.actor.0 c.args.address (length c.args.piece.now) c.in-Ok.ensures.place
 
 -- the questions for write access leave what is ready
 as_before : (g : Over) (c : After-place_to_write g) → is_ready c.place_to_write.new.self c.args.actor.0 c.args.address ≡ is_ready c.args.self.now c.args.actor.0 c.args.address
 as_before g c = c.place_to_write.ensures.hands c.args.actor.0 c.args.address ∙ ap (λ (p : Manager). is_ready p c.args.actor.0 c.args.address) (unseen g (goal.at.After-place_to_write g c).Else-store_seen)
 
-asked : (g : Over) (c : After-is_here g) → c.is_here.result ≡ is_ready c.args.self.now c.args.actor.0 c.args.address
-asked g c = asked_now g c ∙ as_before g (goal.at.After-is_here g c).After-place_to_write
+asked : (g : Over) (c : After-is_owner_at_hand g) → c.is_owner_at_hand.result ≡ is_ready c.args.self.now c.args.actor.0 c.args.address
+asked g c = asked_now g c ∙ as_before g (goal.at.After-is_owner_at_hand g c).After-place_to_write
 
 pub returns-in-Err-clause-delivered : goal.returns-in-Err-clause-delivered
 returns-in-Err-clause-delivered g c =
@@ -46,14 +46,14 @@ behind_questions g c =
     let w = c.in-Ok.ensures.ready in
     omega (arith, w.nodes.made, w.nodes.copies, ap numbered (unseen g (goal.at.In-Ok g c).Else-store_seen))
 
-pub returns-then-is_here-clause-delivered : goal.returns-then-is_here-clause-delivered
-returns-then-is_here-clause-delivered g c =
-    let at = goal.at.returns-then-is_here-clause-delivered g c in
+pub returns-then-is_owner_at_hand-clause-delivered : goal.returns-then-is_owner_at_hand-clause-delivered
+returns-then-is_owner_at_hand-clause-delivered g c =
+    let at = goal.at.returns-then-is_owner_at_hand-clause-delivered g c in
     let w = c.in-Ok.ensures.ready in
     let m = c.args.mapper.now in
     let state = w.state ∙ ap (λ (p : Manager). state_at p (g.M.Mapper.held m)) (unseen g at.Else-store_seen) in
     let call = quiet_then w.later w.asked.traffic state (behind_questions g at.In-Ok) w.page c.store_at.ensures.call in
-    any_access _ call (λ r. came_ready _ _ r (sym (asked g at.After-is_here) ∙ c.if-is_here.true))
+    any_access _ call (λ r. came_ready _ _ r (sym (asked g at.After-is_owner_at_hand) ∙ c.if-is_owner_at_hand.true))
 
 pub returns-in-Err-bring_page-clause-delivered : goal.returns-in-Err-bring_page-clause-delivered
 returns-in-Err-bring_page-clause-delivered g c =
@@ -68,7 +68,7 @@ returns-in-Err-bring_page-clause-delivered g c =
     let state = w.state ∙ ap (λ (p : Manager). state_at p (g.M.Mapper.held m)) (unseen g at.Else-store_seen) in
     let first : MapperCall g.M.Mapper meaning c.place_to_write.new.mapper c.place_to_write.new.self command (Err trouble) k q = c.in-Err-bring_page.ensures.call c.args.piece.now w.may_write w.writable c.in-Ok.ensures.place in
     let call : MapperCall g.M.Mapper meaning m c.args.self.now command (Err trouble) k q = quiet_then w.later w.asked.traffic state (behind_questions g at.In-Ok) w.page first in
-    let away : is_ready c.args.self.now c.args.actor.0 c.args.address ≡ false = sym (asked g at.After-is_here) ∙ c.if-is_here.false in
+    let away : is_ready c.args.self.now c.args.actor.0 c.args.address ≡ false = sym (asked g at.After-is_owner_at_hand) ∙ c.if-is_owner_at_hand.false in
     let none : miss.miss ≡ Victim → RoseBy 0 (g.M.Mapper.counts m).pulls (g.M.Mapper.counts k).pulls = λ victim low. (
     let later = first.answers.rose.pulls_later in
     let y = miss.no_pull victim low in
@@ -91,7 +91,7 @@ returns-in-Ok-bring_page-clause-delivered g c =
     let then = c.store_at-in-Ok-bring_page.ensures.call in
     let call : MapperCall g.M.Mapper meaning m c.args.self.now (commands.Store c.args.actor c.args.address c.args.piece.now) (done_by c.store_at-in-Ok-bring_page.result) k c.store_at-in-Ok-bring_page.new.self
     = quiet_then w.later w.asked.traffic state (behind_questions g at.In-Ok) w.page (looked_then looked (done_or_victim c.store_at-in-Ok-bring_page.result victim) then) in
-    let away : is_ready c.place_to_write.new.self c.args.actor.0 c.args.address ≡ false = sym (asked_now g at.After-is_here) ∙ c.if-is_here.false in
+    let away : is_ready c.place_to_write.new.self c.args.actor.0 c.args.address ≡ false = sym (asked_now g at.After-is_owner_at_hand) ∙ c.if-is_owner_at_hand.false in
     let one : RoseBy 1 (g.M.Mapper.counts m).pulls (g.M.Mapper.counts k).pulls = λ low. (
     let last = then.answers.rose.pulls_later in
     let later = looked.reach.later.pulls in
@@ -99,7 +99,7 @@ returns-in-Ok-bring_page-clause-delivered g c =
     let y = c.in-Ok-bring_page.ensures.pulled away (omega (arith, last, low)) in
     let x = c.place_to_write.ensures.no_pull (omega (arith, last, later, low)) in
     omega (arith, x, y, z)) in
-    access_call _ 1 call tt (victim_no_page c.store_at-in-Ok-bring_page.result victim) one (λ r pulled. came_stored _ c.store_at-in-Ok-bring_page.result r (sym (asked g at.After-is_here) ∙ c.if-is_here.false) victim pulled)
+    access_call _ 1 call tt (victim_no_page c.store_at-in-Ok-bring_page.result victim) one (λ r pulled. came_stored _ c.store_at-in-Ok-bring_page.result r (sym (asked g at.After-is_owner_at_hand) ∙ c.if-is_owner_at_hand.false) victim pulled)
 
 pub returns-in-Ok-bring_page-clause-still_admits : goal.returns-in-Ok-bring_page-clause-still_admits
 returns-in-Ok-bring_page-clause-still_admits g c = λ command e. c.store_at-in-Ok-bring_page.ensures.admits command (c.bring_page.ensures.admits command (c.place_to_write.ensures.admits command (c.store_seen.ensures.admits command e)))

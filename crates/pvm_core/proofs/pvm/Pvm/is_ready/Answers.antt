@@ -23,8 +23,8 @@ returns-in-Ok c =
     let i = c.self.inside in
     let p : Manager = seen i.caches i.store i.contexts in
     let r = found (goal.at.returns-in-Ok c).In-Ok in
-    subst (λ (p : Manager). c.is_at_hand.result ≡ is_ready p c.args.actor.0 c.args.address) c.self.view_is
-    (c.is_at_hand.ensures ∙ ap (is_page_at_hand i.caches) c.node_of-node.ensures.name ∙ ap (is_ready_at p) r.is)
+    subst (λ (p : Manager). c.has_page_at_hand.result ≡ is_ready p c.args.actor.0 c.args.address) c.self.view_is
+    (c.has_page_at_hand.ensures ∙ ap (is_page_at_hand i.caches) c.node_of-node.ensures.name ∙ ap (is_ready_at p) r.is)
 
 pub returns-in-Err : goal.returns-in-Err
 returns-in-Err c =

@@ -16,7 +16,7 @@ use Rattle.pvm_core.proofs.Accesses.Found.{no_rise}
 use Rattle.pvm_core.proofs.Accesses.Parked.{IsNoPage, access_call}
 use Rattle.pvm_core.proofs.Accesses.Parts.{mapper_call, mapper_seen}
 use Rattle.pvm_core.proofs.pvm.Pvm.issue_load.Given.{Over}
-use Rattle.pvm_core.proofs.pvm.Pvm.issue_load.Goals.{After-is_here, After-load_at, In-None}
+use Rattle.pvm_core.proofs.pvm.Pvm.issue_load.Goals.{After-is_owner_at_hand, After-load_at, In-None}
 use Rattle.pvm_core.proofs.pvm.Pvm.issue_load.Goals as goal
 
 -- no page is pulled where the mapper isn't called
@@ -40,32 +40,32 @@ pub nodes_at-nodes-requires : goal.nodes_at-nodes-requires
 nodes_at-nodes-requires g c = record { place = (c.args.actor.0, c.args.address, c.args.bytes, sym c.in-Ok.is ∙ c.locate.ensures.place) }
 
 -- whether the access is ready
-ready : (g : Over) (c : After-is_here g) → c.is_here.result ≡ is_ready c.load_seen.new.self c.args.actor.0 c.args.address
-ready g c = c.is_here.ensures ∙ c.nodes_at-nodes.ensures.ready c.args.actor.0 c.args.address c.args.bytes (sym c.in-Ok.is ∙ c.locate.ensures.place)
+ready : (g : Over) (c : After-is_owner_at_hand g) → c.is_owner_at_hand.result ≡ is_ready c.load_seen.new.self c.args.actor.0 c.args.address
+ready g c = c.is_owner_at_hand.ensures ∙ c.nodes_at-nodes.ensures.ready c.args.actor.0 c.args.address c.args.bytes (sym c.in-Ok.is ∙ c.locate.ensures.place)
 
 -- what a load leaves that is ready
-at_hand : (g : Over) (c : After-load_at g) → c.is_here.result ≡ true → IsOk c.load_at.result × SameButSeen c.load_seen.new.self c.load_at.new.self × (c.load_at.new.mapper ≡ c.args.mapper.now)
-at_hand g c here = c.load_at.ensures.idle (c.load_at.ensures.at_hand (sym (ready g (goal.at.After-load_at g c).After-is_here) ∙ here))
+at_hand : (g : Over) (c : After-load_at g) → c.is_owner_at_hand.result ≡ true → IsOk c.load_at.result × SameButSeen c.load_seen.new.self c.load_at.new.self × (c.load_at.new.mapper ≡ c.args.mapper.now)
+at_hand g c here = c.load_at.ensures.idle (c.load_at.ensures.at_hand (sym (ready g (goal.at.After-load_at g c).After-is_owner_at_hand) ∙ here))
 
 ok_no_page : (r : Result Piece Trouble) → IsOk r → IsNoPage (answer_by replies.Bytes r)
 ok_no_page (Ok x) e = tt
 ok_no_page (Err x) e = absurd (cc e)
 
-pub returns-then-is_here-clause-answered : goal.returns-then-is_here-clause-answered
-returns-then-is_here-clause-answered g c =
-    let at = goal.at.returns-then-is_here-clause-answered g c in
+pub returns-then-is_owner_at_hand-clause-answered : goal.returns-then-is_owner_at_hand-clause-answered
+returns-then-is_owner_at_hand-clause-answered g c =
+    let at = goal.at.returns-then-is_owner_at_hand-clause-answered g c in
     let m = c.args.mapper.now in
-    let idle = at_hand g at.After-load_at c.if-is_here.true in
+    let idle = at_hand g at.After-load_at c.if-is_owner_at_hand.true in
     let call = mapper_seen (unseen g at.In-None) c.load_at.ensures.call in
     let none : RoseBy 0 (g.M.Mapper.counts m).pulls (g.M.Mapper.counts c.load_at.new.mapper).pulls = subst (λ k. RoseBy 0 (g.M.Mapper.counts m).pulls (g.M.Mapper.counts k).pulls) (sym idle.2) (no_rise _) in
     access_call NoPull 0 call tt (ok_no_page c.load_at.result idle.0) none (λ r e. e)
 
-pub returns-then-is_here-clause-at_hand : goal.returns-then-is_here-clause-at_hand
-returns-then-is_here-clause-at_hand g c = λ ok.
-    let at = goal.at.returns-then-is_here-clause-at_hand g c in
-    sym (ap (λ (p : Manager). is_ready p c.args.actor.0 c.args.address) (unseen g at.In-None)) ∙ sym (ready g at.After-is_here) ∙ c.if-is_here.true
+pub returns-then-is_owner_at_hand-clause-at_hand : goal.returns-then-is_owner_at_hand-clause-at_hand
+returns-then-is_owner_at_hand-clause-at_hand g c = λ ok.
+    let at = goal.at.returns-then-is_owner_at_hand-clause-at_hand g c in
+    sym (ap (λ (p : Manager). is_ready p c.args.actor.0 c.args.address) (unseen g at.In-None)) ∙ sym (ready g at.After-is_owner_at_hand) ∙ c.if-is_owner_at_hand.true
 
-pub returns-else-is_here-clause-not_ready : goal.returns-else-is_here-clause-not_ready
-returns-else-is_here-clause-not_ready g c =
-    let at = goal.at.returns-else-is_here-clause-not_ready g c in
-    sym (ap (λ (p : Manager). is_ready p c.args.actor.0 c.args.address) (unseen g at.In-None)) ∙ sym (ready g at.After-is_here) ∙ c.if-is_here.false
+pub returns-else-is_owner_at_hand-clause-not_ready : goal.returns-else-is_owner_at_hand-clause-not_ready
+returns-else-is_owner_at_hand-clause-not_ready g c =
+    let at = goal.at.returns-else-is_owner_at_hand-clause-not_ready g c in
+    sym (ap (λ (p : Manager). is_ready p c.args.actor.0 c.args.address) (unseen g at.In-None)) ∙ sym (ready g at.After-is_owner_at_hand) ∙ c.if-is_owner_at_hand.false

@@ -12,7 +12,7 @@ use Rattle.local_cache.specs.Whole.{size_of}
 use Rattle.local_cache.proofs.Tables.Sizes.{sizes_same}
 use Rattle.pvm_core.specs.Keeping.{CopiesNothing, FillsOnly, HasMoreRoom}
 use Rattle.pvm_core.specs.Manager.{Manager, forest_of}
-use Rattle.pvm_core.specs.Saving.{IsNotReady, IsReady, NeedsNoSave, NeedsNothing, is_named}
+use Rattle.pvm_core.specs.Saving.{IsNotReady, IsMadeReady, NeedsNoSave, NeedsNothing, is_named}
 use Rattle.pvm_core.specs.Writes.{GrantsWithin, IsNotGranted, OnlyAsked}
 use Rattle.pvm_core.proofs.Readiness.Granted.{tables_grants, unnamed_of, within_then}
 use Rattle.pvm_core.proofs.Readiness.Filled.{fills_itself, fills_later}
@@ -217,7 +217,7 @@ returns g c =
       valid = search rules;
       keeps = keeps_seen c.self.view_is (keeps_then _ _ _ _ _ _ _ _ _ (reserved g (goal.at.returns g c).After-reserve).machine c.save.ensures.keeps);
       whole = c.save.ensures.whole;
-      ready = (subst (λ (p : Manager). OnOk c.save.result (IsReady c.args.range c.args.nodes p q h k)) c.self.view_is (on_ok_by c.save.result (λ f. (
+      ready = (subst (λ (p : Manager). OnOk c.save.result (IsMadeReady c.args.range c.args.nodes p q h k)) c.self.view_is (on_ok_by c.save.result (λ f. (
           let rule : forest_of q k ≡ saved (is_named i.caches c.args.range.cache.0) (extent_names c.args.range) (forest_of p h) = f ∙ (λ j. saved (named j) (extent_names c.args.range) (before.forest.forest j)) in
           record {
             forest = rule;

@@ -1,7 +1,0 @@
--- The owner's page is what the node reads.
-use Rattle.std.proofs.Common.{sym, ◌∙◌}
-use Rattle.pvm_core.proofs.Accesses.AtHand.{owner_hand}
-use Rattle.pvm_core.proofs.nodes.is_at_hand.Goals as goal
-
-pub returns : goal.returns
-returns c = c.has_page_here.ensures ∙ sym (owner_hand c.args.caches.now c.requires.nodes.sound c.requires.nodes.consistent.shaped c.args.node c.owner_of.result c.requires.node (record { held = c.owner_of.ensures.held; name = c.owner_of.ensures.owner }))
