@@ -90,7 +90,6 @@ module _ (f : Frames) (caches : List (Option Framed)) (loose : List FramedPage) 
           caches = caches_else (with_held f g true) g (zero_page f.page) caches (omega (arith, unused)) i;
           loose = (pushed ∙ (λ j. same j ++ page j ∷ [])) i;
         })
-    }
 
   -- A loose page is filled
 

@@ -87,7 +87,8 @@ IsNotWrittenBack range p h q g trouble = ⊥
 
 -- The pages of a range may be replaced: they may be written, the heirs of those of a named cache
 -- have their saves, and so many nodes fit.
-pub record IsMadeReady (range : Extent) (nodes : ℕ) (p q : Manager) (h g : Option Held) : Type 0 where
+pub record IsMadeReady (range : Extent) (nodes : ℕ) (p q : Manager) (h g : Option Held)
+    : Type 0 where
   pub forest : forest_of q g
       ≡ saved (is_named p.caches range.cache.0) (extent_names range) (forest_of p h)
   pub writable : AreWritable range q.caches

@@ -8,8 +8,6 @@ pub mod Made
 pub mod Calling
 -- A trial, from the answers that were counted.
 pub mod Tallying
--- What a text that was to be written says of the status.
-pub mod Statuses
 -- What a trial promises, from how its lines are answered.
 pub mod Trials
 -- Lines that are answered at once: what was answered.
