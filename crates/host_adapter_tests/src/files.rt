@@ -1,60 +1,64 @@
 // Segments and a swap area in files.
 use crate::folders::{mapper_over, new_folder, path_in};
-use host_adapters::FileMapper;
-use replay::{Status, run};
+use crate::running::is_replied;
+use crate::steps::{Step, first_wrong};
 use std::os::unix::fs::symlink;
 use std::{fs, io};
 use vm_ids::{PAGE, PageNo, SegId, SlotId};
-use vm_port::{Clock, Failed, Mapper, MemorySink, MemorySource, Rotor};
+use vm_port::Failed;
 
+const SEG: SegId = SegId(1);
+
+const NO_FILE: SegId = SegId(3);
+
+const FRONT: PageNo = PageNo(0);
+
+const BACK: PageNo = PageNo(1);
+
+const TAIL: PageNo = PageNo(2);
+
+// Of 1,030 bytes the last page has 6, and zeros behind them. A folder is no segment.
 #[test]
 fn files_are_segments_of_whole_pages(rt: HostRuntime) -> io::Result<()> {
     let folder = new_folder(&rt, "segments")?;
     fs::write(&rt, path_in(&rt, &folder, "seg.1")?, [7u8; 1030].as_slice())?;
     fs::write(&rt, path_in(&rt, &folder, "seg.2")?, "")?;
     fs::create_dir(&rt, path_in(&rt, &folder, "seg.4")?)?;
-    let Ok(mut mapper) = FileMapper::new(&rt, rt.alloc(), &folder, 512) else {
-        panic!(&rt; "no memory");
-    };
-    assert_eq!(&rt; mapper.size(SegId(1)), Ok(Some(3)));
-    assert_eq!(&rt; mapper.size(SegId(2)), Ok(Some(0)));
-    assert_eq!(&rt; mapper.size(SegId(3)), Ok(None));
-    assert_eq!(&rt; mapper.size(SegId(4)), Err(Failed));
-    let mut page = [1u8; 512];
-    assert_eq!(&rt; mapper.pull_in(SegId(1), PageNo(2), &mut page), Ok(()));
-    assert_eq!(&rt; page[..6], *[7u8; 6].as_slice());
-    assert!(&rt; page[6..].iter().all(|byte| *byte == 0));
-    assert_eq!(&rt; mapper.get_write_access(SegId(1), PageNo(0)), Ok(true));
-    assert_eq!(&rt; mapper.push_out(SegId(1), PageNo(2), &[9; 512]), Ok(()));
-    assert_eq!(&rt; mapper.pull_in(SegId(1), PageNo(2), &mut page), Ok(()));
-    assert_eq!(&rt; page, [9; 512]);
-    assert_eq!(&rt; mapper.size(SegId(1)), Ok(Some(3)));
-    assert_eq!(&rt;
-        mapper.push_out(SegId(3), PageNo(0), &[9; 512]),
-        Err(Failed)
-    );
-    assert_eq!(&rt; mapper.size(SegId(3)), Ok(None));
+    let mut mapper = mapper_over(&rt, &folder, 512)?;
+    let steps = [
+        Step::Size(SEG, Ok(Some(3))),
+        Step::Size(SegId(2), Ok(Some(0))),
+        Step::Size(NO_FILE, Ok(None)),
+        Step::Size(SegId(4), Err(Failed)),
+        Step::PullIn(SEG, TAIL, Ok((7, 0))),
+        Step::GetWriteAccess(SEG, FRONT, Ok(true)),
+        Step::PushOut(SEG, TAIL, 9, Ok(())),
+        Step::PullIn(SEG, TAIL, Ok((9, 9))),
+        Step::Size(SEG, Ok(Some(3))),
+        Step::PushOut(NO_FILE, FRONT, 9, Err(Failed)),
+        Step::Size(NO_FILE, Ok(None)),
+    ];
+    assert_eq!(&rt; first_wrong(&mut mapper, &steps), None);
     fs::remove_dir_all(&rt, folder)
 }
 
 #[test]
 fn a_segment_is_the_file_that_was_opened(rt: HostRuntime) -> io::Result<()> {
     let folder = new_folder(&rt, "replaced")?;
-    let (file, other) = (
-        path_in(&rt, &folder, "seg.1")?,
-        path_in(&rt, &folder, "other")?,
-    );
+    let file = path_in(&rt, &folder, "seg.1")?;
+    let other = path_in(&rt, &folder, "other")?;
     fs::write(&rt, file.as_str(), [7u8; 512].as_slice())?;
     fs::write(&rt, other.as_str(), [9u8; 1024].as_slice())?;
-    let mut mapper = mapper_over(&rt, &folder)?;
-    let mut page = [1u8; 512];
-    assert_eq!(&rt; mapper.size(SegId(1)), Ok(Some(1)));
+    let mut mapper = mapper_over(&rt, &folder, 512)?;
+    let opens = [Step::Size(SEG, Ok(Some(1)))];
+    assert_eq!(&rt; first_wrong(&mut mapper, &opens), None);
     fs::rename(&rt, other.as_str(), file.as_str())?;
-    assert_eq!(&rt; mapper.pull_in(SegId(1), PageNo(0), &mut page), Ok(()));
-    assert_eq!(&rt; page, [7; 512]);
-    assert_eq!(&rt; mapper.size(SegId(1)), Ok(Some(2)));
-    assert_eq!(&rt; mapper.pull_in(SegId(1), PageNo(0), &mut page), Ok(()));
-    assert_eq!(&rt; page, [9; 512]);
+    let steps = [
+        Step::PullIn(SEG, FRONT, Ok((7, 7))),
+        Step::Size(SEG, Ok(Some(2))),
+        Step::PullIn(SEG, FRONT, Ok((9, 9))),
+    ];
+    assert_eq!(&rt; first_wrong(&mut mapper, &steps), None);
     fs::remove_dir_all(&rt, folder)
 }
 
@@ -63,18 +67,18 @@ fn a_segment_that_was_cut_is_no_zeros(rt: HostRuntime) -> io::Result<()> {
     let folder = new_folder(&rt, "cut")?;
     let file = path_in(&rt, &folder, "seg.1")?;
     fs::write(&rt, file.as_str(), [7u8; 1024].as_slice())?;
-    let mut mapper = mapper_over(&rt, &folder)?;
-    let mut page = [1u8; 512];
-    assert_eq!(&rt; mapper.size(SegId(1)), Ok(Some(2)));
+    let mut mapper = mapper_over(&rt, &folder, 512)?;
+    let opens = [Step::Size(SEG, Ok(Some(2)))];
+    assert_eq!(&rt; first_wrong(&mut mapper, &opens), None);
     fs::write(&rt, file.as_str(), [7u8; 1000].as_slice())?;
-    assert_eq!(&rt; mapper.pull_in(SegId(1), PageNo(0), &mut page), Ok(()));
-    assert_eq!(&rt; mapper.pull_in(SegId(1), PageNo(1), &mut page), Err(Failed));
-    assert_eq!(&rt;
-        mapper.push_out(SegId(1), PageNo(1), &[9; 512]),
-        Err(Failed)
-    );
-    assert_eq!(&rt; mapper.size(SegId(1)), Ok(Some(2)));
-    assert_eq!(&rt; mapper.push_out(SegId(1), PageNo(1), &[9; 512]), Ok(()));
+    let steps = [
+        Step::PullIn(SEG, FRONT, Ok((7, 7))),
+        Step::PullIn(SEG, BACK, Err(Failed)),
+        Step::PushOut(SEG, BACK, 9, Err(Failed)),
+        Step::Size(SEG, Ok(Some(2))),
+        Step::PushOut(SEG, BACK, 9, Ok(())),
+    ];
+    assert_eq!(&rt; first_wrong(&mut mapper, &steps), None);
     fs::remove_dir_all(&rt, folder)
 }
 
@@ -82,15 +86,23 @@ fn a_segment_that_was_cut_is_no_zeros(rt: HostRuntime) -> io::Result<()> {
 fn a_segment_is_written_by_one_run(rt: HostRuntime) -> io::Result<()> {
     let folder = new_folder(&rt, "runs")?;
     fs::write(&rt, path_in(&rt, &folder, "seg.1")?, [7u8; 512].as_slice())?;
-    let (mut one, mut other) = (mapper_over(&rt, &folder)?, mapper_over(&rt, &folder)?);
-    assert_eq!(&rt; one.size(SegId(1)), Ok(Some(1)));
-    assert_eq!(&rt; one.get_write_access(SegId(1), PageNo(0)), Ok(true));
-    assert_eq!(&rt; other.size(SegId(1)), Err(Failed));
-    assert_eq!(&rt; one.size(SegId(1)), Ok(Some(1)));
-    assert_eq!(&rt; other.size(SegId(1)), Ok(Some(1)));
-    assert_eq!(&rt; one.get_write_access(SegId(1), PageNo(0)), Err(Failed));
-    let mut page = [1u8; 512];
-    assert_eq!(&rt; one.pull_in(SegId(1), PageNo(0), &mut page), Ok(()));
+    let mut one = mapper_over(&rt, &folder, 512)?;
+    let mut other = mapper_over(&rt, &folder, 512)?;
+    let writes = [
+        Step::Size(SEG, Ok(Some(1))),
+        Step::GetWriteAccess(SEG, FRONT, Ok(true)),
+    ];
+    assert_eq!(&rt; first_wrong(&mut one, &writes), None);
+    let waits = [Step::Size(SEG, Err(Failed))];
+    assert_eq!(&rt; first_wrong(&mut other, &waits), None);
+    let reads = [Step::Size(SEG, Ok(Some(1)))];
+    assert_eq!(&rt; first_wrong(&mut one, &reads), None);
+    assert_eq!(&rt; first_wrong(&mut other, &reads), None);
+    let shares = [
+        Step::GetWriteAccess(SEG, FRONT, Err(Failed)),
+        Step::PullIn(SEG, FRONT, Ok((7, 7))),
+    ];
+    assert_eq!(&rt; first_wrong(&mut one, &shares), None);
     fs::remove_dir_all(&rt, folder)
 }
 
@@ -98,21 +110,34 @@ fn a_segment_is_written_by_one_run(rt: HostRuntime) -> io::Result<()> {
 fn a_swap_area_is_of_one_run_alone(rt: HostRuntime) -> io::Result<()> {
     let folder = new_folder(&rt, "swap")?;
     let swap = path_in(&rt, &folder, "swap")?;
-    let (mut one, mut other) = (mapper_over(&rt, &folder)?, mapper_over(&rt, &folder)?);
-    let mut page = [1u8; 512];
-    assert_eq!(&rt; one.swap_in(SlotId(0), &mut page), Err(Failed));
+    let mut one = mapper_over(&rt, &folder, 512)?;
+    let mut other = mapper_over(&rt, &folder, 512)?;
     fs::write(&rt, swap.as_str(), "mine")?;
-    assert_eq!(&rt; one.swap_out(SlotId(5), &[8; 512]), Ok(()));
+    let fills = [
+        Step::SwapIn(SlotId(0), Err(Failed)),
+        Step::SwapOut(SlotId(5), 8, Ok(())),
+    ];
+    assert_eq!(&rt; first_wrong(&mut one, &fills), None);
     assert_eq!(&rt; fs::read(&rt, swap.as_str())?.len(), 4);
     fs::remove_file(&rt, swap.as_str())?;
     symlink(&rt, "nowhere", swap.as_str())?;
-    assert_eq!(&rt; other.swap_out(SlotId(5), &[9; 512]), Ok(()));
+    let fills_too = [Step::SwapOut(SlotId(5), 9, Ok(()))];
+    assert_eq!(&rt; first_wrong(&mut other, &fills_too), None);
     fs::remove_file(&rt, swap.as_str())?;
-    assert_eq!(&rt; one.swap_in(SlotId(5), &mut page), Ok(()));
-    assert_eq!(&rt; page, [8; 512]);
-    assert_eq!(&rt; one.swap_in(SlotId(6), &mut page), Err(Failed));
-    let mut nowhere = mapper_over(&rt, &path_in(&rt, &folder, "none")?)?;
-    assert_eq!(&rt; nowhere.swap_out(SlotId(5), &[8; 512]), Err(Failed));
+    let reads = [
+        Step::SwapIn(SlotId(5), Ok((8, 8))),
+        Step::SwapIn(SlotId(6), Err(Failed)),
+    ];
+    assert_eq!(&rt; first_wrong(&mut one, &reads), None);
+    fs::remove_dir(&rt, folder)
+}
+
+#[test]
+fn a_swap_area_is_in_a_folder(rt: HostRuntime) -> io::Result<()> {
+    let folder = new_folder(&rt, "nowhere")?;
+    let mut mapper = mapper_over(&rt, &path_in(&rt, &folder, "none")?, 512)?;
+    let fills = [Step::SwapOut(SlotId(5), 8, Err(Failed))];
+    assert_eq!(&rt; first_wrong(&mut mapper, &fills), None);
     fs::remove_dir(&rt, folder)
 }
 
@@ -147,26 +172,8 @@ const SWAPS_REPLIES: &str = "1 ok a1
 #[test]
 fn a_run_swaps_to_a_file(rt: HostRuntime) -> io::Result<()> {
     let folder = new_folder(&rt, "run")?;
-    let Ok(mut mapper) = FileMapper::new(&rt, rt.alloc(), &folder, PAGE as u32) else {
-        panic!(&rt; "no memory");
-    };
-    let mut source = MemorySource::new(SWAPS.as_bytes(), &[]);
-    let Ok(mut sink) = MemorySink::new(rt.alloc(), 4096, &[]) else {
-        panic!(&rt; "no memory");
-    };
-    let words = ["run", "--frames", "3"];
-    let mut chooser = Clock::new();
-    let status = run(
-        rt.alloc(),
-        &words,
-        &mut source,
-        &mut sink,
-        &mut mapper,
-        &mut chooser,
-        &mut Rotor::new(),
-    );
-    assert_eq!(&rt; status, Status::Done);
-    assert_eq!(&rt; sink.written(), SWAPS_REPLIES.as_bytes());
+    let mut mapper = mapper_over(&rt, &folder, PAGE as u32)?;
+    assert!(&rt; is_replied(&rt, &mut mapper, SWAPS, SWAPS_REPLIES));
     fs::remove_dir(&rt, folder)
 }
 
@@ -194,30 +201,10 @@ fn a_run_writes_a_mapped_file(rt: HostRuntime) -> io::Result<()> {
     let folder = new_folder(&rt, "mapped")?;
     let file = path_in(&rt, &folder, "seg.1")?;
     fs::write(&rt, file.as_str(), "hello")?;
-    let Ok(mut mapper) = FileMapper::new(&rt, rt.alloc(), &folder, PAGE as u32) else {
-        panic!(&rt; "no memory");
-    };
-    let mut source = MemorySource::new(MAPS.as_bytes(), &[]);
-    let Ok(mut sink) = MemorySink::new(rt.alloc(), 4096, &[]) else {
-        panic!(&rt; "no memory");
-    };
-    let words = ["run", "--frames", "3"];
-    let mut chooser = Clock::new();
-    let status = run(
-        rt.alloc(),
-        &words,
-        &mut source,
-        &mut sink,
-        &mut mapper,
-        &mut chooser,
-        &mut Rotor::new(),
-    );
-    assert_eq!(&rt; status, Status::Done);
-    assert_eq!(&rt; sink.written(), MAPS_REPLIES.as_bytes());
+    let mut mapper = mapper_over(&rt, &folder, PAGE as u32)?;
+    assert!(&rt; is_replied(&rt, &mut mapper, MAPS, MAPS_REPLIES));
     let bytes = fs::read(&rt, file.as_str())?;
-    assert_eq!(&rt;
-        (bytes.len(), bytes.get(..6)),
-        (PAGE, Some(b"Hello\0".as_slice()))
-    );
+    assert_eq!(&rt; bytes.len(), PAGE);
+    assert!(&rt; bytes.starts_with(b"Hello\0"));
     fs::remove_dir_all(&rt, folder)
 }

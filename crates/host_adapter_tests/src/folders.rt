@@ -1,5 +1,5 @@
 // Folders for the files of one test.
-ghost use Rattle.std.specs.Prelude.{◌≡◌, IfOk};
+ghost use Rattle.std.specs.Prelude.{◌≡◌, ◌≤◌, IfOk};
 
 use host_adapters::FileMapper;
 use std::io::ErrorKind;
@@ -19,11 +19,16 @@ pub(crate) fn path_in(rt: &HostRuntime, folder: &str, name: &str) -> io::Result<
     Ok(format!(in rt.alloc(); "{folder}/{name}")?)
 }
 
-// A mapper over the files of a folder, with pages of 512 bytes.
-pub(crate) fn mapper_over<'a>(rt: &'a HostRuntime, folder: &str) -> io::Result<FileMapper<'a>>
-    ensures { IfOk result (λ m. m.page_bytes ≡ 512) }
+// A mapper over the files of a folder, with pages of so many bytes.
+pub(crate) fn mapper_over<'a>(
+    rt: &'a HostRuntime,
+    folder: &str,
+    page: u32,
+) -> io::Result<FileMapper<'a>>
+    requires { 1 ≤ page }
+    ensures { IfOk result (λ m. m.page_bytes ≡ page) }
 {
-    match FileMapper::new(rt, rt.alloc(), folder, 512) {
+    match FileMapper::new(rt, rt.alloc(), folder, page) {
         Ok(mapper) => Ok(mapper),
         Err(_) => Err(io::Error::from(ErrorKind::OutOfMemory)),
     }

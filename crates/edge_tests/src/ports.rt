@@ -35,7 +35,7 @@ fn choosers_by_their_rules(rt: HostRuntime) {
     let mut marks = [false; 4];
     let mut fifo = Fifo::new();
     let mut listed = Listed::new(&[4]);
-    for (by_age, by_list) in [(0, 2), (2, 0), (3, 0), (0, 0)] {
+    for &(by_age, by_list) in &[(0, 2), (2, 0), (3, 0), (0, 0)] {
         assert_eq!(rt; fifo.pick(&may, &mut marks), by_age);
         assert_eq!(rt; listed.pick(&may, &mut marks), by_list);
     }
@@ -45,7 +45,7 @@ fn choosers_by_their_rules(rt: HostRuntime) {
 fn dispatchers_by_their_rules(rt: HostRuntime) {
     let mut rotor = Rotor::new();
     let mut listed = ListedTurns::new(&[None, Some(4), Some(1)]);
-    for (alternating, by_list) in [
+    for &(alternating, by_list) in &[
         (None, None),
         (Some(2), Some(1)),
         (None, Some(1)),
