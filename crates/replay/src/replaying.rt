@@ -1,10 +1,8 @@
 // The replay of a script of each kind, over a manager that begins.
-ghost use Rattle.std.specs.Prelude.{◌≡◌, ◌≢◌, ◌≤◌, ◌^◌, IfSome};
-ghost use Rattle.line_service.specs.Ending.{Told};
-ghost use Rattle.line_service.specs.Going.{scene_of};
+ghost use Rattle.std.specs.Prelude.{◌≤◌};
 ghost use Rattle.line_service.specs.Serving.{answer_budget};
-ghost use Rattle.replay.specs.Ending.{EndsAs, FlatEnds, KeepEnds, MixEnds, PortEnds, RunEnds, outside_of};
-ghost use Rattle.replay.specs.Replaying.{Replayed, Untouched};
+ghost use Rattle.replay.specs.Ending.{EndsFrom, FlatEnds, KeepEnds, MixEnds, PortEnds, RunEnds};
+ghost use Rattle.replay.specs.Replaying.{CanBegin, Replayed};
 
 use crate::Status;
 use crate::asked::Size;
@@ -23,7 +21,7 @@ use vm_port::{Chooser, Dispatcher, Mapper, Sink, Source};
 
 // Answers each line of what the source has left, and writes the replies. `NoMemory` where there is
 // none to begin with.
-fn replay_lines<V: Service<M, C>, S: Source, K: Sink, M: Mapper, C: Chooser, D: Dispatcher>(
+fn replay_over<V: Service<M, C>, S: Source, K: Sink, M: Mapper, C: Chooser, D: Dispatcher>(
     alloc: Global,
     service: &mut V,
     source: &mut S,
@@ -34,15 +32,11 @@ fn replay_lines<V: Service<M, C>, S: Source, K: Sink, M: Mapper, C: Chooser, D: 
 ) -> Status
     requires able { V.able service.old (M.held mapper.old) (M.page_bytes mapper.old) }
     requires made { V.made service.old ≤ answer_budget }
-    ensures ends { result ≢ Status.NoMemory → EndsAs result V.semantics V.read
-        (scene_of V.Service M.Mapper service.old mapper.old (D.turns dispatcher.old)
-        (K.written sink.old))
-        (scene_of V.Service M.Mapper service.new mapper.new (D.turns dispatcher.new)
-        (K.written sink.new))
-        (S.left source.old) (S.left source.new) }
-    ensures replayed { Replayed S.Source K.Sink result source.old source.new sink.old sink.new }
-    ensures untouched { result ≡ Status.NoMemory → Untouched source.old source.new sink.old
-        sink.new mapper.old mapper.new chooser.old chooser.new dispatcher.old dispatcher.new }
+    ensures { Replayed S.Source K.Sink M.Mapper D.Dispatcher
+        (EndsFrom result V.semantics V.read (V.state service.old (M.held mapper.old))
+        (V.state service.new (M.held mapper.new))) result
+        (source.old, sink.old, mapper.old, chooser.old, dispatcher.old)
+        (source.new, sink.new, mapper.new, chooser.new, dispatcher.new) }
 {
     let mut waits = match PullWait::new(alloc) {
         Ok(waits) => waits,
@@ -64,25 +58,17 @@ pub fn replay_commands<S: Source, K: Sink, M: Mapper, C: Chooser, D: Dispatcher>
     chooser: &mut C,
     dispatcher: &mut D,
 ) -> Status
-    requires few { 3 ≤ size.frames }
-    requires frames { size.frames ≤ 2 ^ 16 }
-    requires some { 1 ≤ size.page_bytes }
-    requires most { size.page_bytes ≤ 2 ^ 16 }
-    requires page { IfSome (M.page_bytes mapper.old) (λ bytes. bytes ≡ size.page_bytes) }
-    ensures ends { result ≢ Status.NoMemory → RunEnds result size
-        (outside_of M.Mapper mapper.old (D.turns dispatcher.old) (K.written sink.old))
-        (outside_of M.Mapper mapper.new (D.turns dispatcher.new) (K.written sink.new))
-        (S.left source.old) (S.left source.new) }
-    ensures replayed { Replayed S.Source K.Sink result source.old source.new sink.old sink.new }
-    ensures untouched { result ≡ Status.NoMemory → Untouched source.old source.new sink.old
-        sink.new mapper.old mapper.new chooser.old chooser.new dispatcher.old dispatcher.new }
+    requires { CanBegin size.frames size.page_bytes (M.page_bytes mapper.old) }
+    ensures { Replayed S.Source K.Sink M.Mapper D.Dispatcher (RunEnds result size) result
+        (source.old, sink.old, mapper.old, chooser.old, dispatcher.old)
+        (source.new, sink.new, mapper.new, chooser.new, dispatcher.new) }
 {
     let manager = match Pvm::new(alloc, size.frames, size.page_bytes) {
         Ok(manager) => manager,
         Err(_) => return Status::NoMemory,
     };
     let mut commands = Commands { gmi: manager };
-    replay_lines(
+    replay_over(
         alloc,
         &mut commands,
         source,
@@ -104,16 +90,10 @@ pub fn replay_processes<S: Source, K: Sink, M: Mapper, C: Chooser, D: Dispatcher
     chooser: &mut C,
     dispatcher: &mut D,
 ) -> Status
-    requires few { 3 ≤ frames }
-    requires frames { frames ≤ 2 ^ 16 }
-    requires page { IfSome (M.page_bytes mapper.old) (λ bytes. bytes ≡ PAGE) }
-    ensures ends { result ≢ Status.NoMemory → MixEnds result
-        (outside_of M.Mapper mapper.old (D.turns dispatcher.old) (K.written sink.old))
-        (outside_of M.Mapper mapper.new (D.turns dispatcher.new) (K.written sink.new))
-        (S.left source.old) (S.left source.new) }
-    ensures replayed { Replayed S.Source K.Sink result source.old source.new sink.old sink.new }
-    ensures untouched { result ≡ Status.NoMemory → Untouched source.old source.new sink.old
-        sink.new mapper.old mapper.new chooser.old chooser.new dispatcher.old dispatcher.new }
+    requires { CanBegin frames PAGE (M.page_bytes mapper.old) }
+    ensures { Replayed S.Source K.Sink M.Mapper D.Dispatcher (MixEnds result) result
+        (source.old, sink.old, mapper.old, chooser.old, dispatcher.old)
+        (source.new, sink.new, mapper.new, chooser.new, dispatcher.new) }
 {
     let manager = match Pvm::new(alloc, frames, PAGE as u32) {
         Ok(manager) => manager,
@@ -121,7 +101,7 @@ pub fn replay_processes<S: Source, K: Sink, M: Mapper, C: Chooser, D: Dispatcher
     };
     let answerer = Mix::new::<M, C>(alloc, manager);
     let mut processes = AtOnce { answerer };
-    replay_lines(
+    replay_over(
         alloc,
         &mut processes,
         source,
@@ -144,16 +124,10 @@ pub fn replay_messages<S: Source, K: Sink, M: Mapper, C: Chooser, D: Dispatcher>
     chooser: &mut C,
     dispatcher: &mut D,
 ) -> Status
-    requires few { 3 ≤ frames }
-    requires frames { frames ≤ 2 ^ 16 }
-    requires page { IfSome (M.page_bytes mapper.old) (λ bytes. bytes ≡ PAGE) }
-    ensures ends { result ≢ Status.NoMemory → PortEnds result frames
-        (outside_of M.Mapper mapper.old (D.turns dispatcher.old) (K.written sink.old))
-        (outside_of M.Mapper mapper.new (D.turns dispatcher.new) (K.written sink.new))
-        (S.left source.old) (S.left source.new) }
-    ensures replayed { Replayed S.Source K.Sink result source.old source.new sink.old sink.new }
-    ensures untouched { result ≡ Status.NoMemory → Untouched source.old source.new sink.old
-        sink.new mapper.old mapper.new chooser.old chooser.new dispatcher.old dispatcher.new }
+    requires { CanBegin frames PAGE (M.page_bytes mapper.old) }
+    ensures { Replayed S.Source K.Sink M.Mapper D.Dispatcher (PortEnds result frames) result
+        (source.old, sink.old, mapper.old, chooser.old, dispatcher.old)
+        (source.new, sink.new, mapper.new, chooser.new, dispatcher.new) }
 {
     let manager = match Pvm::new(alloc, frames, PAGE as u32) {
         Ok(manager) => manager,
@@ -161,7 +135,7 @@ pub fn replay_messages<S: Source, K: Sink, M: Mapper, C: Chooser, D: Dispatcher>
     };
     let answerer = Ports::new::<M, C>(alloc, manager);
     let mut ports = AtOnce { answerer };
-    replay_lines(alloc, &mut ports, source, sink, mapper, chooser, dispatcher)
+    replay_over(alloc, &mut ports, source, sink, mapper, chooser, dispatcher)
 }
 
 /// Replays the script of segments that the source has left, over a manager of so many page frames.
@@ -177,16 +151,10 @@ pub fn replay_segments<S: Source, K: Sink, M: Mapper, C: Chooser, D: Dispatcher>
     chooser: &mut C,
     dispatcher: &mut D,
 ) -> Status
-    requires few { 3 ≤ frames }
-    requires frames { frames ≤ 2 ^ 16 }
-    requires page { IfSome (M.page_bytes mapper.old) (λ bytes. bytes ≡ PAGE) }
-    ensures ends { result ≢ Status.NoMemory → KeepEnds result frames
-        (outside_of M.Mapper mapper.old (D.turns dispatcher.old) (K.written sink.old))
-        (outside_of M.Mapper mapper.new (D.turns dispatcher.new) (K.written sink.new))
-        (S.left source.old) (S.left source.new) }
-    ensures replayed { Replayed S.Source K.Sink result source.old source.new sink.old sink.new }
-    ensures untouched { result ≡ Status.NoMemory → Untouched source.old source.new sink.old
-        sink.new mapper.old mapper.new chooser.old chooser.new dispatcher.old dispatcher.new }
+    requires { CanBegin frames PAGE (M.page_bytes mapper.old) }
+    ensures { Replayed S.Source K.Sink M.Mapper D.Dispatcher (KeepEnds result frames) result
+        (source.old, sink.old, mapper.old, chooser.old, dispatcher.old)
+        (source.new, sink.new, mapper.new, chooser.new, dispatcher.new) }
 {
     let manager = match Pvm::new(alloc, frames, PAGE as u32) {
         Ok(manager) => manager,
@@ -194,7 +162,7 @@ pub fn replay_segments<S: Source, K: Sink, M: Mapper, C: Chooser, D: Dispatcher>
     };
     let answerer = SegManager::new::<M, C>(alloc, manager, limit);
     let mut segments = AtOnce { answerer };
-    replay_lines(
+    replay_over(
         alloc,
         &mut segments,
         source,
@@ -217,23 +185,17 @@ pub fn replay_flat<S: Source, K: Sink, M: Mapper, C: Chooser, D: Dispatcher>(
     chooser: &mut C,
     dispatcher: &mut D,
 ) -> Status
-    requires few { 3 ≤ frames }
-    requires frames { frames ≤ 2 ^ 16 }
-    requires page { IfSome (M.page_bytes mapper.old) (λ bytes. bytes ≡ PAGE) }
-    ensures ends { result ≢ Status.NoMemory → FlatEnds result frames
-        (outside_of M.Mapper mapper.old (D.turns dispatcher.old) (K.written sink.old))
-        (outside_of M.Mapper mapper.new (D.turns dispatcher.new) (K.written sink.new))
-        (S.left source.old) (S.left source.new) }
-    ensures replayed { Replayed S.Source K.Sink result source.old source.new sink.old sink.new }
-    ensures untouched { result ≡ Status.NoMemory → Untouched source.old source.new sink.old
-        sink.new mapper.old mapper.new chooser.old chooser.new dispatcher.old dispatcher.new }
+    requires { CanBegin frames PAGE (M.page_bytes mapper.old) }
+    ensures { Replayed S.Source K.Sink M.Mapper D.Dispatcher (FlatEnds result frames) result
+        (source.old, sink.old, mapper.old, chooser.old, dispatcher.old)
+        (source.new, sink.new, mapper.new, chooser.new, dispatcher.new) }
 {
     let manager = match FlatMm::new(alloc, frames, PAGE as u32) {
         Ok(manager) => manager,
         Err(_) => return Status::NoMemory,
     };
     let mut commands = AtOnce { answerer: manager };
-    replay_lines(
+    replay_over(
         alloc,
         &mut commands,
         source,

@@ -1,11 +1,12 @@
 // The lines of a script that a number makes, answered and counted.
-ghost use Rattle.std.specs.Prelude.{◌≡◌, ◌≢◌, ◌≤◌, ◌⊎◌, ◌^◌, [], map, IfSome};
+ghost use Rattle.std.specs.Prelude.{◌≡◌, ◌≢◌, ◌≤◌, ◌⊎◌, [], map};
 ghost use Rattle.vm_ids.specs.Counting.{Rose};
 ghost use Rattle.vm_model.specs.Run.{command_semantics, state_of};
 ghost use Rattle.actor_script.specs.Forms.{command_of};
 ghost use Rattle.line_service.specs.Serving.{answer_budget};
 ghost use Rattle.replay.specs.Ending.{Summed, TellsCounts, TrialEnds, lines_made, outside_of};
 ghost use Rattle.replay.specs.Managing.{CanCall, scene_of_manager};
+ghost use Rattle.replay.specs.Replaying.{CanBegin};
 
 use crate::Status;
 use crate::asked::Generated;
@@ -82,9 +83,7 @@ pub fn trial<K: Sink, M: Mapper, C: Chooser, D: Dispatcher>(
     dispatcher: &mut D,
 ) -> Status
     requires lines { script.lines ≤ 1000000 }
-    requires few { 3 ≤ frames }
-    requires frames { frames ≤ 2 ^ 16 }
-    requires page { IfSome (M.page_bytes mapper.old) (λ bytes. bytes ≡ PAGE) }
+    requires begins { CanBegin frames PAGE (M.page_bytes mapper.old) }
     ensures ends { result ≢ Status.NoMemory → TrialEnds result script frames
         (outside_of M.Mapper mapper.old (D.turns dispatcher.old) (K.written sink.old))
         (outside_of M.Mapper mapper.new (D.turns dispatcher.new) (K.written sink.new)) }

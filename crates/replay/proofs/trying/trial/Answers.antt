@@ -7,7 +7,7 @@ use Rattle.replay.proofs.trying.trial.Goals as goal
 pub answer_all-requires-clause-able : goal.answer_all-requires-clause-able
 answer_all-requires-clause-able g c =
     let told = g.M.Mapper.held c.args.mapper.now in
-    can_call _ _ told _ c.args.frames 4096 (c.in-Ok.ensures.valid told) refl c.requires.page (c.in-Ok.ensures.machine told)
+    can_call _ _ told _ c.args.frames 4096 (c.in-Ok.ensures.valid told) refl c.requires.begins.page (c.in-Ok.ensures.machine told)
 
 pub returns-clause-ends : goal.returns-clause-ends
 returns-clause-ends g c = λ some.
