@@ -44,7 +44,7 @@ use Rattle.replay.specs.Ending.{CommandScene, EndsAs, EndsFrom, Outside, RunEnds
 use Rattle.flat_mm.specs.Manager.{IsValid, flat}
 use Rattle.flat_mm.specs.Manager.{Manager as FramedManager}
 use Rattle.replay.specs.Managing.{CanCall, CanCallFramed}
-use Rattle.replay.specs.Replaying.{Replayed, outside_in}
+use Rattle.replay.specs.Replaying.{Parts, Replayed, outside_in}
 use Rattle.replay.specs.declared.status.Status.{Status}
 use Rattle.replay.specs.declared.asked.Asked.{Asked}
 use Rattle.replay.specs.declared.asked.Size.{Size}
@@ -281,7 +281,7 @@ module _ (S : Semantics) (read : List ℕ → S.Read) where
   complete ended.TooLong a b l k reads reads_now writes writes_now h sr kr few r rl w wl = absurd (too_many l k h.0 h.1 h.2.took few)
 
   -- what a replay that began promises
-  pub replayed : {Source Sink Mapper Chooser Dispatcher : Type 0} (F : GhostsOfSource Source) (K : GhostsOfSink Sink) (M : GhostsOfMapper Mapper) (D : GhostsOfDispatcher Dispatcher) (e : Ended) (first last : S.State) (old new : Source × Sink × Mapper × Chooser × Dispatcher)
+  pub replayed : {Source Sink Mapper Chooser Dispatcher : Type 0} (F : GhostsOfSource Source) (K : GhostsOfSink Sink) (M : GhostsOfMapper Mapper) (D : GhostsOfDispatcher Dispatcher) (e : Ended) (first last : S.State) (old new : Parts Source Sink Mapper Chooser Dispatcher)
       → Ends e S read (scene_at (outside_in K M D old) first) (scene_at (outside_in K M D new) last) (F.left old.0) (F.left new.0) → (e ≡ ended.SourceFault → Rose (F.faults old.0) (F.faults new.0)) → (e ≡ ended.SinkFault → Rose (K.faults old.1) (K.faults new.1))
       → (status : Status) → status ≡ status_of e → Replayed F K M D (EndsFrom status S read first last) status old new
   replayed F K M D e first last old new ends of_source of_sink status is = subst (λ (s : Status). Replayed F K M D (EndsFrom s S read first last) s old new) (sym is) (record {
@@ -296,7 +296,7 @@ module _ (S : Semantics) (read : List ℕ → S.Read) where
 
 module _ {Source Sink Mapper Chooser Dispatcher : Type 0} (F : GhostsOfSource Source) (K : GhostsOfSink Sink) (M : GhostsOfMapper Mapper) (D : GhostsOfDispatcher Dispatcher) where
   -- where there was no memory to begin with
-  pub unbegun : (This : Outside → Outside → Told → Told → Type 0) (given : Source × Sink × Mapper × Chooser × Dispatcher) → Replayed F K M D This statuses.NoMemory given given
+  pub unbegun : (This : Outside → Outside → Told → Told → Type 0) (given : Parts Source Sink Mapper Chooser Dispatcher) → Replayed F K M D This statuses.NoMemory given given
   unbegun This given = record {
     ends = λ some. absurd (some refl);
     untouched = λ none. refl;
@@ -308,7 +308,7 @@ module _ {Source Sink Mapper Chooser Dispatcher : Type 0} (F : GhostsOfSource So
   }
 
   -- a replay that ends so ends otherwise, too
-  pub ends_too : {This Other : Outside → Outside → Told → Told → Type 0} (status : Status) (old new : Source × Sink × Mapper × Chooser × Dispatcher) → Replayed F K M D This status old new
+  pub ends_too : {This Other : Outside → Outside → Told → Told → Type 0} (status : Status) (old new : Parts Source Sink Mapper Chooser Dispatcher) → Replayed F K M D This status old new
       → (This (outside_in K M D old) (outside_in K M D new) (F.left old.0) (F.left new.0) → Other (outside_in K M D old) (outside_in K M D new) (F.left old.0) (F.left new.0)) → Replayed F K M D Other status old new
   ends_too status old new h other = record {
     ends = λ some. other (h.ends some);
@@ -321,11 +321,16 @@ module _ {Source Sink Mapper Chooser Dispatcher : Type 0} (F : GhostsOfSource So
   }
 
 -- a replay that ended so touched nothing
-pub untouched : {S K M C D : Type 0} (status : Status) (old new : S × K × M × C × D) → (status ≡ statuses.Usage → ⊥) → (status ≡ statuses.NoMemory → new ≡ old) → (status ≡ statuses.Usage) ⊎ (status ≡ statuses.NoMemory)
+pub untouched : {S K M C D : Type 0} (status : Status) (old new : Parts S K M C D) → (status ≡ statuses.Usage → ⊥) → (status ≡ statuses.NoMemory → new ≡ old) → (status ≡ statuses.Usage) ⊎ (status ≡ statuses.NoMemory)
     → (new.0 ≡ old.0) × (new.1 ≡ old.1) × (new.2 ≡ old.2) × (new.3 ≡ old.3) × (new.4 ≡ old.4)
 untouched status old new never same (inl e) = absurd (never e)
 untouched status old new never same (inr e) =
     let all = same e in (ap (λ x. x.0) all, ap (λ x. x.1) all, ap (λ x. x.2) all, ap (λ x. x.3) all, ap (λ x. x.4) all)
+
+pub no_usage : (status : Status) → (status ≡ statuses.Done) ⊎ (status ≡ statuses.SinkFault) ⊎ (status ≡ statuses.NoMemory) → status ≡ statuses.Usage → ⊥
+no_usage status (inl is) e = cc
+no_usage status (inr (inl is)) e = cc
+no_usage status (inr (inr is)) e = cc
 
 -- what it takes to answer the first line, where nothing is parked
 pub can_start : {Service Mapper Chooser : Type 0} (V : GhostsOfService Service Mapper Chooser) (M : GhostsOfMapper Mapper) (service : Service) (mapper : Mapper) (waits : List Parked) → waits ≡ [] → V.able service (M.held mapper) (M.page_bytes mapper) → V.made service ≤ answer_budget → CanAnswer V M 1 service mapper waits

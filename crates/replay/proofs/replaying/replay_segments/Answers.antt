@@ -10,14 +10,14 @@ use Rattle.replay.proofs.replaying.replay_segments.Goals as goal
 pub replay_over-requires-clause-able : goal.replay_over-requires-clause-able
 replay_over-requires-clause-able g c =
     let M = g.M.Mapper in
-    let told = M.held c.args.mapper.now in
-    let page_bytes = M.page_bytes c.args.mapper.now in
+    let told = M.held c.args.given.mapper.now in
+    let page_bytes = M.page_bytes c.args.given.mapper.now in
     c.new-answerer.ensures.can told page_bytes (bare_segments _ _ told page_bytes c.args.frames 4096 (c.in-Ok.ensures.valid told) refl c.requires.page refl (c.in-Ok.ensures.machine told))
 
 pub returns : goal.returns
 returns g c =
-    let told = g.M.Mapper.held c.args.mapper.now in
-    let page_bytes = g.M.Mapper.page_bytes c.args.mapper.now in
+    let told = g.M.Mapper.held c.args.given.mapper.now in
+    let page_bytes = g.M.Mapper.page_bytes c.args.given.mapper.now in
     let bare = bare_segments _ _ told page_bytes c.args.frames 4096 (c.in-Ok.ensures.valid told) refl c.requires.page refl (c.in-Ok.ensures.machine told) in
     ends_too g.S.Source g.K.Sink g.M.Mapper g.D.Dispatcher c.replay_over.result _ _ c.replay_over.ensures
     (λ ends. record { last = _; ends = begun_at keep_semantics keep_command_of (c.new-answerer.ensures.begins told page_bytes bare ∙ ap (λ (m : Machine). beginning m (segments_of told)) (c.in-Ok.ensures.machine told) ∙ nothing_open c.args.frames (segments_of told)) ends })

@@ -1,7 +1,7 @@
 use Rattle.std.proofs.Common.{◌∙◌, Some, ap, refl, sym}
 use Rattle.replay.specs.declared.asked.Asked.TheVariants as asks
 use Rattle.replay.proofs.CommandLine.Kinds.{begins}
-use Rattle.replay.proofs.Promise.{as_asked, asked_holds, untouched}
+use Rattle.replay.proofs.Promise.{as_asked, asked_holds, no_usage, untouched}
 use Rattle.replay.proofs.top.run.Goals as goal
 
 pub replay_commands-requires : goal.replay_commands-requires
@@ -27,6 +27,9 @@ trial-requires-clause-begins g c = (begins _ _ c.requires (asks.Trial c.in-Trial
 
 pub returns-in-Trial-clause-ends : goal.returns-in-Trial-clause-ends
 returns-in-Trial-clause-ends g c = λ some. as_asked (asks.Trial c.in-Trial.script c.in-Trial.frames) _ _ (sym (ap Some c.in-Trial.is) ∙ sym c.in-Ok-Some.field-0-is ∙ c.in-Ok-Some.ensures) (c.trial.ensures.ends some)
+
+pub returns-in-Trial-clause-untouched : goal.returns-in-Trial-clause-untouched
+returns-in-Trial-clause-untouched g c = untouched c.trial.result _ _ (no_usage c.trial.result c.trial.ensures.ended) c.trial.ensures.untouched
 
 pub replay_processes-requires : goal.replay_processes-requires
 replay_processes-requires g c = begins _ _ c.requires (asks.Mix c.in-Mix.frames) (sym c.in-Ok-Some.ensures ∙ c.in-Ok-Some.field-0-is ∙ ap Some c.in-Mix.is)
