@@ -1,6 +1,6 @@
 -- What the calls of a manager leave for the next one.
-use Rattle.std.proofs.Common.{◌≡◌, ◌+◌, ◌*◌, ◌^◌, ◌≤◌, ℕ, List, [], Option, Some, None, Ok, Err, refl, sym, ap, subst, ◌∙◌, arith}
-use Rattle.std.specs.Prelude.{IfNone, IfOk, IfSome, IsSome, is_some}
+use Rattle.std.proofs.Common.{◌≡◌, ◌+◌, ◌≤◌, ℕ, List, [], Option, Some, None, Ok, Err, refl, sym, ap, subst, arith}
+use Rattle.std.specs.Prelude.{IfNone, IfOk, IfSome, IsSome}
 use Rattle.vm_ids.specs.Accessing.{command_for}
 use Rattle.vm_ids.specs.Counting.{MapperCounts, no_counts}
 use Rattle.vm_ids.specs.declared.access.Access.{Access}

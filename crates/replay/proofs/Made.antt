@@ -1,12 +1,10 @@
 -- The lines that a number makes, one after another.
-use Rattle.std.proofs.Common.{◌≡◌, ◌+◌, ◌-◌, ◌≤◌, ℕ, List, [], ◌∷◌, ◌++◌, length, Option, Result, Ok, Err, sym, ap, subst, ◌∙◌, append-nil, append_assoc, zero-add, arith}
+use Rattle.std.proofs.Common.{◌≡◌, ◌+◌, ◌-◌, ◌≤◌, ℕ, List, [], ◌∷◌, ◌++◌, length, Option, sym, ap, subst, ◌∙◌, append-nil, arith}
 use Rattle.std.specs.Prelude.{codes, option_map}
-use Rattle.std.specs.List.{flat_map}
 use Rattle.std.proofs.lemmas.List.{length-append}
 use Rattle.std.proofs.lemmas.List.Concat.{flat_map-append}
 use Rattle.actor_script.specs.Generator.{Position, lines_from}
 use Rattle.actor_script.specs.Writing.{Writes, WritesFront}
-use Rattle.actor_script.proofs.Generated.{lines_none}
 use Rattle.actor_script.proofs.Written.{front_more, front_then, writes_none, writes_then}
 use Rattle.replay.specs.Ending.{with_feeds}
 use Rattle.line_service.specs.Gathering.{Grew}

@@ -4,7 +4,7 @@ use Rattle.std.specs.Prelude.{◌⊎◌, ◌↔◌, All, map, IfOk, IfSome, IsSo
 use Rattle.std.specs.List.{AllByRecursion}
 use Rattle.std.proofs.lemmas.List.{length-append}
 use Rattle.std.proofs.lemmas.List.Sorted.{All-permutation}
-use Rattle.vm_ids.specs.Counting.{Rose, last_count}
+use Rattle.vm_ids.specs.Counting.{MapperCounts, Rose, last_count}
 use Rattle.vm_ids.specs.Held.{Held, Segments}
 use Rattle.vm_ids.specs.declared.numbers.TheConstants.{PAGE}
 use Rattle.vm_ids.specs.Forest.Nodes.{no_forest}
@@ -20,12 +20,10 @@ use Rattle.vm_model.specs.declared.limits.TheConstants.{LIVE_PAGES, LIVING_ACTOR
 use Rattle.vm_model.proofs.WholeRuns.Chains.{runs_are_chains}
 use Rattle.vm_model.proofs.WholeRuns.Runs.{runs_are_followed}
 use Rattle.actor_script.specs.Forms.{command_of}
-use Rattle.actor_script.specs.KeepForms.{keep_command_of}
-use Rattle.actor_script.specs.MixForms.{mix_command_of}
-use Rattle.actor_script.specs.PortForms.{port_command_of}
 use Rattle.actor_script.proofs.WellFormed.{well_formed}
 use Rattle.gmi_calls.specs.Calling.{Fits}
 use Rattle.vm_ids.specs.declared.access.Parked.{Parked}
+use Rattle.vm_port.specs.declared.traits.dispatcher.Dispatcher.{Ghosts as GhostsOfDispatcher}
 use Rattle.vm_port.specs.declared.traits.mapper.Mapper.{Ghosts as GhostsOfMapper}
 use Rattle.vm_port.specs.declared.traits.sink.Sink.{Ghosts as GhostsOfSink}
 use Rattle.vm_port.specs.declared.traits.source.Source.{Ghosts as GhostsOfSource}
@@ -38,29 +36,15 @@ use Rattle.line_service.specs.Script.{IsFront, lines_of, most_bytes}
 use Rattle.line_service.specs.declared.ended.Ended.{Ended}
 use Rattle.line_service.specs.declared.ended.Ended.TheVariants as ended
 use Rattle.gmi_calls.specs.declared.gmi.Gmi.{Ghosts as GhostsOfGmi}
-use Rattle.mix_process.specs.Calling.{beginning}
-use Rattle.mix_process.specs.Outcome.{Usage}
-use Rattle.mix_process.specs.ProcessMachine.{ProcessMachine}
-use Rattle.mix_process.specs.Stepping.{State as ProcessState}
 use Rattle.mix_process.specs.Tying.{IsBare}
-use Rattle.transit_ipc.specs.Calling.{beginning as ports_beginning}
-use Rattle.transit_ipc.specs.PortMachine.{PortMachine}
-use Rattle.transit_ipc.specs.Stepping.{State as PortState}
 use Rattle.transit_ipc.specs.Tying.{IsBare as IsBareForPorts}
 use Rattle.seg_manager.specs.Calling.{beginning as segments_beginning}
-use Rattle.seg_manager.specs.ReferenceMachine.{ReferenceMachine}
-use Rattle.seg_manager.specs.ReferenceMachine.{start as no_openings}
-use Rattle.seg_manager.specs.Stepping.{State as SegmentState}
 use Rattle.seg_manager.specs.Tying.{IsBare as IsBareForSegments, noted_regions}
-use Rattle.replay.specs.Ending.{CommandScene, EndsAs, FlatEnds, KeepEnds, MixEnds, Outside, PortEnds, RunEnds, scene_of_frames, scene_of_ports, scene_of_processes, scene_of_segments, scene_with, status_of, stored_in}
+use Rattle.replay.specs.Ending.{CommandScene, EndsAs, EndsFrom, Outside, RunEnds, none_open, scene_at, scene_with, status_of}
 use Rattle.flat_mm.specs.Manager.{IsValid, flat}
 use Rattle.flat_mm.specs.Manager.{Manager as FramedManager}
-use Rattle.replay.specs.Framed.{framed_command_of, framed_semantics}
 use Rattle.replay.specs.Managing.{CanCall, CanCallFramed}
-use Rattle.replay.specs.Posting.{port_semantics}
-use Rattle.replay.specs.Processing.{process_semantics}
-use Rattle.replay.specs.Reopening.{keep_semantics}
-use Rattle.replay.specs.Replaying.{Replayed, Untouched}
+use Rattle.replay.specs.Replaying.{Parts, Replayed, outside_in}
 use Rattle.replay.specs.declared.status.Status.{Status}
 use Rattle.replay.specs.declared.asked.Asked.{Asked}
 use Rattle.replay.specs.declared.asked.Size.{Size}
@@ -115,13 +99,11 @@ module _ (a : CommandScene) (frames page : ℕ) (some : 1 ≤ page) (told : Opti
       runs_are_followed frames page told steps last.state some formed (subst (λ (s : State). Chain command_semantics s steps last.state) begins chain) in
       subst (λ (s : State). IsSomeAnd s.forest (IsFollowed s.machine)) ran.state_is followed
 
-  pub ends_followed : (status : Status) (b : CommandScene) (l k : Option (List ℕ)) → EndsAs status command_semantics command_of a b l k → IsSomeAnd b.state.forest (IsFollowed b.state.machine)
-  ends_followed statuses.Done b l k h = ran_followed _ _ a.written b.written b _ _ refl (lines_formed (lines_of h.script)) h.answered.ran
-  ends_followed statuses.SourceFault b l k h = ran_followed _ _ a.written b.written b _ _ (front_all _) (lines_formed _) h.2.answered.ran
-  ends_followed statuses.SinkFault b l k h = ran_followed _ _ a.written b.written b _ _ h.of_taken (lines_formed (lines_of h.script)) h.ran
-  ends_followed statuses.TooLong b l k h = ran_followed _ _ a.written b.written b _ _ (front_all _) (lines_formed _) h.2.answered.ran
-  ends_followed statuses.Usage b l k h = absurd h
-  ends_followed statuses.NoMemory b l k h = absurd h
+  pub ends_followed : (e : Ended) (b : CommandScene) (l k : Option (List ℕ)) → Ends e command_semantics command_of a b l k → IsSomeAnd b.state.forest (IsFollowed b.state.machine)
+  ends_followed ended.Done b l k h = ran_followed _ _ a.written b.written b _ _ refl (lines_formed (lines_of h.script)) h.answered.ran
+  ends_followed ended.SourceFault b l k h = ran_followed _ _ a.written b.written b _ _ (front_all _) (lines_formed _) h.2.answered.ran
+  ends_followed ended.SinkFault b l k h = ran_followed _ _ a.written b.written b _ _ h.of_taken (lines_formed (lines_of h.script)) h.ran
+  ends_followed ended.TooLong b l k h = ran_followed _ _ a.written b.written b _ _ (front_all _) (lines_formed _) h.2.answered.ran
 
 -- the promise, from a replay that began with some machine and some forest, which were those of the
 -- start
@@ -135,63 +117,20 @@ run_ends status size old now l k m last f forest some machine_is forest_is ends 
       last = last;
       forest = forest;
       ends = from;
-      followed = ends_followed (scene_with old begun no_forest) size.frames size.page_bytes some old.segments refl status (scene_with now last forest) l k from;
+      followed = ends_followed (scene_with old begun no_forest) size.frames size.page_bytes some old.segments refl from.0 (scene_with now last forest) l k from.2;
     }
 
--- the promise for a script of processes, from a replay that began with none, over a manager that
--- began
-pub mix_ends : (status : Status) (frames : ℕ) (old now : Outside) (l k : Option (List ℕ)) (begun : ProcessState) (m : Machine) (processes : ProcessMachine) (usage : Usage)
-    → begun ≡ beginning m old.segments → m ≡ start frames PAGE
-    → EndsAs status process_semantics mix_command_of (record { state = begun; counts = old.counts; turns = old.turns; written = old.written }) (scene_of_processes now processes usage) l k
-    → MixEnds status old now l k
-mix_ends status frames old now l k begun m processes usage begins machine ends = record {
-  last = processes;
-  usage = usage;
-  ends = subst (λ (s : ProcessState). EndsAs status process_semantics mix_command_of (record { state = s; counts = old.counts; turns = old.turns; written = old.written }) (scene_of_processes now processes usage) l k)
-      (begins ∙ ap (λ (x : Machine). beginning x old.segments) machine) ends;
-}
+-- the promise, from a replay that began in some state, which was the first
+pub begun_at : (S : Semantics) (read : List ℕ → S.Read) {status : Status} {begun first : S.State} {counts : MapperCounts} {turns : Option (List (Option ℕ))} {written : Told} {b : Scene S Told} {l k : Told} → begun ≡ first
+    → EndsAs status S read (record { state = begun; counts = counts; turns = turns; written = written }) b l k → EndsAs status S read (record { state = first; counts = counts; turns = turns; written = written }) b l k
+begun_at S read {status} {begun} {first} {counts} {turns} {written} {b} {l} {k} begins ends = subst (λ (s : S.State). EndsAs status S read (record { state = s; counts = counts; turns = turns; written = written }) b l k) begins ends
 
--- the promise for a script of message ports, from a replay that began with none, over a manager
--- that began
-pub port_ends : (status : Status) (frames : ℕ) (old now : Outside) (l k : Option (List ℕ)) (begun : PortState) (m : Machine) (machine : PortMachine)
-    → begun ≡ ports_beginning m old.segments → m ≡ start frames PAGE
-    → EndsAs status port_semantics port_command_of (record { state = begun; counts = old.counts; turns = old.turns; written = old.written }) (scene_of_ports now machine) l k
-    → PortEnds status frames old now l k
-port_ends status frames old now l k begun m machine begins starts ends = record {
-  last = machine;
-  ends = subst (λ (s : PortState). EndsAs status port_semantics port_command_of (record { state = s; counts = old.counts; turns = old.turns; written = old.written }) (scene_of_ports now machine) l k)
-      (begins ∙ ap (λ (x : Machine). ports_beginning x old.segments) starts) ends;
-}
-
-nothing_open : (frames : ℕ) (told : Option Segments) → segments_beginning (start frames PAGE) told ≡ record { references = no_openings frames PAGE (stored_in told); segments = told }
+-- where no segment is open, over a manager that begins
+pub nothing_open : (frames : ℕ) (told : Option Segments) → segments_beginning (start frames PAGE) told ≡ record { references = none_open frames told; segments = told }
 nothing_open frames None = refl
 nothing_open frames (Some h) = refl
 
--- the promise for a script of segments, from a replay that began with none open, over a manager
--- that began
-pub keep_ends : (status : Status) (frames : ℕ) (old now : Outside) (l k : Option (List ℕ)) (begun : SegmentState) (m : Machine) (machine : ReferenceMachine)
-    → begun ≡ segments_beginning m old.segments → m ≡ start frames PAGE
-    → EndsAs status keep_semantics keep_command_of (record { state = begun; counts = old.counts; turns = old.turns; written = old.written }) (scene_of_segments now machine) l k
-    → KeepEnds status frames old now l k
-keep_ends status frames old now l k begun m machine begins starts ends = record {
-  last = machine;
-  ends = subst (λ (s : SegmentState). EndsAs status keep_semantics keep_command_of (record { state = s; counts = old.counts; turns = old.turns; written = old.written }) (scene_of_segments now machine) l k)
-      (begins ∙ ap (λ (x : Machine). segments_beginning x old.segments) starts ∙ nothing_open frames old.segments) ends;
-}
-
--- the promise for a script over a manager whose live pages have frames, from a replay that began
--- with some machine, which was that of the start
-pub flat_ends : (status : Status) (frames : ℕ) (old now : Outside) (l k : Option (List ℕ)) (m last : Machine) → m ≡ start frames PAGE
-    → EndsAs status framed_semantics framed_command_of (scene_of_frames old m) (scene_of_frames now last) l k → FlatEnds status frames old now l k
-flat_ends status frames old now l k m last starts ends = record {
-  last = last;
-  ends = subst (λ (x : Machine). EndsAs status framed_semantics framed_command_of (scene_of_frames old x) (scene_of_frames now last) l k) starts ends;
-}
-
 -- the mapper takes pages of the size that was asked for
-
-pub pages_are : (told : Option ℕ) (named bytes : ℕ) → IfSome told (λ n. n ≡ named) → named ≡ bytes → IfSome told (λ n. n ≡ bytes)
-pages_are told named bytes h e = subst (λ (b : ℕ). IfSome told (λ n. n ≡ b)) e h
 
 pub fits_start : (told : Option ℕ) (frames bytes named : ℕ) (m : Machine) → IfSome told (λ n. n ≡ named) → named ≡ bytes → m ≡ start frames bytes → Fits told m
 fits_start told frames bytes named m h same e = subst (Fits told) (sym e) (by told h)
@@ -301,90 +240,97 @@ too_many (Some all) (Some rest) script size t h = let n = taken (Some all) (Some
 
 -- what it takes to answer the first line
 
-pub of_source_fault : (e : Ended) → status_of e ≡ statuses.SourceFault → e ≡ ended.SourceFault
+of_source_fault : (e : Ended) → status_of e ≡ statuses.SourceFault → e ≡ ended.SourceFault
 of_source_fault ended.Done h = absurd (cc h)
 of_source_fault ended.SourceFault h = refl
 of_source_fault ended.SinkFault h = absurd (cc h)
 of_source_fault ended.TooLong h = absurd (cc h)
 
-pub of_sink_fault : (e : Ended) → status_of e ≡ statuses.SinkFault → e ≡ ended.SinkFault
+of_sink_fault : (e : Ended) → status_of e ≡ statuses.SinkFault → e ≡ ended.SinkFault
 of_sink_fault ended.Done h = absurd (cc h)
 of_sink_fault ended.SourceFault h = absurd (cc h)
 of_sink_fault ended.SinkFault h = refl
 of_sink_fault ended.TooLong h = absurd (cc h)
 
+-- a replay that began ends as neither of these
+began : (e : Ended) → (status_of e ≡ statuses.Usage) ⊎ (status_of e ≡ statuses.NoMemory) → ⊥
+began ended.Done (inl h) = cc
+began ended.Done (inr h) = cc
+began ended.SourceFault (inl h) = cc
+began ended.SourceFault (inr h) = cc
+began ended.SinkFault (inl h) = cc
+began ended.SinkFault (inr h) = cc
+began ended.TooLong (inl h) = cc
+began ended.TooLong (inr h) = cc
+
 -- The same for whatever lines mean
 
 module _ (S : Semantics) (read : List ℕ → S.Read) where
-  pub limited : (status : Status) (a b : Scene S Told) (l k : Option (List ℕ)) → EndsAs status S read a b l k → Limited l k (status ≡ statuses.TooLong)
-  limited statuses.Done a b l k h = limited_no l k _ h.script (λ e. cc) h.within h.took
-  limited statuses.SourceFault a b l k h = limited_no l k _ h.0 (λ e. cc) h.1 h.2.took
-  limited statuses.SinkFault a b l k h = limited_no l k _ h.script (λ e. cc) h.within h.took
-  limited statuses.TooLong a b l k h = limited_yes l k _ h.0 refl h.1 h.2.took
-  limited statuses.Usage a b l k h = absurd h
-  limited statuses.NoMemory a b l k h = absurd h
+  limited : (e : Ended) (a b : Scene S Told) (l k : Option (List ℕ)) → Ends e S read a b l k → Limited l k (status_of e ≡ statuses.TooLong)
+  limited ended.Done a b l k h = limited_no l k _ h.script (λ e. cc) h.within h.took
+  limited ended.SourceFault a b l k h = limited_no l k _ h.0 (λ e. cc) h.1 h.2.took
+  limited ended.SinkFault a b l k h = limited_no l k _ h.script (λ e. cc) h.within h.took
+  limited ended.TooLong a b l k h = limited_yes l k _ h.0 refl h.1 h.2.took
 
   -- where nothing fails the run is done
-  pub complete : (status : Status) (a b : Scene S Told) (l k : Option (List ℕ)) (reads reads_now writes writes_now : ℕ) → EndsAs status S read a b l k → (status ≡ statuses.SourceFault → Rose reads reads_now) → (status ≡ statuses.SinkFault → Rose writes writes_now)
-      → IsSomeAnd l (λ all. length all ≤ most_bytes) → reads_now ≡ reads → reads_now < last_count → writes_now ≡ writes → writes_now < last_count → (status ≡ statuses.Done) ⊎ (status ≡ statuses.NoMemory)
-  complete statuses.Done a b l k reads reads_now writes writes_now h sr kr few r rl w wl = inl refl
-  complete statuses.SourceFault a b l k reads reads_now writes writes_now h sr kr few r rl w wl = absurd (omega (arith, sr refl rl))
-  complete statuses.SinkFault a b l k reads reads_now writes writes_now h sr kr few r rl w wl = absurd (omega (arith, kr refl wl))
-  complete statuses.TooLong a b l k reads reads_now writes writes_now h sr kr few r rl w wl = absurd (too_many l k h.0 h.1 h.2.took few)
-  complete statuses.Usage a b l k reads reads_now writes writes_now h sr kr few r rl w wl = absurd h
-  complete statuses.NoMemory a b l k reads reads_now writes writes_now h sr kr few r rl w wl = absurd h
+  complete : (e : Ended) (a b : Scene S Told) (l k : Option (List ℕ)) (reads reads_now writes writes_now : ℕ) → Ends e S read a b l k → (e ≡ ended.SourceFault → Rose reads reads_now) → (e ≡ ended.SinkFault → Rose writes writes_now)
+      → IsSomeAnd l (λ all. length all ≤ most_bytes) → reads_now ≡ reads → reads_now < last_count → writes_now ≡ writes → writes_now < last_count → (status_of e ≡ statuses.Done) ⊎ (status_of e ≡ statuses.NoMemory)
+  complete ended.Done a b l k reads reads_now writes writes_now h sr kr few r rl w wl = inl refl
+  complete ended.SourceFault a b l k reads reads_now writes writes_now h sr kr few r rl w wl = absurd (omega (arith, sr refl rl))
+  complete ended.SinkFault a b l k reads reads_now writes writes_now h sr kr few r rl w wl = absurd (omega (arith, kr refl wl))
+  complete ended.TooLong a b l k reads reads_now writes writes_now h sr kr few r rl w wl = absurd (too_many l k h.0 h.1 h.2.took few)
 
-  -- a replay that began ends as neither of these
-  pub began : (status : Status) (a b : Scene S Told) (l k : Option (List ℕ)) → EndsAs status S read a b l k → (status ≡ statuses.Usage) ⊎ (status ≡ statuses.NoMemory) → ⊥
-  began statuses.Done a b l k h (inl e) = cc
-  began statuses.Done a b l k h (inr e) = cc
-  began statuses.SourceFault a b l k h (inl e) = cc
-  began statuses.SourceFault a b l k h (inr e) = cc
-  began statuses.SinkFault a b l k h (inl e) = cc
-  began statuses.SinkFault a b l k h (inr e) = cc
-  began statuses.TooLong a b l k h (inl e) = cc
-  began statuses.TooLong a b l k h (inr e) = cc
-  began statuses.Usage a b l k h e = h
-  began statuses.NoMemory a b l k h e = h
+  -- what a replay that began promises
+  pub replayed : {Source Sink Mapper Chooser Dispatcher : Type 0} (F : GhostsOfSource Source) (K : GhostsOfSink Sink) (M : GhostsOfMapper Mapper) (D : GhostsOfDispatcher Dispatcher) (e : Ended) (first last : S.State) (old new : Parts Source Sink Mapper Chooser Dispatcher)
+      → Ends e S read (scene_at (outside_in K M D old) first) (scene_at (outside_in K M D new) last) (F.left old.0) (F.left new.0) → (e ≡ ended.SourceFault → Rose (F.faults old.0) (F.faults new.0)) → (e ≡ ended.SinkFault → Rose (K.faults old.1) (K.faults new.1))
+      → (status : Status) → status ≡ status_of e → Replayed F K M D (EndsFrom status S read first last) status old new
+  replayed F K M D e first last old new ends of_source of_sink status is = subst (λ (s : Status). Replayed F K M D (EndsFrom s S read first last) s old new) (sym is) (record {
+    ends = λ some. (e, refl, ends);
+    untouched = λ none. absurd (began e (inr none));
+    not_usage = λ usage. began e (inl usage);
+    source_fault = λ f. of_source (of_source_fault e f);
+    sink_fault = λ f. of_sink (of_sink_fault e f);
+    too_long = limited e _ _ _ _ ends;
+    complete = λ few r rl w wl. complete e _ _ _ _ _ _ _ _ ends of_source of_sink few r rl w wl;
+  })
 
-  -- what is known of the source and the sink
-  pub replayed : {Source Sink : Type 0} (F : GhostsOfSource Source) (K : GhostsOfSink Sink) (status : Status) (a b : Scene S Told) (source source_now : Source) (sink sink_now : Sink) → EndsAs status S read a b (F.left source) (F.left source_now)
-      → (status ≡ statuses.SourceFault → Rose (F.faults source) (F.faults source_now)) → (status ≡ statuses.SinkFault → Rose (K.faults sink) (K.faults sink_now)) → Replayed F K status source source_now sink sink_now
-  replayed F K status a b source source_now sink sink_now ends of_source of_sink = record {
-    not_usage = λ e. began status a b _ _ ends (inl e);
-    source_fault = of_source;
-    sink_fault = of_sink;
-    too_long = limited status a b _ _ ends;
-    complete = λ few r rl w wl. complete status a b _ _ _ _ _ _ ends of_source of_sink few r rl w wl;
+module _ {Source Sink Mapper Chooser Dispatcher : Type 0} (F : GhostsOfSource Source) (K : GhostsOfSink Sink) (M : GhostsOfMapper Mapper) (D : GhostsOfDispatcher Dispatcher) where
+  -- where there was no memory to begin with
+  pub unbegun : (This : Outside → Outside → Told → Told → Type 0) (given : Parts Source Sink Mapper Chooser Dispatcher) → Replayed F K M D This statuses.NoMemory given given
+  unbegun This given = record {
+    ends = λ some. absurd (some refl);
+    untouched = λ none. refl;
+    not_usage = λ e. cc;
+    source_fault = λ e. absurd (cc e);
+    sink_fault = λ e. absurd (cc e);
+    too_long = limited_same (F.left given.0) _ (λ e. cc);
+    complete = λ few r rl w wl. inr refl;
   }
 
-  -- by the exit status, as the replay ends
-  pub ends_as : (e : Ended) (a b : Scene S Told) (l k : Option (List ℕ)) → Ends e S read a b l k → EndsAs (status_of e) S read a b l k
-  ends_as ended.Done a b l k h = h
-  ends_as ended.SourceFault a b l k h = h
-  ends_as ended.SinkFault a b l k h = h
-  ends_as ended.TooLong a b l k h = h
-
-  pub ends_at : (status : Status) (e : Ended) (a b : Scene S Told) (l k : Option (List ℕ)) → status ≡ status_of e → Ends e S read a b l k → EndsAs status S read a b l k
-  ends_at status e a b l k is h = subst (λ (s : Status). EndsAs s S read a b l k) (sym is) (ends_as e a b l k h)
-
--- where there was no memory to begin with
-pub unbegun : {Source Sink : Type 0} (F : GhostsOfSource Source) (K : GhostsOfSink Sink) (source : Source) (sink : Sink) → Replayed F K statuses.NoMemory source source sink sink
-unbegun F K source sink = record {
-  not_usage = λ e. cc;
-  source_fault = λ e. absurd (cc e);
-  sink_fault = λ e. absurd (cc e);
-  too_long = limited_same (F.left source) _ (λ e. cc);
-  complete = λ few r rl w wl. inr refl;
-}
+  -- a replay that ends so ends otherwise, too
+  pub ends_too : {This Other : Outside → Outside → Told → Told → Type 0} (status : Status) (old new : Parts Source Sink Mapper Chooser Dispatcher) → Replayed F K M D This status old new
+      → (This (outside_in K M D old) (outside_in K M D new) (F.left old.0) (F.left new.0) → Other (outside_in K M D old) (outside_in K M D new) (F.left old.0) (F.left new.0)) → Replayed F K M D Other status old new
+  ends_too status old new h other = record {
+    ends = λ some. other (h.ends some);
+    untouched = h.untouched;
+    not_usage = h.not_usage;
+    source_fault = h.source_fault;
+    sink_fault = h.sink_fault;
+    too_long = h.too_long;
+    complete = h.complete;
+  }
 
 -- a replay that ended so touched nothing
-pub untouched : {S K M C D : Type 0} (status : Status) (source source_now : S) (sink sink_now : K) (mapper mapper_now : M) (chooser chooser_now : C) (dispatcher dispatcher_now : D) → (status ≡ statuses.Usage → ⊥)
-    → (status ≡ statuses.NoMemory → Untouched source source_now sink sink_now mapper mapper_now chooser chooser_now dispatcher dispatcher_now) → (status ≡ statuses.Usage) ⊎ (status ≡ statuses.NoMemory)
-    → (source_now ≡ source) × (sink_now ≡ sink) × (mapper_now ≡ mapper) × (chooser_now ≡ chooser) × (dispatcher_now ≡ dispatcher)
-untouched status source source_now sink sink_now mapper mapper_now chooser chooser_now dispatcher dispatcher_now never same (inl e) = absurd (never e)
-untouched status source source_now sink sink_now mapper mapper_now chooser chooser_now dispatcher dispatcher_now never same (inr e) =
-    let u = same e in (u.same_source, u.same_sink, u.same_mapper, u.same_chooser, u.same_dispatcher)
+pub untouched : {S K M C D : Type 0} (status : Status) (old new : Parts S K M C D) → (status ≡ statuses.Usage → ⊥) → (status ≡ statuses.NoMemory → new ≡ old) → (status ≡ statuses.Usage) ⊎ (status ≡ statuses.NoMemory)
+    → (new.0 ≡ old.0) × (new.1 ≡ old.1) × (new.2 ≡ old.2) × (new.3 ≡ old.3) × (new.4 ≡ old.4)
+untouched status old new never same (inl e) = absurd (never e)
+untouched status old new never same (inr e) =
+    let all = same e in (ap (λ x. x.0) all, ap (λ x. x.1) all, ap (λ x. x.2) all, ap (λ x. x.3) all, ap (λ x. x.4) all)
+
+pub no_usage : (status : Status) → (status ≡ statuses.Done) ⊎ (status ≡ statuses.SinkFault) ⊎ (status ≡ statuses.NoMemory) → status ≡ statuses.Usage → ⊥
+no_usage status (inl is) e = cc
+no_usage status (inr (inl is)) e = cc
+no_usage status (inr (inr is)) e = cc
 
 -- what it takes to answer the first line, where nothing is parked
 pub can_start : {Service Mapper Chooser : Type 0} (V : GhostsOfService Service Mapper Chooser) (M : GhostsOfMapper Mapper) (service : Service) (mapper : Mapper) (waits : List Parked) → waits ≡ [] → V.able service (M.held mapper) (M.page_bytes mapper) → V.made service ≤ answer_budget → CanAnswer V M 1 service mapper waits

@@ -1,5 +1,5 @@
 -- A trial, from the answers that were counted.
-use Rattle.std.proofs.Common.{◌≡◌, ℕ, List, [], ◌∷◌, ◌++◌, map, Option, None, Ok, refl, sym, ap, subst, ◌∙◌, append-nil, append_assoc}
+use Rattle.std.proofs.Common.{◌≡◌, ℕ, List, [], ◌∷◌, ◌++◌, map, Option, None, Ok, sym, ap, subst, ◌∙◌, append-nil, append_assoc}
 use Rattle.vm_ids.specs.Counting.{no_counts}
 use Rattle.vm_ids.specs.declared.command.Command.TheVariants.{Stat}
 use Rattle.vm_ids.specs.declared.reply.Counts.{Counts}
@@ -14,7 +14,7 @@ use Rattle.gmi_calls.specs.Room.{AnswerWithin}
 use Rattle.line_service.specs.Ending.{AllAnswered}
 use Rattle.line_service.specs.Going.{Scene, Writing}
 use Rattle.line_service.specs.Putting.{Puts, PutsAll}
-use Rattle.replay.specs.Ending.{Summary, TellsCounts, WritesAs, tally_in}
+use Rattle.replay.specs.Ending.{Summary, TellsCounts, WritesAs}
 use Rattle.replay.specs.declared.status.Status.{Status}
 
 -- the answers are counted, and no sink is touched

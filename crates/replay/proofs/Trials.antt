@@ -1,6 +1,6 @@
 -- What a trial promises, from how its lines are answered.
 use Rattle.std.proofs.Common.{◌≡◌, ℕ, map, refl, Option, Some, None, sym, ap, subst, ◌∙◌, arith}
-use Rattle.std.specs.Prelude.{IsSomeAnd, Ok, Err}
+use Rattle.std.specs.Prelude.{Ok, Err}
 use Rattle.vm_ids.specs.Counting.{no_counts}
 use Rattle.vm_ids.specs.Held.{Segments}
 use Rattle.vm_ids.specs.Forest.Nodes.{no_forest}
@@ -10,7 +10,6 @@ use Rattle.vm_ids.specs.declared.numbers.TheConstants.{PAGE}
 use Rattle.vm_ids.specs.declared.reply.Counts.{Counts}
 use Rattle.vm_ids.specs.declared.reply.Reply.TheVariants as replies
 use Rattle.vm_model.specs.Answering.{Answer, Answered}
-use Rattle.vm_model.specs.Laws.{IsFollowed}
 use Rattle.vm_model.specs.Machine.{Machine, start}
 use Rattle.vm_model.specs.Outcome.{IsAlike, Outcome, OutcomeAt}
 use Rattle.vm_model.specs.PageForest.{PageForest}

@@ -1,5 +1,5 @@
 -- What was answered and written when the program ends.
-use Rattle.std.specs.Prelude.{◌≡◌, ◌≤◌, ℕ, Bool, true, false, List, [], ◌++◌, length, map, codes, Option, None, Some, IfSome, IsSomeAnd, Ok}
+use Rattle.std.specs.Prelude.{◌≡◌, ◌≤◌, ℕ, Bool, true, false, List, [], ◌++◌, length, map, codes, Option, None, Some, IsSomeAnd, Ok}
 use Rattle.std.specs.List.{flat_map}
 use Rattle.std.specs.FinMap.{get}
 use Rattle.vm_ids.specs.Counting.{MapperCounts, no_counts}
@@ -53,24 +53,6 @@ use Rattle.replay.specs.declared.asked.Size.{Size}
 abbrev pub CommandScene : Type 0
 CommandScene = Scene command_semantics Told
 
--- And of a script of processes: the processes, what the manager has, and the same besides.
-abbrev pub ProcessScene : Type 0
-ProcessScene = Scene process_semantics Told
-
--- And of a script of message ports: the plain machine with the ports, and the same besides.
-abbrev pub PortScene : Type 0
-PortScene = Scene port_semantics Told
-
--- And of a script of segments that are opened again: the machine of referenced segments, and the
--- same besides.
-abbrev pub SegmentScene : Type 0
-SegmentScene = Scene keep_semantics Told
-
--- And of a script over a manager in which each live page has a page frame, which tells no page
--- forest.
-abbrev pub FramedScene : Type 0
-FramedScene = Scene framed_semantics Told
-
 -- What a scene has besides: the mapper's segments, where they are told, its counts, the turns that
 -- the dispatcher has left, and what was written.
 pub record Outside : Type 0 where
@@ -88,50 +70,15 @@ outside_of M mapper turns written = record {
   written = written;
 }
 
+-- the scene of a state and of what is outside
+abbrev pub scene_at : {S : Semantics} → Outside → S.State → Scene S Told
+scene_at o state =
+    record { state = state; counts = o.counts; turns = o.turns; written = o.written }
+
 -- the scene of a machine and of the page forest that is kept for it
 abbrev pub scene_with : Outside → Machine → PageForest → CommandScene
-scene_with o machine forest = record {
-  state = record { machine = machine; forest = Some forest; segments = o.segments };
-  counts = o.counts;
-  turns = o.turns;
-  written = o.written;
-}
-
--- the scene of processes over a manager that has so much
-abbrev pub scene_of_processes : Outside → ProcessMachine → Usage → ProcessScene
-scene_of_processes o processes usage = record {
-  state = record { processes = processes; usage = usage; segments = o.segments };
-  counts = o.counts;
-  turns = o.turns;
-  written = o.written;
-}
-
--- the scene of ports
-abbrev pub scene_of_ports : Outside → PortMachine → PortScene
-scene_of_ports o ports = record {
-  state = record { ports = ports; segments = o.segments };
-  counts = o.counts;
-  turns = o.turns;
-  written = o.written;
-}
-
--- the scene of referenced segments
-abbrev pub scene_of_segments : Outside → ReferenceMachine → SegmentScene
-scene_of_segments o references = record {
-  state = record { references = references; segments = o.segments };
-  counts = o.counts;
-  turns = o.turns;
-  written = o.written;
-}
-
--- the scene of a machine whose live pages have frames
-abbrev pub scene_of_frames : Outside → Machine → FramedScene
-scene_of_frames o machine = record {
-  state = record { machine = machine; forest = None; segments = o.segments };
-  counts = o.counts;
-  turns = o.turns;
-  written = o.written;
-}
+scene_with o machine forest =
+    scene_at o (record { machine = machine; forest = Some forest; segments = o.segments })
 
 -- the exit status by how a replay ends
 abbrev pub status_of : Ended → Status
@@ -140,19 +87,18 @@ status_of ended.SourceFault = statuses.SourceFault
 status_of ended.SinkFault = statuses.SinkFault
 status_of ended.TooLong = statuses.TooLong
 
--- How a replay of what the source had left ends, for whoever reads lines so and means this by them.
+-- How a replay with this status ended, of what the source had left, for whoever reads lines so and
+-- means this by them.
 abbrev pub EndsAs : Status → (S : Semantics) → (List ℕ → S.Read) → Scene S Told → Scene S Told
     → Told → Told → Type 0
-EndsAs statuses.Done S read before now left left_now =
-    Ends ended.Done S read before now left left_now
-EndsAs statuses.SourceFault S read before now left left_now =
-    Ends ended.SourceFault S read before now left left_now
-EndsAs statuses.SinkFault S read before now left left_now =
-    Ends ended.SinkFault S read before now left left_now
-EndsAs statuses.TooLong S read before now left left_now =
-    Ends ended.TooLong S read before now left left_now
-EndsAs statuses.Usage S read before now left left_now = ⊥
-EndsAs statuses.NoMemory S read before now left left_now = ⊥
+EndsAs status S read before now left left_now =
+    (e : Ended) × (status ≡ status_of e) × Ends e S read before now left left_now
+
+-- The same of one that began in the first of these states, and left the last.
+abbrev pub EndsFrom : Status → (S : Semantics) → (List ℕ → S.Read) → (first last : S.State)
+    → (before now : Outside) → Told → Told → Type 0
+EndsFrom status S read first last before now left left_now =
+    EndsAs status S read (scene_at before first) (scene_at now last) left left_now
 
 -- How a run that was asked for ends: it began with the empty machine and the empty page forest, and
 -- the last forest has its shape and agrees with the last machine.
@@ -169,38 +115,45 @@ pub record RunEnds (status : Status) (size : Size) (before now : Outside) (left 
 pub record MixEnds (status : Status) (before now : Outside) (left left_now : Told) : Type 0 where
   pub last : ProcessMachine
   pub usage : Usage
-  pub ends : EndsAs status process_semantics mix_command_of
-      (scene_of_processes before (no_processes PAGE) no_usage)
-      (scene_of_processes now last usage) left left_now
+  pub ends : EndsFrom status process_semantics mix_command_of
+      (record { processes = no_processes PAGE; usage = no_usage; segments = before.segments })
+      (record { processes = last; usage = usage; segments = now.segments })
+      before now left left_now
 
 -- How a script of message ports ends: it began with the empty machine and no port.
 pub record PortEnds (status : Status) (frames : ℕ) (before now : Outside) (left left_now : Told)
     : Type 0 where
   pub last : PortMachine
-  pub ends : EndsAs status port_semantics port_command_of
-      (scene_of_ports before (no_ports frames PAGE)) (scene_of_ports now last) left left_now
+  pub ends : EndsFrom status port_semantics port_command_of
+      (record { ports = no_ports frames PAGE; segments = before.segments })
+      (record { ports = last; segments = now.segments }) before now left left_now
 
 -- the pages of each segment, where they are told
 abbrev pub stored_in : Option Segments → Stored
 stored_in None seg = None
 stored_in (Some segments) seg = get segments.pages seg
 
--- How a script of segments that are opened again ends: it began with no segment open, over those
--- that the mapper has. How many caches may be kept is no part of it.
+-- no segment open, over those that the mapper has
+abbrev pub none_open : ℕ → Option Segments → ReferenceMachine
+none_open frames segments = no_openings frames PAGE (stored_in segments)
+
+-- How a script of segments that are opened again ends: it began with none open. How many caches may
+-- be kept is no part of it.
 pub record KeepEnds (status : Status) (frames : ℕ) (before now : Outside) (left left_now : Told)
     : Type 0 where
   pub last : ReferenceMachine
-  pub ends : EndsAs status keep_semantics keep_command_of
-      (scene_of_segments before (no_openings frames PAGE (stored_in before.segments)))
-      (scene_of_segments now last) left left_now
+  pub ends : EndsFrom status keep_semantics keep_command_of
+      (record { references = none_open frames before.segments; segments = before.segments })
+      (record { references = last; segments = now.segments }) before now left left_now
 
--- How a script ends over a manager in which each live page has one of so many page frames: it began
--- with the empty machine.
+-- How a script ends over a manager in which each live page has one of so many page frames, and
+-- which tells no page forest: it began with the empty machine.
 pub record FlatEnds (status : Status) (frames : ℕ) (before now : Outside) (left left_now : Told)
     : Type 0 where
   pub last : Machine
-  pub ends : EndsAs status framed_semantics framed_command_of
-      (scene_of_frames before (start frames PAGE)) (scene_of_frames now last) left left_now
+  pub ends : EndsFrom status framed_semantics framed_command_of
+      (record { machine = start frames PAGE; forest = None; segments = before.segments })
+      (record { machine = last; forest = None; segments = now.segments }) before now left left_now
 
 -- All of a text was written; or, where a write failed, a front of it.
 abbrev pub WritesAs : Status → Option (List ℕ) → Option (List ℕ) → List ℕ → Type 0
@@ -272,19 +225,11 @@ AskedEnds status (asks.Flat frames) before now left left_now =
 
 -- only the replay of a script reads the source
 abbrev pub reads_source : Asked → Bool
-reads_source (asks.Run size) = true
-reads_source (asks.Mix frames) = true
-reads_source (asks.Ipc frames) = true
-reads_source (asks.Keep limit frames) = true
-reads_source (asks.Flat frames) = true
-reads_source asked = false
+reads_source (asks.Generate script) = false
+reads_source (asks.Trial script frames) = false
+reads_source asked = true
 
 -- What is asked for reads no source, or one that tells no more bytes than a script may have.
 abbrev pub IsWithinLimit : Asked → Option (List ℕ) → Type 0
-IsWithinLimit (asks.Run size) left = IsSomeAnd left (λ all. length all ≤ most_bytes)
-IsWithinLimit (asks.Mix frames) left = IsSomeAnd left (λ all. length all ≤ most_bytes)
-IsWithinLimit (asks.Ipc frames) left = IsSomeAnd left (λ all. length all ≤ most_bytes)
-IsWithinLimit (asks.Keep limit frames) left =
-    IsSomeAnd left (λ all. length all ≤ most_bytes)
-IsWithinLimit (asks.Flat frames) left = IsSomeAnd left (λ all. length all ≤ most_bytes)
-IsWithinLimit asked left = Unit {0}
+IsWithinLimit asked left =
+    reads_source asked ≡ true → IsSomeAnd left (λ all. length all ≤ most_bytes)

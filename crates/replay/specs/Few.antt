@@ -1,6 +1,6 @@
 -- Why few actors are alive, and why the front of a line is read as the line. The laws of a service
 -- cite them.
-use Rattle.std.specs.Prelude.{◌≡◌, ◌≢◌, ◌≤◌, ℕ, List, [], ◌∷◌, length, Option, IsSome}
+use Rattle.std.specs.Prelude.{◌≡◌, ◌≤◌, ℕ, List, [], ◌∷◌, length, Option, IsSome}
 use Rattle.std.proofs.Common.{ap, zero-le}
 use Rattle.std.specs.List.{AllByRecursion}
 use Rattle.vm_ids.specs.Held.{Held}

@@ -21,6 +21,7 @@ mod at_once;
 mod commands;
 mod frames;
 mod generating;
+mod given;
 mod ports;
 mod processes;
 mod replaying;

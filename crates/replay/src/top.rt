@@ -8,6 +8,7 @@ ghost use Rattle.line_service.specs.Script.{most_bytes};
 use crate::Status;
 use crate::asked::Asked;
 use crate::generating::generate;
+use crate::given::Given;
 use crate::replaying::{
     replay_commands, replay_flat, replay_messages, replay_processes, replay_segments,
 };
@@ -117,25 +118,20 @@ pub fn run<S: Source, K: Sink, M: Mapper, C: Chooser, D: Dispatcher>(
         Ok(None) => return Status::Usage,
         Err(_) => return Status::NoMemory,
     };
+    let given = Given {
+        source,
+        sink,
+        mapper,
+        chooser,
+        dispatcher,
+    };
     match asked {
-        Asked::Run(size) => {
-            replay_commands(alloc, size, source, sink, mapper, chooser, dispatcher)
-        }
-        Asked::Generate(script) => generate(script, sink),
-        Asked::Trial(script, frames) => {
-            trial(alloc, script, frames, sink, mapper, chooser, dispatcher)
-        }
-        Asked::Mix { frames } => {
-            replay_processes(alloc, frames, source, sink, mapper, chooser, dispatcher)
-        }
-        Asked::Ipc { frames } => {
-            replay_messages(alloc, frames, source, sink, mapper, chooser, dispatcher)
-        }
-        Asked::Keep { limit, frames } => replay_segments(
-            alloc, frames, limit, source, sink, mapper, chooser, dispatcher,
-        ),
-        Asked::Flat { frames } => {
-            replay_flat(alloc, frames, source, sink, mapper, chooser, dispatcher)
-        }
+        Asked::Run(size) => replay_commands(alloc, size, given),
+        Asked::Generate(script) => generate(script, given.sink),
+        Asked::Trial(script, frames) => trial(alloc, script, frames, given),
+        Asked::Mix { frames } => replay_processes(alloc, frames, given),
+        Asked::Ipc { frames } => replay_messages(alloc, frames, given),
+        Asked::Keep { limit, frames } => replay_segments(alloc, frames, limit, given),
+        Asked::Flat { frames } => replay_flat(alloc, frames, given),
     }
 }

@@ -1,15 +1,17 @@
 // The lines of a script that a number makes, answered and counted.
-ghost use Rattle.std.specs.Prelude.{◌≡◌, ◌≢◌, ◌≤◌, ◌⊎◌, ◌^◌, [], map, IfSome};
+ghost use Rattle.std.specs.Prelude.{◌≡◌, ◌≢◌, ◌≤◌, ◌⊎◌, [], map};
 ghost use Rattle.vm_ids.specs.Counting.{Rose};
 ghost use Rattle.vm_model.specs.Run.{command_semantics, state_of};
 ghost use Rattle.actor_script.specs.Forms.{command_of};
 ghost use Rattle.line_service.specs.Serving.{answer_budget};
-ghost use Rattle.replay.specs.Ending.{Summed, TellsCounts, TrialEnds, lines_made, outside_of};
+ghost use Rattle.replay.specs.Ending.{Summed, TellsCounts, TrialEnds, lines_made};
 ghost use Rattle.replay.specs.Managing.{CanCall, scene_of_manager};
+ghost use Rattle.replay.specs.Replaying.{CanBegin, found, left, outside_in};
 
 use crate::Status;
 use crate::asked::Generated;
 use crate::commands::Commands;
+use crate::given::Given;
 use actor_script::{Gen, Tally, write_summary};
 use gmi_calls::Gmi;
 use line_service::answer_made;
@@ -72,29 +74,23 @@ fn answer_all<G: Gmi<M, C>, M: Mapper, C: Chooser, D: Dispatcher, K: Sink>(
 /// Answers each line of the script over a manager of so many page frames, and writes the summary of
 /// the answers. `NoMemory` where there is none to begin with.
 #[inline(never)]
-pub fn trial<K: Sink, M: Mapper, C: Chooser, D: Dispatcher>(
+pub fn trial<S, K: Sink, M: Mapper, C: Chooser, D: Dispatcher>(
     alloc: Global,
     script: Generated,
     frames: u32,
-    sink: &mut K,
-    mapper: &mut M,
-    chooser: &mut C,
-    dispatcher: &mut D,
+    given: Given<'_, S, K, M, C, D>,
 ) -> Status
     requires lines { script.lines ≤ 1000000 }
-    requires few { 3 ≤ frames }
-    requires frames { frames ≤ 2 ^ 16 }
-    requires page { IfSome (M.page_bytes mapper.old) (λ bytes. bytes ≡ PAGE) }
+    requires begins { CanBegin frames PAGE (M.page_bytes given.mapper.now) }
     ensures ends { result ≢ Status.NoMemory → TrialEnds result script frames
-        (outside_of M.Mapper mapper.old (D.turns dispatcher.old) (K.written sink.old))
-        (outside_of M.Mapper mapper.new (D.turns dispatcher.new) (K.written sink.new)) }
+        (outside_in K.Sink M.Mapper D.Dispatcher (found given.entry))
+        (outside_in K.Sink M.Mapper D.Dispatcher (left given.exit)) }
+    ensures unread { (left given.exit).0 ≡ given.entry.source.now }
     ensures ended { (result ≡ Status.Done) ⊎ (result ≡ Status.SinkFault)
         ⊎ (result ≡ Status.NoMemory) }
     ensures sink_fault { result ≡ Status.SinkFault →
-        Rose (K.faults sink.old) (K.faults sink.new) }
-    ensures untouched { result ≡ Status.NoMemory → (sink.new ≡ sink.old)
-        × (mapper.new ≡ mapper.old) × (chooser.new ≡ chooser.old)
-        × (dispatcher.new ≡ dispatcher.old) }
+        Rose (K.faults given.entry.sink.now) (K.faults (left given.exit).1) }
+    ensures untouched { result ≡ Status.NoMemory → left given.exit ≡ found given.entry }
 {
     let manager = match Pvm::new(alloc, frames, PAGE as u32) {
         Ok(manager) => manager,
@@ -104,6 +100,13 @@ pub fn trial<K: Sink, M: Mapper, C: Chooser, D: Dispatcher>(
         Ok(waits) => waits,
         Err(_) => return Status::NoMemory,
     };
+    let Given {
+        source: _,
+        sink,
+        mapper,
+        chooser,
+        dispatcher,
+    } = given;
     let mut commands = Commands { gmi: manager };
     answer_all(
         &mut commands,

@@ -1,6 +1,6 @@
 -- What words are that ask for something.
-use Rattle.std.proofs.Common.{◌≡◌, ◌≤◌, ◌^◌, ℕ, Bool, true, false, cond, List, [], ◌∷◌, Option, Some, refl, sym, ap, ◌∙◌, subst, codes, bytes_eq, arith, nat_le, option_and_then, option_map}
-use Rattle.std.specs.Prelude.{◌&&◌, IfOk, Result, Ok, Err}
+use Rattle.std.proofs.Common.{◌≡◌, ◌≤◌, ℕ, Bool, true, false, cond, List, [], ◌∷◌, Option, Some, refl, sym, ap, ◌∙◌, subst, codes, bytes_eq, arith, nat_le, option_and_then, option_map}
+use Rattle.std.specs.Prelude.{◌&&◌, IfOk, IfSome, None, Result, Ok, Err}
 use Rattle.std.proofs.lemmas.Bool.{and_parts, leb-true}
 use Rattle.vm_ids.specs.declared.numbers.TheConstants.{PAGE}
 use Rattle.actor_script.specs.Operands.{number_of}
@@ -9,6 +9,7 @@ use Rattle.replay.specs.declared.asked.Asked.TheVariants as asks
 use Rattle.replay.specs.declared.asked.Generated.{Generated}
 use Rattle.replay.specs.declared.asked.Size.{Size}
 use Rattle.replay.specs.Commanding.{asked_by, first_value, frames_behind, if_lines, keep_behind, keep_of, keep_options, keep_with, limit_of, line_count_of, options_among, others_among, page_size_of, plain_options, run_options, script_of, size_behind, size_of, trial_behind, trial_of, values_behind}
+use Rattle.replay.specs.Replaying.{CanBegin}
 use Rattle.replay.proofs.CommandLine.First.{no_page, no_page_among, page_behind, page_or}
 use Rattle.replay.proofs.CommandLine.Right.{Made, few_frames, made_by_map, made_by_test, made_by_then, sized, small_page}
 use Rattle.replay.proofs.CommandLine.Values.{same_text}
@@ -84,83 +85,22 @@ plain_page words frames e =
     let s = sized plain_options words size.value size.is in
     ap page_or (no_page plain_options refl words s.values s.values_are)
 
--- the page size that the words name is the one of what they ask for
+-- the bounds of a size, whatever the mapper tells
 
-pub run_page : (words : List (List ℕ)) (size : Size) → asked_by words ≡ Some (asks.Run size) → page_size_of words ≡ size.page_bytes
-run_page words size e =
-    let run = kind_of_words words (asks.Run size) e in
-    ap page_size_of run.words_are ∙ page_behind run_options run.rest size run.holds
-
-pub trial_page : (words : List (List ℕ)) (script : Generated) (frames : ℕ) → asked_by words ≡ Some (asks.Trial script frames) → page_size_of words ≡ PAGE
-trial_page words script frames e =
-    let trial = kind_of_words words (asks.Trial script frames) e in
-    let size = plain_size (options_among false trial.rest) frames trial.holds.frames_are in
-    let s = sized plain_options (options_among false trial.rest) size.value size.is in
-    ap page_size_of trial.words_are ∙ ap page_or (no_page_among plain_options refl trial.rest s.values s.values_are)
-
-pub mix_page : (words : List (List ℕ)) (frames : ℕ) → asked_by words ≡ Some (asks.Mix frames) → page_size_of words ≡ PAGE
-mix_page words frames e =
-    let mix = kind_of_words words (asks.Mix frames) e in
-    ap page_size_of mix.words_are ∙ plain_page mix.rest frames mix.holds
-
-pub ipc_page : (words : List (List ℕ)) (frames : ℕ) → asked_by words ≡ Some (asks.Ipc frames) → page_size_of words ≡ PAGE
-ipc_page words frames e =
-    let ipc = kind_of_words words (asks.Ipc frames) e in
-    ap page_size_of ipc.words_are ∙ plain_page ipc.rest frames ipc.holds
-
-pub flat_page : (words : List (List ℕ)) (frames : ℕ) → asked_by words ≡ Some (asks.Flat frames) → page_size_of words ≡ PAGE
-flat_page words frames e =
-    let flat = kind_of_words words (asks.Flat frames) e in
-    ap page_size_of flat.words_are ∙ plain_page flat.rest frames flat.holds
-
-pub keep_page : (words : List (List ℕ)) (limit frames : ℕ) → asked_by words ≡ Some (asks.Keep limit frames) → page_size_of words ≡ PAGE
-keep_page words limit frames e =
-    let keep = kind_of_words words (asks.Keep limit frames) e in
-    let s = sized keep_options keep.rest keep.holds.value keep.holds.is in
-    ap page_size_of keep.words_are ∙ ap page_or (no_page keep_options refl keep.rest s.values s.values_are)
-
--- bounds
-
-pub record HasBounds (count bytes : ℕ) : Type 0 where
-  pub few : 3 ≤ count
-  pub frames : count ≤ 2 ^ 16
-  pub some : 1 ≤ bytes
-  pub page : bytes ≤ 2 ^ 16
-
-size_bounds : (known words : List (List ℕ)) (size : Size) → size_behind known words ≡ Some size → HasBounds size.frames size.page_bytes
-size_bounds known words size e =
+size_begins : (known words : List (List ℕ)) (size : Size) → size_behind known words ≡ Some size → CanBegin size.frames size.page_bytes None
+size_begins known words size e =
     let s = sized known words size e in
     let frames = few_frames _ size.frames s.forms.frames_are in
     let page = small_page _ size.page_bytes s.forms.page_is in
-    record { few = frames.0; frames = omega (arith, frames.1); some = page.0; page = page.1 }
+    record { few = frames.0; most = omega (arith, frames.1); some = page.0; small = page.1; page = tt }
 
-of_size : (known words : List (List ℕ)) (frames : ℕ) → Made (size_behind known words) (λ size. size.frames ≡ frames) → HasBounds frames PAGE
+of_size : (known words : List (List ℕ)) (frames : ℕ) → Made (size_behind known words) (λ size. size.frames ≡ frames) → CanBegin frames PAGE None
 of_size known words frames size =
-    let h = size_bounds known words size.value size.is in
-    record { few = omega (arith, h.few, size.holds); frames = omega (arith, h.frames, size.holds); some = omega arith; page = omega arith }
+    let h = size_begins known words size.value size.is in
+    record { few = omega (arith, h.few, size.holds); most = omega (arith, h.most, size.holds); some = omega arith; small = omega arith; page = tt }
 
-plain_bounds : (words : List (List ℕ)) (frames : ℕ) → frames_behind words ≡ Some frames → HasBounds frames PAGE
-plain_bounds words frames e = of_size plain_options words frames (plain_size words frames e)
-
-pub run_bounds : (words : List (List ℕ)) (size : Size) → asked_by words ≡ Some (asks.Run size) → HasBounds size.frames size.page_bytes
-run_bounds words size e = let run = kind_of_words words (asks.Run size) e in size_bounds run_options run.rest size run.holds
-
-pub trial_bounds : (words : List (List ℕ)) (script : Generated) (frames : ℕ) → asked_by words ≡ Some (asks.Trial script frames) → HasBounds frames PAGE
-trial_bounds words script frames e =
-    let trial = kind_of_words words (asks.Trial script frames) e in
-    plain_bounds (options_among false trial.rest) frames trial.holds.frames_are
-
-pub mix_bounds : (words : List (List ℕ)) (frames : ℕ) → asked_by words ≡ Some (asks.Mix frames) → HasBounds frames PAGE
-mix_bounds words frames e = let mix = kind_of_words words (asks.Mix frames) e in plain_bounds mix.rest frames mix.holds
-
-pub ipc_bounds : (words : List (List ℕ)) (frames : ℕ) → asked_by words ≡ Some (asks.Ipc frames) → HasBounds frames PAGE
-ipc_bounds words frames e = let ipc = kind_of_words words (asks.Ipc frames) e in plain_bounds ipc.rest frames ipc.holds
-
-pub flat_bounds : (words : List (List ℕ)) (frames : ℕ) → asked_by words ≡ Some (asks.Flat frames) → HasBounds frames PAGE
-flat_bounds words frames e = let flat = kind_of_words words (asks.Flat frames) e in plain_bounds flat.rest frames flat.holds
-
-pub keep_bounds : (words : List (List ℕ)) (limit frames : ℕ) → asked_by words ≡ Some (asks.Keep limit frames) → HasBounds frames PAGE
-keep_bounds words limit frames e = let keep = kind_of_words words (asks.Keep limit frames) e in of_size keep_options keep.rest frames keep.holds
+plain_begins : (words : List (List ℕ)) (frames : ℕ) → frames_behind words ≡ Some frames → CanBegin frames PAGE None
+plain_begins words frames e = of_size plain_options words frames (plain_size words frames e)
 
 -- a script has 1 to 1,000,000 lines
 
@@ -183,8 +123,43 @@ script_few (number ∷ lines ∷ []) script e =
     subst (λ (s : Generated). HasFewLines s.lines) l.holds (few_if counted.value l.value counted.holds)
 script_few (number ∷ lines ∷ word ∷ words) script e = absurd (cc)
 
-pub trial_few : (words : List (List ℕ)) (script : Generated) (frames : ℕ) → asked_by words ≡ Some (asks.Trial script frames) → script.lines ≤ 1000000
-trial_few words script frames e = let trial = kind_of_words words (asks.Trial script frames) e in (script_few (others_among false trial.rest) script trial.holds.script_is).1
+-- and where the mapper's pages have the size that the words name
+
+module _ (told : Option ℕ) (words : List (List ℕ)) (pages : IfSome told (λ n. n ≡ page_size_of words)) where
+  over : (frames bytes : ℕ) → CanBegin frames bytes None → page_size_of words ≡ bytes → CanBegin frames bytes told
+  over frames bytes h same = record { few = h.few; most = h.most; some = h.some; small = h.small; page = subst (λ (b : ℕ). IfSome told (λ n. n ≡ b)) same pages }
+
+  plain_over : (rest : List (List ℕ)) (frames : ℕ) → frames_behind rest ≡ Some frames → page_size_of words ≡ page_or (first_value (codes "--page") rest) → CanBegin frames PAGE told
+  plain_over rest frames e same = over frames PAGE (plain_begins rest frames e) (same ∙ plain_page rest frames e)
+
+  -- a manager may begin with what is asked for
+  abbrev pub Begins : Asked → Type 0
+  Begins (asks.Run size) = CanBegin size.frames size.page_bytes told
+  Begins (asks.Generate script) = Unit {0}
+  Begins (asks.Trial script frames) = (script.lines ≤ 1000000) × CanBegin frames PAGE told
+  Begins (asks.Mix frames) = CanBegin frames PAGE told
+  Begins (asks.Ipc frames) = CanBegin frames PAGE told
+  Begins (asks.Keep limit frames) = CanBegin frames PAGE told
+  Begins (asks.Flat frames) = CanBegin frames PAGE told
+
+  begins_as : (asked : Asked) → IsKind words asked → Begins asked
+  begins_as (asks.Run size) run = over size.frames size.page_bytes (size_begins run_options run.rest size run.holds) (ap page_size_of run.words_are ∙ page_behind run_options run.rest size run.holds)
+  begins_as (asks.Generate script) word = tt
+  begins_as (asks.Trial script frames) trial =
+      let size = plain_size (options_among false trial.rest) frames trial.holds.frames_are in
+      let s = sized plain_options (options_among false trial.rest) size.value size.is in (
+        (script_few (others_among false trial.rest) script trial.holds.script_is).1,
+        over frames PAGE (plain_begins (options_among false trial.rest) frames trial.holds.frames_are) (ap page_size_of trial.words_are ∙ ap page_or (no_page_among plain_options refl trial.rest s.values s.values_are)),
+      )
+  begins_as (asks.Mix frames) mix = plain_over mix.rest frames mix.holds (ap page_size_of mix.words_are)
+  begins_as (asks.Ipc frames) ipc = plain_over ipc.rest frames ipc.holds (ap page_size_of ipc.words_are)
+  begins_as (asks.Flat frames) flat = plain_over flat.rest frames flat.holds (ap page_size_of flat.words_are)
+  begins_as (asks.Keep limit frames) keep =
+      let s = sized keep_options keep.rest keep.holds.value keep.holds.is in
+      over frames PAGE (of_size keep_options keep.rest frames keep.holds) (ap page_size_of keep.words_are ∙ ap page_or (no_page keep_options refl keep.rest s.values s.values_are))
+
+  pub begins : (asked : Asked) → asked_by words ≡ Some asked → Begins asked
+  begins asked e = begins_as asked (kind_of_words words asked e)
 
 -- what the code finds in the words of a trial
 pub trial_asks : {E : Type 0} (r : Result (Option Asked) E) (words others options : List (List ℕ)) → others ≡ others_among false words → options ≡ options_among false words

@@ -1,23 +1,24 @@
-use Rattle.std.proofs.Common.{refl}
-use Rattle.replay.specs.Ending.{outside_of}
-use Rattle.replay.proofs.Promise.{bare_start, mix_ends, unbegun}
+use Rattle.std.proofs.Common.{◌∙◌, ap, refl}
+use Rattle.vm_ids.specs.Held.{segments_of}
+use Rattle.vm_model.specs.Machine.{Machine}
+use Rattle.actor_script.specs.MixForms.{mix_command_of}
+use Rattle.mix_process.specs.Calling.{beginning}
+use Rattle.replay.specs.Processing.{process_semantics}
+use Rattle.replay.proofs.Promise.{bare_start, begun_at, ends_too, unbegun}
 use Rattle.replay.proofs.replaying.replay_processes.Goals as goal
 
-pub replay_lines-requires-clause-able : goal.replay_lines-requires-clause-able
-replay_lines-requires-clause-able g c =
+pub replay_over-requires-clause-able : goal.replay_over-requires-clause-able
+replay_over-requires-clause-able g c =
     let M = g.M.Mapper in
-    let told = M.held c.args.mapper.now in
-    let page_bytes = M.page_bytes c.args.mapper.now in
+    let told = M.held c.args.given.mapper.now in
+    let page_bytes = M.page_bytes c.args.given.mapper.now in
     c.new-answerer.ensures.can told page_bytes (bare_start _ _ told page_bytes c.args.frames 4096 (c.in-Ok.ensures.valid told) refl c.requires.page refl (c.in-Ok.ensures.machine told))
 
-pub returns-clause-ends : goal.returns-clause-ends
-returns-clause-ends g c = λ some.
-    let M = g.M.Mapper in
-    let K = g.K.Sink in
-    let D = g.D.Dispatcher in
-    let told = M.held c.args.mapper.now in
-    mix_ends c.replay_lines.result c.args.frames (outside_of M c.args.mapper.now (D.turns c.args.dispatcher.now) (K.written c.args.sink.now)) (outside_of M c.replay_lines.new.mapper (D.turns c.replay_lines.new.dispatcher) (K.written c.replay_lines.new.sink)) _ _
-    _ _ _ _ (c.new-answerer.ensures.begins told) (c.in-Ok.ensures.machine told) (c.replay_lines.ensures.ends some)
+pub returns : goal.returns
+returns g c =
+    let told = g.M.Mapper.held c.args.given.mapper.now in
+    ends_too g.S.Source g.K.Sink g.M.Mapper g.D.Dispatcher c.replay_over.result _ _ c.replay_over.ensures
+    (λ ends. record { last = _; usage = _; ends = begun_at process_semantics mix_command_of (c.new-answerer.ensures.begins told ∙ ap (λ (m : Machine). beginning m (segments_of told)) (c.in-Ok.ensures.machine told)) ends })
 
-pub returns-in-Err-clause-replayed : goal.returns-in-Err-clause-replayed
-returns-in-Err-clause-replayed g c = unbegun g.S.Source g.K.Sink c.args.source.now c.args.sink.now
+pub returns-in-Err : goal.returns-in-Err
+returns-in-Err g c = unbegun g.S.Source g.K.Sink g.M.Mapper g.D.Dispatcher _ _

@@ -1,5 +1,3 @@
-use Rattle.std.proofs.Common.{sym, subst}
-use Rattle.std.specs.Prelude.{IfOk}
 use Rattle.replay.proofs.PortsFormed.{formed}
 use Rattle.replay.proofs.ports.PortsAnswerer.read_line.Goals as goal
 

@@ -1,5 +1,3 @@
-use Rattle.std.proofs.Common.{sym, subst}
-use Rattle.std.specs.Prelude.{IfOk}
 use Rattle.replay.proofs.KeepsFormed.{formed}
 use Rattle.replay.proofs.segments.SegManagerAnswerer.read_line.Goals as goal
 
