@@ -5,10 +5,10 @@ use Rattle.vm_ids.specs.Held.{Held}
 use Rattle.vm_model.specs.Machine.{Actor, Cache, Machine, live_pages, living_actors, numbered}
 use Rattle.vm_model.specs.declared.limits.TheConstants.{LIVE_PAGES, LIVING_ACTORS}
 use Rattle.gmi_calls.specs.declared.gmi.Gmi.{Ghosts as GhostsOfGmi}
+use Rattle.interface_callers.proofs.Blanks.{blank_bare}
 use Rattle.mix_process.specs.Tying.{AreAble, AreSynchronised, AreTied, IsBare, none_spare}
 use Rattle.mix_process.specs.declared.mix.Image.{Image}
 use Rattle.mix_process.specs.declared.process.Process.{Process}
-use Rattle.mix_process.proofs.Untold.{blank_bare}
 
 nothing : {A : Type 0} (b : Bool) → cond b None (option_and_then {T = Option A} (λ x. x) None) ≡ None
 nothing true = refl

@@ -11,6 +11,7 @@ use Rattle.vm_model.proofs.Parts.Lists.{get_set_same}
 use Rattle.vm_port.specs.declared.traits.mapper.Mapper.{Ghosts as GhostsOfMapper}
 use Rattle.gmi_calls.specs.declared.gmi.Gmi.{Ghosts as GhostsOfGmi}
 use Rattle.gmi_calls.proofs.Rising.{rise_none, rise_then}
+use Rattle.interface_callers.proofs.Lists.{get_last}
 use Rattle.mix_process.specs.Adding.{AreKept, IsAdded, IsMapped, IsUnmapped, MapsPart, MayAdd, MayMap, Source, fresh_page, most_of, own_budget, put_at, usage_to_map, with_more}
 use Rattle.mix_process.specs.Inner.{spare_of}
 use Rattle.mix_process.specs.Loaded.{IsLoaded, MayLoad, loaded, usage_to_load}
@@ -30,7 +31,6 @@ use Rattle.mix_process.proofs.Able.{respared}
 use Rattle.mix_process.proofs.Fitted.{cache_few}
 use Rattle.mix_process.proofs.Inheriting.{set_again, set_last}
 use Rattle.mix_process.proofs.Joining.{map_place}
-use Rattle.mix_process.proofs.Lists.{get_last}
 use Rattle.mix_process.proofs.Looking.{pages-append}
 use Rattle.mix_process.proofs.Mapped.{spare_only}
 use Rattle.mix_process.proofs.Seeing.{pages_there}

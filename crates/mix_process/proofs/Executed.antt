@@ -21,6 +21,7 @@ use Rattle.vm_model.specs.Machine.{Cache, Machine, Page, cache_of}
 use Rattle.vm_port.specs.declared.traits.mapper.Mapper.{Ghosts as GhostsOfMapper}
 use Rattle.gmi_calls.specs.declared.gmi.Gmi.{Ghosts as GhostsOfGmi}
 use Rattle.gmi_calls.proofs.Rising.{rise_then}
+use Rattle.interface_callers.proofs.Blanks.{as_untold}
 use Rattle.mix_process.specs.Adding.{AreKept, fresh_page, put_at}
 use Rattle.mix_process.specs.Answering.{is_too_large, process_from, with_image}
 use Rattle.mix_process.specs.Calling.{MixCall}
@@ -46,7 +47,7 @@ use Rattle.mix_process.proofs.Imaging.{image_seen_for, image_there, map_snoc}
 use Rattle.mix_process.proofs.Inheriting.{set_last}
 use Rattle.mix_process.proofs.Seeing.{pages_there}
 use Rattle.mix_process.proofs.Single.{refused_called}
-use Rattle.mix_process.proofs.Untold.{as_untold, filled_up, seen_filled, step_with, zeros}
+use Rattle.mix_process.proofs.Untold.{filled_up, seen_filled, step_with, zeros}
 use Rattle.mix_process.proofs.Using.{lack_still}
 use Rattle.mix_process.proofs.ExecSteps.{alive_one, fit_sizes, made_sum, told_holds}
 

@@ -19,6 +19,7 @@ use Rattle.vm_model.proofs.Parts.Lists.{numbered-map}
 use Rattle.vm_port.specs.declared.traits.mapper.Mapper.{Ghosts as GhostsOfMapper}
 use Rattle.gmi_calls.specs.declared.gmi.Gmi.{Ghosts as GhostsOfGmi}
 use Rattle.gmi_calls.proofs.Rising.{rise_none, rise_then}
+use Rattle.interface_callers.proofs.Blanks.{as_untold}
 use Rattle.mix_process.specs.Adding.{AreKept, put_at}
 use Rattle.mix_process.specs.Answering as mix
 use Rattle.mix_process.specs.Calling.{MixCall}
@@ -41,7 +42,7 @@ use Rattle.mix_process.proofs.Imaging.{map_snoc}
 use Rattle.mix_process.proofs.Inheriting.{set_last}
 use Rattle.mix_process.proofs.Keeping.{images_kept, numbered_at, processes_kept}
 use Rattle.mix_process.proofs.Single.{none_here, refused_called}
-use Rattle.mix_process.proofs.Untold.{as_untold, filled_up, seen_filled, step_filled, zeros}
+use Rattle.mix_process.proofs.Untold.{filled_up, seen_filled, step_filled, zeros}
 use Rattle.mix_process.proofs.Using.{lack_still}
 
 abbrev alive_one : Option Actor → ℕ

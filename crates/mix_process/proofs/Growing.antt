@@ -17,6 +17,8 @@ use Rattle.vm_model.proofs.Parts.Lists.{numbered-map}
 use Rattle.vm_port.specs.declared.traits.mapper.Mapper.{Ghosts as GhostsOfMapper}
 use Rattle.gmi_calls.specs.Calling.{done_by}
 use Rattle.gmi_calls.specs.declared.gmi.Gmi.{Ghosts as GhostsOfGmi}
+use Rattle.interface_callers.proofs.Blanks.{as_untold}
+use Rattle.interface_callers.proofs.Lists.{map-replicate}
 use Rattle.mix_process.specs.Adding.{Adds, IsAdded, MayAdd, fresh_page, put_at, with_more}
 use Rattle.mix_process.specs.Answering as mix
 use Rattle.mix_process.specs.Answering.{grow_of, grown_by, put_process}
@@ -36,7 +38,7 @@ use Rattle.mix_process.proofs.Having.{had}
 use Rattle.mix_process.proofs.Mapped.{at_place}
 use Rattle.mix_process.proofs.Seeing.{seen_length}
 use Rattle.mix_process.proofs.Single.{none_here, refused_called}
-use Rattle.mix_process.proofs.Untold.{as_untold, filled_put, filled_up, map-replicate, seen_filled, step_filled, zeros}
+use Rattle.mix_process.proofs.Untold.{filled_put, filled_up, seen_filled, step_filled, zeros}
 
 -- The row
 

@@ -25,7 +25,7 @@ use Rattle.vm_model.specs.PageForest.{PageForest}
 use Rattle.vm_model.specs.Place as vm_place
 use Rattle.vm_model.proofs.Parts.Lists.{numbered-map}
 use Rattle.mix_process.specs.ProcessMachine as model
-use Rattle.mix_process.specs.ProcessMachine.{ProcessMachine, area_at, area_start, may_write, pages_of}
+use Rattle.mix_process.specs.ProcessMachine.{ProcessMachine, area_at, pages_of}
 use Rattle.mix_process.specs.Answering as mix
 use Rattle.mix_process.specs.Outcome.{Outcome, Usage, page_below, page_in_piece}
 use Rattle.mix_process.specs.Seen.{area_seen, cache_pages, pages_in, process_seen, processes_seen, same_area, sizes_in}

@@ -16,6 +16,8 @@ use Rattle.vm_model.specs.Machine.{Actor, Cache, Machine, cache_of, numbered}
 use Rattle.vm_model.specs.Outcome.{IsAlike, Outcome, OutcomeAt, blank}
 use Rattle.vm_model.specs.PageForest.{PageForest}
 use Rattle.vm_model.specs.declared.limits.TheConstants.{MOST_MADE}
+use Rattle.interface_callers.proofs.Alike.{HasShape, whole_shape}
+use Rattle.interface_callers.proofs.Answers.{still_err}
 use Rattle.mix_process.specs.ProcessMachine.{area_start}
 use Rattle.mix_process.specs.Seen.{mapping_behind, pages_in}
 use Rattle.mix_process.specs.Tying.{IsPart, IsRun}
@@ -25,8 +27,7 @@ use Rattle.mix_process.specs.declared.process.Part.{Part}
 use Rattle.mix_process.specs.declared.process.Process.{Process}
 use Rattle.mix_process.specs.Adding.{most_of}
 use Rattle.mix_process.proofs.Mapping.{none_overlaps}
-use Rattle.mix_process.proofs.Shapes.{HasShape, part_like, run_like, whole_shape}
-use Rattle.mix_process.proofs.Temporary.{alike_many, alike_memory}
+use Rattle.mix_process.proofs.Shapes.{part_like, run_like}
 
 -- It is mapped.
 pub record IsRegionMade (m : Machine) (actor : ℕ) (regions : Actor) (mapping : Mapping) (answer : Answer) (next : Machine) : Type 0 where
@@ -135,8 +136,8 @@ mapped_blank m w next wn actor regions at a b is is_next alike (inl r) = inl (re
 mapped_blank m w next wn actor regions at a b is is_next alike (inr u) = inr (record {
   next_is = is_next ∙ ap blank u.next_is ∙ sym is;
   why = elim u.why [
-    | inl e ↦ inl (alike_memory a b e alike)
-    | inr e ↦ inr (alike_many a b e.0 alike, ap (nat_le MOST_MADE) (sym (regions_whole m w is)) ∙ e.1)
+    | inl e ↦ inl (still_err troubles.Memory a b e alike)
+    | inr e ↦ inr (still_err (troubles.Refused refusals.TooMany) a b e.0 alike, ap (nat_le MOST_MADE) (sym (regions_whole m w is)) ∙ e.1)
   ];
 })
 

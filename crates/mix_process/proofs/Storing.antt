@@ -21,10 +21,11 @@ use Rattle.vm_model.specs.Answering as vm
 use Rattle.vm_model.specs.Answering.{Answer, overwrite, put_cache, put_page}
 use Rattle.vm_model.specs.Machine.{Cache, Machine, Page, cache_of, numbered}
 use Rattle.vm_model.specs.Outcome as vm_outcome
-use Rattle.vm_model.specs.Outcome.{BlankOutcome, IsNotRefused, OutcomeAt, blank, blank_cache}
+use Rattle.vm_model.specs.Outcome.{IsNotRefused, OutcomeAt, blank, blank_cache}
 use Rattle.std.proofs.lemmas.List.{length-map, length-set}
 use Rattle.vm_model.specs.PageForest.{PageForest}
 use Rattle.vm_model.specs.Place as vm_place
+use Rattle.interface_callers.proofs.Alike.{HasShape, blank_shape, shape_back, shape_self, shape_then}
 use Rattle.mix_process.specs.ProcessMachine as model
 use Rattle.mix_process.specs.ProcessMachine.{ProcessMachine, may_write, pages_of, with_pages}
 use Rattle.mix_process.specs.Answering as mix
@@ -40,7 +41,7 @@ use Rattle.mix_process.proofs.Loading.{AreSame, IsLiving, IsSame, byte_same, mis
 use Rattle.mix_process.proofs.Loading.AreSame.{crosses, nowhere, same}
 use Rattle.mix_process.proofs.Putting.{images_put, processes_put, put_shape}
 use Rattle.mix_process.proofs.Seeing.{AreParts, all_parts}
-use Rattle.mix_process.proofs.Shapes.{HasShape, blank_pages, blank_shape, shape_back, shape_self, shape_then, tied_like}
+use Rattle.mix_process.proofs.Shapes.{blank_pages, tied_like}
 
 -- The areas that may be written are the process's own.
 

@@ -20,6 +20,7 @@ use Rattle.vm_model.specs.Outcome as plain_outcome
 use Rattle.vm_model.specs.Outcome.{OutcomeAt, blank}
 use Rattle.vm_model.specs.PageForest.{PageForest}
 use Rattle.vm_model.proofs.Parts.ListParts.{at_some}
+use Rattle.interface_callers.proofs.Answers.{alike_err}
 use Rattle.seg_manager.specs.Keeps.{is_kept}
 use Rattle.seg_manager.specs.Inner.{first_of}
 use Rattle.seg_manager.specs.Outcome.{LacksRoom}
@@ -32,7 +33,7 @@ use Rattle.seg_manager.specs.declared.tables.Mapped.{Mapped}
 use Rattle.seg_manager.specs.declared.tables.Named.{Named}
 use Rattle.seg_manager.proofs.Going.{Caches}
 use Rattle.seg_manager.proofs.Pushed.{Told}
-use Rattle.seg_manager.proofs.Steps.{AreSeen, alike_err}
+use Rattle.seg_manager.proofs.Steps.{AreSeen}
 use Rattle.seg_manager.proofs.Unopened.{stored_as}
 
 -- none of these goes

@@ -13,6 +13,7 @@ use Rattle.gmi_calls.specs.Calling.{MapperCall}
 use Rattle.gmi_calls.specs.Managing.{meanings_of}
 use Rattle.gmi_calls.specs.declared.gmi.Gmi.{Ghosts as GhostsOfGmi}
 use Rattle.gmi_calls.proofs.Rising.{rise_none, rise_then}
+use Rattle.interface_callers.proofs.Alike.{AllTemporary}
 use Rattle.transit_ipc.specs.Calling.{PortCall}
 use Rattle.transit_ipc.specs.Outcome.{Outcome}
 use Rattle.transit_ipc.specs.Seen.{ports_seen}
@@ -25,7 +26,6 @@ use Rattle.transit_ipc.proofs.Calls.{able_after, call_is, made_after, one_call, 
 use Rattle.transit_ipc.proofs.Emptying.{step_over}
 use Rattle.transit_ipc.proofs.Hiding.{numbered_seen}
 use Rattle.transit_ipc.proofs.Making.{all_seen}
-use Rattle.transit_ipc.proofs.Shapes.{AllTemporary}
 
 -- no ports are tied to any machine to which some are
 seen_there : (b : Bool) (o : Option Cache) → IsSome (cond b None o) → IsSome o
