@@ -5,10 +5,8 @@ use Rattle.std.specs.Prelude.{option_map, sum_by}
 use Rattle.std.proofs.lemmas.List.{length-map, map-set}
 use Rattle.std.proofs.lemmas.List.Sums.{sum_by-cons}
 use Rattle.std.proofs.lemmas.Option.{slice_get-map}
-use Rattle.vm_model.specs.Answering.{put_cache}
-use Rattle.vm_model.specs.Machine.{Cache, Machine, cache_of, live_pages, numbered, pages_in}
-use Rattle.vm_model.specs.Outcome.{blank, blank_cache}
 use Rattle.vm_model.proofs.Parts.Lists.{numbered-map, numbered_place}
+use Rattle.interface_callers.proofs.Words.{Cache, Machine, blank, blank_cache, cache_of, live_pages, numbered, pages_in, put_cache}
 use Rattle.interface_callers.proofs.Blanks.{emptied}
 use Rattle.interface_callers.proofs.Lists.{mapped_some, put_back, some_then, then_same}
 

@@ -2,10 +2,7 @@
 use Rattle.std.proofs.Common.{◌≡◌, refl, sym, subst}
 use Rattle.std.specs.Prelude.{Ok, Err, Result}
 use Rattle.vm_ids.specs.declared.reply.Reply.TheVariants as replies
-use Rattle.vm_ids.specs.declared.reply.Trouble.{Trouble}
-use Rattle.vm_model.specs.Answering.{Answer}
-use Rattle.vm_model.specs.Outcome.{IsAlike}
-use Rattle.gmi_calls.specs.Calling.{done_by}
+use Rattle.interface_callers.proofs.Words.{Answer, IsAlike, Trouble, done_by}
 
 pub alike_self : (a : Answer) → IsAlike a a
 alike_self (Ok (replies.Bytes bytes)) = refl

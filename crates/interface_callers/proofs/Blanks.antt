@@ -4,15 +4,8 @@ use Rattle.std.specs.FinMap.{empty}
 use Rattle.std.specs.Prelude.{IfNone, option_map, sum_by}
 use Rattle.std.proofs.lemmas.List.{drop-map, length-map, map-set, take-map}
 use Rattle.std.proofs.lemmas.List.Sums.{sum_by-cons}
-use Rattle.vm_ids.specs.Counting.{MapperCounts}
-use Rattle.vm_ids.specs.Held.{Held, Segments, segments_of}
-use Rattle.vm_ids.specs.declared.command.Command.{Command}
-use Rattle.vm_ids.specs.declared.command.Span.{Span}
-use Rattle.vm_model.specs.Answering.{Answer, put_cache, put_pages, put_span}
-use Rattle.vm_model.specs.Machine.{Cache, Machine, Page, cache_of, live_pages, pages_in}
-use Rattle.vm_model.specs.Outcome.{IsAlike, OutcomeAt, blank, blank_cache}
-use Rattle.vm_model.specs.PageForest.{PageForest}
 use Rattle.vm_model.proofs.Parts.Lists.{numbered-map}
+use Rattle.interface_callers.proofs.Words.{Answer, Cache, Command, Held, IsAlike, Machine, MapperCounts, OutcomeAt, Page, PageForest, Segments, Span, blank, blank_cache, cache_of, live_pages, pages_in, put_cache, put_pages, put_span, segments_of}
 use Rattle.interface_callers.proofs.Lists.{map-overwrite, mapped_some, some_then, then_same}
 
 abbrev pub emptied : Page → Page

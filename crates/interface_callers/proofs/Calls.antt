@@ -1,20 +1,11 @@
 -- After a call of the manager below, what it takes to call it again.
 use Rattle.std.proofs.Common.{◌≡◌, ℕ, ◌+◌, ◌*◌, ◌≤◌, true, Option, Some, None, refl, sym, ap, subst, ◌∙◌, arith}
 use Rattle.std.specs.Prelude.{IfNone, Ok, Err, is_some}
-use Rattle.vm_ids.specs.Held.{segments_of}
-use Rattle.vm_ids.specs.declared.command.Command.{Command}
 use Rattle.vm_ids.specs.declared.reply.Trouble.TheVariants as troubles
-use Rattle.vm_model.specs.Answering.{Answer}
-use Rattle.vm_model.specs.Machine.{Machine, live_pages}
-use Rattle.vm_model.specs.Outcome.{blank}
 use Rattle.vm_model.specs.Run.{CallIs, state_of}
-use Rattle.vm_model.specs.declared.limits.TheConstants.{LIVE_PAGES}
 use Rattle.vm_model.proofs.Outcomes.Kept.{IsKept, kept}
-use Rattle.vm_port.specs.declared.traits.mapper.Mapper.{Ghosts as GhostsOfMapper}
-use Rattle.gmi_calls.specs.Calling.{Fits, MapperCall, RaisesMade}
-use Rattle.gmi_calls.specs.Managing.{meanings_of}
 use Rattle.gmi_calls.specs.Room.{CallWithin}
-use Rattle.gmi_calls.specs.declared.gmi.Gmi.{Ghosts as GhostsOfGmi}
+use Rattle.interface_callers.proofs.Words.{Answer, Command, Fits, GhostsOfGmi, GhostsOfMapper, LIVE_PAGES, Machine, MapperCall, RaisesMade, blank, live_pages, meanings_of, segments_of}
 use Rattle.interface_callers.proofs.Blanks.{blank_after}
 
 pub unlimited_still : (before now : Option ℕ) → before ≡ None → is_some now ≡ is_some before → now ≡ None

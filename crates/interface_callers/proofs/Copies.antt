@@ -6,22 +6,12 @@ use Rattle.std.specs.Option.{option_map_or}
 use Rattle.std.proofs.lemmas.Bool.{ne_eqb}
 use Rattle.std.proofs.lemmas.Bool.Decides.{nat_tests}
 use Rattle.std.proofs.lemmas.List.{length-map}
-use Rattle.vm_ids.specs.Counting.{MapperCounts}
-use Rattle.vm_ids.specs.Denying.{denies}
-use Rattle.vm_ids.specs.Held.{Segments}
 use Rattle.vm_ids.specs.declared.command.Command.TheVariants as commands
-use Rattle.vm_ids.specs.declared.command.Span.{Span}
 use Rattle.vm_ids.specs.declared.refusal.Refusal.TheVariants as refusals
-use Rattle.vm_ids.specs.declared.reply.FaultAt.{FaultAt}
 use Rattle.vm_ids.specs.declared.reply.FaultAt.TheVariants as faults
 use Rattle.vm_ids.specs.declared.reply.Reply.TheVariants as replies
-use Rattle.vm_ids.specs.declared.reply.Trouble.{Trouble}
 use Rattle.vm_ids.specs.declared.reply.Trouble.TheVariants as troubles
-use Rattle.vm_model.specs.Answering.{Answer, Answered, copy_of, is_any_denied, is_any_locked, is_denied_page, overlaps_itself, passes_an_end, passes_end, put_span, reply, shares, unless, with_some}
-use Rattle.vm_model.specs.Machine.{Cache, Machine, cache_of, is_locked_page, segment_of}
-use Rattle.vm_model.specs.Outcome.{MayFault, OutcomeAt, blank, blank_cache}
-use Rattle.vm_model.specs.PageForest.{PageForest}
-use Rattle.gmi_calls.specs.Calling.{done_by}
+use Rattle.interface_callers.proofs.Words.{Answer, Answered, Cache, FaultAt, Machine, MapperCounts, MayFault, OutcomeAt, PageForest, Segments, Span, Trouble, blank, blank_cache, cache_of, copy_of, denies, done_by, is_any_denied, is_any_locked, is_denied_page, is_locked_page, overlaps_itself, passes_an_end, passes_end, put_span, reply, segment_of, shares, unless, with_some}
 use Rattle.interface_callers.proofs.Answers.{alike_done}
 use Rattle.interface_callers.proofs.Blanks.{as_many, blank_at, blank_span, emptied, whole_cache}
 use Rattle.interface_callers.proofs.Lists.{none_any, or_false}

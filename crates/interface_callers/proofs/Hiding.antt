@@ -6,29 +6,15 @@ use Rattle.std.specs.Bool.{IsTrue}
 use Rattle.std.specs.List.{list_any, range_with_len}
 use Rattle.std.specs.Option.{option_map_or}
 use Rattle.std.specs.Result.{IsOkAnd}
-use Rattle.vm_ids.specs.Counting.{MapperCounts}
-use Rattle.vm_ids.specs.Denying.{denies}
-use Rattle.vm_ids.specs.Held.{Segments}
 use Rattle.vm_ids.specs.declared.command.Command.TheVariants.{Copy, Load, PageOut, Store}
-use Rattle.vm_ids.specs.declared.command.Mapping.{Mapping}
-use Rattle.vm_ids.specs.declared.command.Span.{Span}
-use Rattle.vm_ids.specs.declared.numbers.ActorId.{ActorId}
-use Rattle.vm_ids.specs.declared.numbers.CacheId.{CacheId}
-use Rattle.vm_ids.specs.declared.refusal.Refusal.{Refusal}
 use Rattle.vm_ids.specs.declared.refusal.Refusal.TheVariants as refusals
 use Rattle.vm_ids.specs.declared.refusal.Refusal.TheVariants.{Crosses}
-use Rattle.vm_ids.specs.declared.reply.FaultAt.{FaultAt}
 use Rattle.vm_ids.specs.declared.reply.FaultAt.TheVariants as faults
 use Rattle.vm_ids.specs.declared.reply.Reply.TheVariants as replies
 use Rattle.vm_model.specs.Answering as plain
-use Rattle.vm_model.specs.Answering.{is_denied_page, is_mapped, maps_in, overwrite, page_at, put_cache, put_page, write_at}
-use Rattle.vm_model.specs.Machine.{Actor, Cache, Machine, Page, Region, actor_of, cache_of, numbered}
-use Rattle.vm_model.specs.Outcome.{IsFirstAsked, IsNamed, MayFault}
-use Rattle.vm_model.specs.PageForest.{PageForest}
-use Rattle.vm_model.specs.Place.{Place, holds, place, place_in, place_of_actor, placed, region_at}
-use Rattle.vm_model.specs.declared.limits.TheConstants.{MOST_MADE}
 use Rattle.vm_model.proofs.Parts.Lists.{numbered_place}
 use Rattle.vm_ids.proofs.Places.{same_number}
+use Rattle.interface_callers.proofs.Words.{Actor, ActorId, Cache, CacheId, FaultAt, IsFirstAsked, IsNamed, Machine, MapperCounts, Mapping, MayFault, MOST_MADE, Page, PageForest, Place, Refusal, Region, Segments, Span, actor_of, cache_of, denies, holds, is_denied_page, is_mapped, maps_in, numbered, overwrite, page_at, place, place_in, place_of_actor, placed, put_cache, put_page, region_at, write_at}
 use Rattle.interface_callers.proofs.Lists.{any_at, or_true}
 
 -- What is accessed is mapped

@@ -1,3 +1,5 @@
+-- The words that are used of what stands below.
+pub mod Words
 -- Lists, options and tests.
 pub mod Lists
 -- The caches that segments name, and what is pushed to segments.

@@ -4,8 +4,7 @@ use Rattle.std.specs.Prelude.{◌||◌, option_and_then, option_map, slice_get}
 use Rattle.std.specs.List.{AllByRecursion, list_any}
 use Rattle.std.proofs.lemmas.Bool.Decides.{nat_tests}
 use Rattle.std.proofs.lemmas.List.{drop-map, drop_all, length-map, map-append, take-map}
-use Rattle.vm_model.specs.Answering.{overwrite}
-use Rattle.vm_model.specs.Machine.{numbered}
+use Rattle.interface_callers.proofs.Words.{numbered, overwrite}
 
 -- Tests
 

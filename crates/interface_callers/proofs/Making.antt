@@ -3,21 +3,12 @@ use Rattle.std.proofs.Common.{◌≡◌, ◌⊎◌, inl, inr, ℕ, ◌+◌, ◌<
 use Rattle.std.specs.Prelude.{◌||◌, IfNone, Ok, Err, nat_le, nat_lt, option_map}
 use Rattle.std.proofs.lemmas.Bool.Decides.{nat_tests}
 use Rattle.std.proofs.lemmas.List.{length-map, map-append}
-use Rattle.vm_ids.specs.Counting.{MapperCounts}
-use Rattle.vm_ids.specs.Held.{Segments}
 use Rattle.vm_ids.specs.declared.command.Command.TheVariants.{MakeTemp}
-use Rattle.vm_ids.specs.declared.numbers.CacheId.{CacheId}
 use Rattle.vm_ids.specs.declared.refusal.Refusal.TheVariants.{TooMany}
-use Rattle.vm_ids.specs.declared.reply.Reply.{Reply}
 use Rattle.vm_ids.specs.declared.reply.Reply.TheVariants as replies
-use Rattle.vm_ids.specs.declared.reply.Trouble.{Trouble}
 use Rattle.vm_ids.specs.declared.reply.Trouble.TheVariants as troubles
-use Rattle.vm_model.specs.Answering.{Answer, Answered, make_temp_of, reply, temporary, unless}
-use Rattle.vm_model.specs.Machine.{Cache, Machine, Page, live_pages, zero_page}
-use Rattle.vm_model.specs.Outcome.{IsAlike, IsNotRefused, Outcome, OutcomeAt, blank, blank_cache, seen_at}
-use Rattle.vm_model.specs.PageForest.{PageForest}
-use Rattle.vm_model.specs.declared.limits.TheConstants.{LIVE_PAGES, MOST_MADE}
 use Rattle.vm_model.proofs.Outcomes.Lying.{or_parts}
+use Rattle.interface_callers.proofs.Words.{Answer, Answered, Cache, CacheId, IsAlike, IsNotRefused, LIVE_PAGES, Machine, MapperCounts, MOST_MADE, Outcome, OutcomeAt, Page, PageForest, Reply, Segments, Trouble, blank, blank_cache, live_pages, make_temp_of, reply, seen_at, temporary, unless, zero_page}
 use Rattle.interface_callers.proofs.Answers.{still_err}
 use Rattle.interface_callers.proofs.Blanks.{blank_live, emptied, no_segments}
 use Rattle.interface_callers.proofs.Lists.{map-replicate}

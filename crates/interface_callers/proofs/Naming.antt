@@ -3,9 +3,7 @@ use Rattle.std.proofs.Common.{◌≡◌, ◌==◌, ℕ, suc, Bool, true, false, 
 use Rattle.std.specs.Prelude.{is_some, option_map, slice_get}
 use Rattle.std.specs.Option.{option_map_or}
 use Rattle.std.proofs.lemmas.Bool.{eqb-true}
-use Rattle.vm_model.specs.Machine.{Cache, Machine, cache_named, cache_of, is_named_by}
-use Rattle.vm_model.specs.Outcome.{blank_cache}
-use Rattle.vm_model.specs.Pushing.{segments_after}
+use Rattle.interface_callers.proofs.Words.{Cache, Machine, blank_cache, cache_named, cache_of, is_named_by, segments_after}
 use Rattle.interface_callers.proofs.Lists.{number_behind}
 
 pub named_by : (o : Option ℕ) (seg : ℕ) → option_map_or (λ s. s == seg) o false ≡ true → o ≡ Some seg

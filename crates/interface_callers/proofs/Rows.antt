@@ -2,22 +2,10 @@
 use Rattle.std.proofs.Common.{◌≡◌, ◌⊎◌, inl, inr, ℕ, ◌+◌, Bool, true, false, List, [], ◌∷◌, ◌++◌, length, Option, Some, None, refl, sym, ap, subst, ◌∙◌}
 use Rattle.std.specs.Prelude.{Ok, Err}
 use Rattle.std.specs.Option.{option_map_or}
-use Rattle.vm_ids.specs.Counting.{MapperCounts}
-use Rattle.vm_ids.specs.Held.{Segments}
-use Rattle.vm_ids.specs.declared.command.Command.{Command}
-use Rattle.vm_ids.specs.declared.command.Mapping.{Mapping}
-use Rattle.vm_ids.specs.declared.command.Span.{Span}
-use Rattle.vm_ids.specs.declared.refusal.Refusal.{Refusal}
-use Rattle.vm_ids.specs.declared.reply.FaultAt.{FaultAt}
-use Rattle.vm_ids.specs.declared.reply.Reply.{Reply}
 use Rattle.vm_ids.specs.declared.reply.Reply.TheVariants as replies
 use Rattle.vm_ids.specs.declared.reply.Trouble.TheVariants as troubles
-use Rattle.vm_model.specs.Answering.{Answer, Answered, add_region, answer_of, copy_of, load_of, make_actor_of, map_of, overwrite, page_at, put_cache, put_page, put_span, refuse, reply, store_of, unless}
-use Rattle.vm_model.specs.Machine.{Actor, Cache, Machine, actor_of, cache_of}
-use Rattle.vm_model.specs.Outcome.{IsNotRefused, MayFault, Outcome, blank}
-use Rattle.vm_model.specs.PageForest.{PageForest, forest_shown}
-use Rattle.vm_model.specs.Place.{Place, place}
 use Rattle.vm_model.proofs.Outcomes.Rows.{each_ok, each_some, each_unless}
+use Rattle.interface_callers.proofs.Words.{Actor, Answer, Answered, Cache, Command, FaultAt, IsNotRefused, Machine, MapperCounts, Mapping, MayFault, Outcome, PageForest, Place, Refusal, Reply, Segments, Span, actor_of, add_region, answer_of, blank, cache_of, copy_of, forest_shown, load_of, make_actor_of, map_of, overwrite, page_at, place, put_cache, put_page, put_span, refuse, reply, store_of, unless}
 
 -- Which it is
 

@@ -4,19 +4,12 @@ use Rattle.std.proofs.Common.{◌≡◌, ◌⊎◌, inl, inr, ℕ, ◌<◌, Bool
 use Rattle.std.specs.Prelude.{Ok, Err, is_some, option_and_then, option_map}
 use Rattle.std.specs.Bool.{IsTrue}
 use Rattle.std.specs.Option.{option_map_or}
-use Rattle.vm_ids.specs.Counting.{MapperCounts}
-use Rattle.vm_ids.specs.Held.{Segments}
 use Rattle.vm_ids.specs.declared.command.Command.TheVariants as commands
-use Rattle.vm_ids.specs.declared.numbers.CacheId.{CacheId}
 use Rattle.vm_ids.specs.declared.refusal.Refusal.TheVariants as refusals
-use Rattle.vm_ids.specs.declared.reply.FaultAt.{FaultAt}
 use Rattle.vm_ids.specs.declared.reply.FaultAt.TheVariants as faults
 use Rattle.vm_ids.specs.declared.reply.Reply.TheVariants as replies
 use Rattle.vm_ids.specs.declared.reply.Trouble.TheVariants as troubles
-use Rattle.vm_model.specs.Answering.{Answer, destroy_of, is_mapped, reply, unless, with_some}
-use Rattle.vm_model.specs.Machine.{Cache, Machine, cache_of, segment_of}
-use Rattle.vm_model.specs.Outcome.{IsNamed, Outcome, OutcomeAt, blank, blank_cache}
-use Rattle.vm_model.specs.PageForest.{PageForest}
+use Rattle.interface_callers.proofs.Words.{Answer, Cache, CacheId, FaultAt, IsNamed, Machine, MapperCounts, Outcome, OutcomeAt, PageForest, Segments, blank, blank_cache, cache_of, destroy_of, is_mapped, reply, segment_of, unless, with_some}
 use Rattle.interface_callers.proofs.Alike.{AllTemporary}
 use Rattle.interface_callers.proofs.Answers.{still_done, still_err}
 use Rattle.interface_callers.proofs.Blanks.{blank_at, blank_without, whole_cache, without}

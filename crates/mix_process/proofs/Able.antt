@@ -3,21 +3,13 @@ use Rattle.std.proofs.Common.{◌≡◌, ◌≢◌, inl, inr, ℕ, ◌-◌, ◌�
 use Rattle.std.specs.Prelude.{slice_get}
 use Rattle.std.proofs.lemmas.Bool.{cases_eq}
 use Rattle.std.proofs.lemmas.Option.{slice_get_within}
-use Rattle.vm_ids.specs.Held.{Held, segments_of}
-use Rattle.vm_ids.specs.declared.command.Command.{Command}
-use Rattle.vm_model.specs.Answering.{Answer}
-use Rattle.vm_model.specs.Machine.{Cache, Machine, Page, actor_of, cache_of}
 use Rattle.vm_model.specs.Run.{CallIs}
 use Rattle.vm_model.specs.Run as vm_run
-use Rattle.vm_model.specs.declared.limits.TheConstants.{MOST_MADE}
 use Rattle.vm_model.proofs.Outcomes.Kept.{IsKept}
 use Rattle.vm_model.proofs.Parts.Lists.{get_set_same, numbered_place}
 use Rattle.vm_model.proofs.Parts.ListParts.{numbered_set_other}
-use Rattle.vm_port.specs.declared.traits.mapper.Mapper.{Ghosts as GhostsOfMapper}
-use Rattle.gmi_calls.specs.Calling.{MapperCall}
-use Rattle.gmi_calls.specs.Managing.{meanings_of}
-use Rattle.gmi_calls.specs.declared.gmi.Gmi.{Ghosts as GhostsOfGmi}
 use Rattle.gmi_calls.proofs.Living.{stays_few}
+use Rattle.interface_callers.proofs.Words.{Answer, Cache, Command, GhostsOfGmi, GhostsOfMapper, Held, Machine, MapperCall, MOST_MADE, Page, actor_of, cache_of, meanings_of, segments_of}
 use Rattle.interface_callers.proofs.Lists.{all_at, number_at}
 use Rattle.interface_callers.proofs.Calls as calls
 use Rattle.mix_process.specs.Inner.{AreApart, AreOwn, spare_of}

@@ -6,9 +6,8 @@ use Rattle.std.proofs.lemmas.Bool.Decides.{nat_tests}
 use Rattle.std.proofs.lemmas.List.{length-append, length-replicate, length-set}
 use Rattle.std.proofs.lemmas.Option.{slice_get_within}
 use Rattle.vm_ids.specs.declared.refusal.Refusal.TheVariants as refusals
-use Rattle.vm_model.specs.Answering.{overwrite}
-use Rattle.vm_model.specs.Machine.{Page}
 use Rattle.vm_model.proofs.Parts.Lists.{get_set_other, get_set_same}
+use Rattle.interface_callers.proofs.Words.{Page, overwrite}
 use Rattle.interface_callers.proofs.Lists.{get_append}
 use Rattle.mix_process.specs.Laws.{byte_in}
 use Rattle.mix_process.specs.ProcessMachine.{Place, Process, area_at, area_start, is_within, pages_of, place_in, place_of, with_pages}

@@ -3,25 +3,14 @@ use Rattle.std.proofs.Common.{◌≡◌, ◌⊎◌, inl, inr, ℕ, ◌+◌, ◌-
 use Rattle.std.specs.Prelude.{◌||◌, Ok, Err, nat_le}
 use Rattle.std.proofs.lemmas.Bool.Decides.{nat_tests}
 use Rattle.std.proofs.lemmas.List.{length-append}
-use Rattle.vm_ids.specs.Counting.{MapperCounts, no_counts}
-use Rattle.vm_ids.specs.Held.{Held, Segments, segments_of}
 use Rattle.vm_ids.specs.declared.command.Command.TheVariants as vm_commands
-use Rattle.vm_ids.specs.declared.numbers.ActorId.{ActorId}
 use Rattle.vm_ids.specs.declared.refusal.Refusal.TheVariants as refusals
 use Rattle.vm_ids.specs.declared.reply.Reply.TheVariants as replies
-use Rattle.vm_ids.specs.declared.reply.Trouble.{Trouble}
 use Rattle.vm_ids.specs.declared.reply.Trouble.TheVariants as troubles
 use Rattle.vm_model.specs.Answering as vm
-use Rattle.vm_model.specs.Answering.{Answer}
-use Rattle.vm_model.specs.Machine.{Machine, live_pages, living_actors, numbered}
-use Rattle.vm_model.specs.Outcome.{IsAlike, Outcome, OutcomeAt, blank}
-use Rattle.vm_model.specs.PageForest.{PageForest}
 use Rattle.vm_model.specs.Run as vm_run
 use Rattle.vm_model.specs.Run.{AnswerIs}
-use Rattle.vm_model.specs.declared.limits.TheConstants.{LIVING_ACTORS, MOST_MADE}
-use Rattle.gmi_calls.specs.Calling.{CallDone, RaisesMade}
-use Rattle.gmi_calls.specs.Managing.{meanings_of}
-use Rattle.gmi_calls.specs.declared.gmi.Gmi.{Ghosts as GhostsOfGmi}
+use Rattle.interface_callers.proofs.Words.{ActorId, Answer, CallDone, GhostsOfGmi, Held, IsAlike, LIVING_ACTORS, Machine, MapperCounts, MOST_MADE, Outcome, OutcomeAt, PageForest, RaisesMade, Segments, Trouble, blank, live_pages, living_actors, meanings_of, no_counts, numbered, segments_of}
 use Rattle.interface_callers.proofs.Lists.{one_of}
 use Rattle.mix_process.specs.Outcome.{Usage, usage_of}
 use Rattle.mix_process.specs.Seen.{cache_pages}

@@ -1,19 +1,11 @@
 -- The processes can go on calling the manager after a call of it that takes no mapper.
 use Rattle.std.proofs.Common.{ℕ, ◌≤◌, List, [], length, Option, refl, subst}
-use Rattle.vm_ids.specs.Counting.{no_counts}
-use Rattle.vm_ids.specs.Held.{Held, segments_of}
-use Rattle.vm_ids.specs.declared.command.Command.{Command}
-use Rattle.vm_model.specs.Answering.{Answer}
-use Rattle.vm_model.specs.Machine.{Machine}
 use Rattle.vm_model.specs.Run.{AnswerIs}
 use Rattle.vm_model.specs.Run as vm_run
-use Rattle.vm_model.specs.declared.limits.TheConstants.{MOST_MADE}
 use Rattle.vm_model.proofs.Outcomes.Kept.{IsKept, kept}
-use Rattle.gmi_calls.specs.Calling.{CallDone}
-use Rattle.gmi_calls.specs.Managing.{meanings_of}
 use Rattle.gmi_calls.specs.Room.{AnswerWithin}
-use Rattle.gmi_calls.specs.declared.gmi.Gmi.{Ghosts as GhostsOfGmi}
 use Rattle.gmi_calls.proofs.Living.{stays_few}
+use Rattle.interface_callers.proofs.Words.{Answer, CallDone, Command, GhostsOfGmi, Held, Machine, MOST_MADE, meanings_of, no_counts, segments_of}
 use Rattle.interface_callers.proofs.Blanks.{blank_after}
 use Rattle.interface_callers.proofs.Calls.{fits_still, unlimited_still}
 use Rattle.mix_process.specs.Tying.{AreAble, AreSynchronised, AreTied}

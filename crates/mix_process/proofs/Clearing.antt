@@ -4,12 +4,10 @@ use Rattle.std.specs.Prelude.{nat_lt, option_map, slice_get}
 use Rattle.std.specs.List.{AllByRecursion}
 use Rattle.std.specs.Option.{option_map_or}
 use Rattle.std.proofs.lemmas.Bool.{cases_eq}
-use Rattle.vm_model.specs.Answering.{insert_region, is_mapped, maps_in}
-use Rattle.vm_model.specs.Machine.{Actor, Cache, Machine, Page, Region, actor_of, cache_of, numbered}
-use Rattle.vm_ids.specs.declared.command.Mapping.{Mapping}
 use Rattle.vm_ids.proofs.Places.{other_number}
 use Rattle.vm_model.proofs.Parts.Lists.{numbered_place}
 use Rattle.vm_model.proofs.Parts.ListParts.{numbered_set, numbered_set_other}
+use Rattle.interface_callers.proofs.Words.{Actor, Cache, Machine, Mapping, Page, Region, actor_of, cache_of, insert_region, is_mapped, maps_in, numbered}
 use Rattle.interface_callers.proofs.Lists.{all_at, get_append, get_last, map_same, none_any, number_at}
 use Rattle.interface_callers.proofs.Blanks.{without}
 use Rattle.mix_process.specs.ProcessMachine as model

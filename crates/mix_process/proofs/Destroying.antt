@@ -3,18 +3,11 @@ use Rattle.std.proofs.Common.{◌≡◌, ◌≢◌, ◌⊎◌, inl, inr, ℕ, �
 use Rattle.std.specs.Prelude.{Ok, slice_get}
 use Rattle.std.proofs.lemmas.List.{length-set}
 use Rattle.std.proofs.lemmas.Option.{slice_get_within}
-use Rattle.vm_ids.specs.Counting.{counts_sum, no_counts}
-use Rattle.vm_ids.specs.Held.{segments_of}
 use Rattle.vm_ids.specs.declared.command.Command.TheVariants as vm_commands
 use Rattle.vm_ids.specs.declared.reply.Reply.TheVariants as replies
-use Rattle.vm_model.specs.Answering.{Answer}
-use Rattle.vm_model.specs.Machine.{Machine, cache_of, live_pages, numbered, pages_in}
 use Rattle.vm_model.proofs.Parts.Lists.{numbered_place, sum_by_less}
-use Rattle.vm_port.specs.declared.traits.mapper.Mapper.{Ghosts as GhostsOfMapper}
-use Rattle.gmi_calls.specs.Calling.{MapperCall, RaisesMade}
-use Rattle.gmi_calls.specs.Managing.{meanings_of}
-use Rattle.gmi_calls.specs.declared.gmi.Gmi.{Ghosts as GhostsOfGmi}
 use Rattle.gmi_calls.proofs.Rising.{rise_none, rise_then}
+use Rattle.interface_callers.proofs.Words.{Answer, GhostsOfGmi, GhostsOfMapper, Machine, MapperCall, RaisesMade, cache_of, counts_sum, live_pages, meanings_of, no_counts, numbered, pages_in, segments_of}
 use Rattle.interface_callers.proofs.Lists.{get_append, get_last, get_snoc}
 use Rattle.interface_callers.proofs.Rows.{IsDone}
 use Rattle.interface_callers.proofs.Temporary.{destroy_done}

@@ -5,22 +5,15 @@ use Rattle.std.proofs.lemmas.Bool.{cases_eq}
 use Rattle.std.proofs.lemmas.Bool.Decides.{nat_tests}
 use Rattle.std.proofs.lemmas.List.{length-set, map-set}
 use Rattle.std.proofs.lemmas.Option.{slice_get_within}
-use Rattle.vm_ids.specs.Held.{Held, Segments, segments_of}
 use Rattle.vm_ids.specs.declared.command.Command.TheVariants as vm_commands
 use Rattle.vm_ids.specs.declared.command.MixCommand.TheVariants as commands
-use Rattle.vm_ids.specs.declared.numbers.ProcId.{ProcId}
 use Rattle.vm_ids.specs.declared.refusal.Refusal.TheVariants as refusals
 use Rattle.vm_ids.specs.declared.reply.Reply.TheVariants as replies
 use Rattle.vm_ids.specs.declared.reply.Trouble.TheVariants as troubles
-use Rattle.vm_model.specs.Answering.{Answer}
-use Rattle.vm_model.specs.Machine.{Machine, live_pages, numbered}
 use Rattle.vm_model.proofs.Parts.Lists.{get_set_same, numbered-map, numbered_place}
 use Rattle.vm_model.proofs.Parts.ListParts.{numbered_set_other}
-use Rattle.vm_port.specs.declared.traits.mapper.Mapper.{Ghosts as GhostsOfMapper}
-use Rattle.gmi_calls.specs.Calling.{CallDone, MapperCall, RaisesMade}
-use Rattle.gmi_calls.specs.Managing.{meanings_of}
-use Rattle.gmi_calls.specs.declared.gmi.Gmi.{Ghosts as GhostsOfGmi}
 use Rattle.gmi_calls.proofs.Still.{without_mapper}
+use Rattle.interface_callers.proofs.Words.{Answer, CallDone, GhostsOfGmi, GhostsOfMapper, Held, Machine, MapperCall, ProcId, RaisesMade, Segments, live_pages, meanings_of, numbered, segments_of}
 use Rattle.interface_callers.proofs.Lists.{number_at}
 use Rattle.interface_callers.proofs.Blanks.{as_untold}
 use Rattle.interface_callers.proofs.Rows.{IsDone}

@@ -3,24 +3,15 @@ use Rattle.std.proofs.Common.{◌≡◌, ◌≢◌, inl, inr, ℕ, ◌+◌, ◌-
 use Rattle.std.specs.Prelude.{Ok, Err, Result, IfErr, OnOk, count_by, is_some}
 use Rattle.std.specs.Option.{option_map_or}
 use Rattle.std.proofs.lemmas.List.{length-drop, length-set, length-take-le}
-use Rattle.vm_ids.specs.Counting.{no_counts}
-use Rattle.vm_ids.specs.Held.{segments_of}
 use Rattle.vm_ids.specs.declared.command.Command.TheVariants as vm_commands
-use Rattle.vm_ids.specs.declared.command.Span.{Span}
 use Rattle.vm_ids.specs.declared.reply.Reply.TheVariants as replies
-use Rattle.vm_ids.specs.declared.reply.Trouble.{Trouble}
 use Rattle.vm_ids.specs.declared.reply.Trouble.TheVariants as troubles
-use Rattle.vm_model.specs.Answering.{Answer, put_pages, put_span}
-use Rattle.vm_model.specs.Machine.{Actor, Cache, Machine, Page, cache_of, live_pages, numbered}
 use Rattle.vm_model.specs.Machine as vm_machine
 use Rattle.vm_model.specs.Run.{CallIs}
 use Rattle.vm_model.specs.Run as vm_run
 use Rattle.vm_model.proofs.Parts.Lists.{numbered_place, sum_by_same}
-use Rattle.vm_port.specs.declared.traits.mapper.Mapper.{Ghosts as GhostsOfMapper}
-use Rattle.gmi_calls.specs.Calling.{MapperCall, RaisesMade, done_by}
-use Rattle.gmi_calls.specs.Managing.{meanings_of}
-use Rattle.gmi_calls.specs.declared.gmi.Gmi.{Ghosts as GhostsOfGmi}
 use Rattle.gmi_calls.proofs.Rising.{rise_none}
+use Rattle.interface_callers.proofs.Words.{Actor, Answer, Cache, GhostsOfGmi, GhostsOfMapper, Machine, MapperCall, Page, RaisesMade, Span, Trouble, cache_of, done_by, live_pages, meanings_of, no_counts, numbered, put_pages, put_span, segments_of}
 use Rattle.interface_callers.proofs.Lists.{overwritten}
 use Rattle.interface_callers.proofs.Alike.{HasShape, IsLike, shape_put, shape_self}
 use Rattle.interface_callers.proofs.Copies.{Copies, MayCopy, copied_at, copies_there}

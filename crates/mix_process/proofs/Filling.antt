@@ -1,7 +1,7 @@
 -- No page of a process is locked.
 use Rattle.std.proofs.Common.{◌≡◌, inl, inr, ◌==◌, ℕ, ◌+◌, ◌-◌, Bool, false, List, Option, Some, None, refl, ap, ◌∙◌, arith}
 use Rattle.std.specs.Prelude.{◌&&◌, nat_le, nat_lt, slice_get}
-use Rattle.vm_model.specs.Machine.{Actor, Machine, Region, actor_of, is_locked_page, locks, locks_any}
+use Rattle.interface_callers.proofs.Words.{Actor, Machine, Region, actor_of, is_locked_page, locks, locks_any}
 use Rattle.interface_callers.proofs.Lists.{none_any, number_at}
 use Rattle.mix_process.specs.Tying.{AreMapped, AreTied}
 use Rattle.mix_process.specs.Tying.AreMapped.{none, more}

@@ -2,13 +2,9 @@
 use Rattle.std.proofs.Common.{◌≡◌, ℕ, ◌+◌, ◌-◌, ◌^◌, ◌≤◌, true, List, length, set, Option, Some, None, refl, sym, ap, subst, ◌∙◌, arith}
 use Rattle.std.specs.Prelude.{Ok, Err, Result, IsErrAnd}
 use Rattle.std.proofs.lemmas.List.{append-nil, take_all}
-use Rattle.vm_ids.specs.declared.reply.Trouble.{Trouble}
-use Rattle.vm_model.specs.Machine.{Cache, Machine, cache_of, live_pages}
 use Rattle.vm_model.specs.Machine as vm_machine
-use Rattle.vm_model.specs.declared.limits.TheConstants.{LIVE_PAGES}
 use Rattle.vm_model.proofs.Parts.Lists.{numbered_place, sum_by_part}
-use Rattle.vm_port.specs.declared.traits.mapper.Mapper.{Ghosts as GhostsOfMapper}
-use Rattle.gmi_calls.specs.declared.gmi.Gmi.{Ghosts as GhostsOfGmi}
+use Rattle.interface_callers.proofs.Words.{Cache, GhostsOfGmi, GhostsOfMapper, LIVE_PAGES, Machine, Trouble, cache_of, live_pages}
 use Rattle.interface_callers.proofs.Lists.{put_back}
 use Rattle.mix_process.specs.Adding.{FillsAndMaps, HasRoom, HasSource, IsFilled, MapsPart, MayFill, MayMap, Source, filled, most_of, put_at, source_pages, usage_to_map, with_more}
 use Rattle.mix_process.specs.Outcome.{usage_of}

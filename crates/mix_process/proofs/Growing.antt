@@ -3,20 +3,12 @@ use Rattle.std.proofs.Common.{◌≡◌, ℕ, ◌+◌, ◌-◌, ◌≤◌, ◌<�
 use Rattle.std.specs.Prelude.{Ok, Err, Result, nat_lt, option_map, slice_get}
 use Rattle.std.proofs.lemmas.Bool.Decides.{nat_tests}
 use Rattle.std.proofs.lemmas.List.{length-map, length-replicate, map-append}
-use Rattle.vm_ids.specs.Counting.{MapperCounts}
-use Rattle.vm_ids.specs.Held.{Segments, segments_of}
 use Rattle.vm_ids.specs.declared.command.MixCommand.TheVariants as commands
-use Rattle.vm_ids.specs.declared.numbers.ProcId.{ProcId}
 use Rattle.vm_ids.specs.declared.refusal.Refusal.TheVariants as refusals
 use Rattle.vm_ids.specs.declared.reply.Reply.TheVariants as replies
-use Rattle.vm_ids.specs.declared.reply.Trouble.{Trouble}
 use Rattle.vm_ids.specs.declared.reply.Trouble.TheVariants as troubles
-use Rattle.vm_model.specs.Machine.{Machine, Page, numbered, zero_page}
-use Rattle.vm_model.specs.Outcome.{IsNotRefused}
 use Rattle.vm_model.proofs.Parts.Lists.{numbered-map}
-use Rattle.vm_port.specs.declared.traits.mapper.Mapper.{Ghosts as GhostsOfMapper}
-use Rattle.gmi_calls.specs.Calling.{done_by}
-use Rattle.gmi_calls.specs.declared.gmi.Gmi.{Ghosts as GhostsOfGmi}
+use Rattle.interface_callers.proofs.Words.{GhostsOfGmi, GhostsOfMapper, IsNotRefused, Machine, MapperCounts, Page, ProcId, Segments, Trouble, done_by, numbered, segments_of, zero_page}
 use Rattle.interface_callers.proofs.Blanks.{as_untold}
 use Rattle.interface_callers.proofs.Lists.{map-replicate}
 use Rattle.mix_process.specs.Adding.{Adds, IsAdded, MayAdd, fresh_page, put_at, with_more}

@@ -5,11 +5,9 @@ use Rattle.std.specs.List.{AllByRecursion}
 use Rattle.std.proofs.lemmas.Bool.{cases_eq}
 use Rattle.std.proofs.lemmas.List.Sums.{sum_by-append, sum_by-cons}
 use Rattle.std.proofs.lemmas.Option.{slice_get_within}
-use Rattle.vm_ids.specs.Held.{Held}
-use Rattle.vm_model.specs.Machine.{Actor, Cache, Machine, Page, cache_of, numbered, pages_in}
 use Rattle.vm_model.proofs.Parts.Lists.{get_set_same, numbered_place, sum_by_swap}
 use Rattle.vm_model.proofs.Parts.ListParts.{numbered_set_other}
-use Rattle.gmi_calls.specs.declared.gmi.Gmi.{Ghosts as GhostsOfGmi}
+use Rattle.interface_callers.proofs.Words.{Actor, Cache, GhostsOfGmi, Held, Machine, Page, cache_of, numbered, pages_in}
 use Rattle.interface_callers.proofs.Lists.{all_at, number_at}
 use Rattle.mix_process.specs.Outcome.{HasThese, own_pages, usage_of}
 use Rattle.mix_process.specs.ProcessMachine.{may_write}

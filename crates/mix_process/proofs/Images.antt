@@ -5,25 +5,14 @@ use Rattle.std.specs.FinMap.{get}
 use Rattle.std.specs.Option.{option_map_or}
 use Rattle.std.proofs.lemmas.List.{length-append}
 use Rattle.std.proofs.lemmas.List.Sums.{sum_by_push}
-use Rattle.vm_ids.specs.Counting.{no_counts}
-use Rattle.vm_ids.specs.Held.{Held, Segments, segments_of}
 use Rattle.vm_ids.specs.declared.command.Command.TheVariants as vm_commands
-use Rattle.vm_ids.specs.declared.numbers.CacheId.{CacheId}
-use Rattle.vm_ids.specs.declared.numbers.SegId.{SegId}
 use Rattle.vm_ids.specs.declared.reply.Reply.TheVariants as replies
-use Rattle.vm_ids.specs.declared.reply.Trouble.{Trouble}
 use Rattle.vm_ids.specs.declared.reply.Trouble.TheVariants as troubles
-use Rattle.vm_model.specs.Answering.{Answer}
-use Rattle.vm_model.specs.Machine.{Cache, Machine, Page, cache_named, cache_of, live_pages, numbered, pages_in}
 use Rattle.vm_model.specs.Run as vm_run
 use Rattle.vm_model.specs.Run.{CallIs}
 use Rattle.vm_model.proofs.Outcomes.Kept.{IsKept}
-use Rattle.vm_model.specs.declared.limits.TheConstants.{LIVE_PAGES}
-use Rattle.vm_port.specs.declared.traits.mapper.Mapper.{Ghosts as GhostsOfMapper}
-use Rattle.gmi_calls.specs.Calling.{MapperCall, RaisesMade}
-use Rattle.gmi_calls.specs.Managing.{meanings_of}
-use Rattle.gmi_calls.specs.declared.gmi.Gmi.{Ghosts as GhostsOfGmi}
 use Rattle.gmi_calls.proofs.Rising.{rise_none}
+use Rattle.interface_callers.proofs.Words.{Answer, Cache, CacheId, GhostsOfGmi, GhostsOfMapper, Held, LIVE_PAGES, Machine, MapperCall, Page, RaisesMade, SegId, Segments, Trouble, cache_named, cache_of, live_pages, meanings_of, no_counts, numbered, pages_in, segments_of}
 use Rattle.interface_callers.proofs.Lists.{get_snoc}
 use Rattle.interface_callers.proofs.Naming.{named_by}
 use Rattle.mix_process.specs.Adding.{AreKept}

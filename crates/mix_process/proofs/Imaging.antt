@@ -6,34 +6,20 @@ use Rattle.std.specs.Bool.{IsTrue}
 use Rattle.std.specs.FinMap.{get}
 use Rattle.std.proofs.lemmas.Bool.Decides.{nat_tests}
 use Rattle.std.proofs.lemmas.List.{length-map}
-use Rattle.vm_ids.specs.Counting.{MapperCounts, no_counts}
-use Rattle.vm_ids.specs.Held.{Held, Segments, segments_of}
 use Rattle.vm_ids.specs.Forest.Commands.{page_name}
 use Rattle.vm_ids.specs.Forest.Reading.{chain_of}
 use Rattle.vm_ids.specs.declared.command.Command.TheVariants as vm_commands
-use Rattle.vm_ids.specs.declared.numbers.CacheId.{CacheId}
-use Rattle.vm_ids.specs.declared.numbers.PageNo.{PageNo}
-use Rattle.vm_ids.specs.declared.numbers.SegId.{SegId}
 use Rattle.vm_ids.specs.declared.refusal.Refusal.TheVariants as refusals
 use Rattle.vm_ids.specs.declared.reply.FaultAt.TheVariants as faults
-use Rattle.vm_ids.specs.declared.reply.Reply.{Reply}
 use Rattle.vm_ids.specs.declared.reply.Reply.TheVariants as replies
-use Rattle.vm_ids.specs.declared.reply.Trouble.{Trouble}
 use Rattle.vm_ids.specs.declared.reply.Trouble.TheVariants as troubles
 use Rattle.vm_model.specs.Answering as vm
-use Rattle.vm_model.specs.Answering.{Answer, opened}
-use Rattle.vm_model.specs.Machine.{Cache, Machine, Page, cache_named, cache_of}
-use Rattle.vm_model.specs.Outcome.{IsAlike, Outcome, OutcomeAt, blank, blank_cache}
-use Rattle.vm_model.specs.PageForest.{PageForest, forest_shown}
 use Rattle.vm_model.specs.Run as vm_run
-use Rattle.vm_model.specs.declared.limits.TheConstants.{MOST_MADE}
 use Rattle.vm_model.proofs.Parts.Lists.{numbered-map}
 use Rattle.vm_model.proofs.Outcomes.Lying.{not_past}
-use Rattle.gmi_calls.specs.Calling.{AnswersWithin}
-use Rattle.gmi_calls.specs.Managing.{meanings_of}
 use Rattle.gmi_calls.specs.Room.{AnswerWithin}
-use Rattle.gmi_calls.specs.declared.gmi.Gmi.{Ghosts as GhostsOfGmi}
 use Rattle.std.proofs.lemmas.Bool.{eqb-true}
+use Rattle.interface_callers.proofs.Words.{Answer, AnswersWithin, Cache, CacheId, GhostsOfGmi, Held, IsAlike, Machine, MapperCounts, MOST_MADE, Outcome, OutcomeAt, Page, PageForest, PageNo, Reply, SegId, Segments, Trouble, blank, blank_cache, cache_named, cache_of, forest_shown, meanings_of, no_counts, opened, segments_of}
 use Rattle.interface_callers.proofs.Naming.{named_blank}
 use Rattle.mix_process.specs.Outcome.{usage_of, would_pass}
 use Rattle.mix_process.specs.ProcessMachine.{image_in}

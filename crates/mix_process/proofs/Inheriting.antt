@@ -4,14 +4,9 @@ use Rattle.std.specs.Prelude.{IfSome, Ok, Err, option_map, slice_get}
 use Rattle.std.specs.Option.{option_map_or}
 use Rattle.std.proofs.lemmas.List.{length-append, length-map}
 use Rattle.std.proofs.lemmas.Option.{slice_get_within}
-use Rattle.vm_ids.specs.Counting.{MapperCounts, Rise, counts_sum, no_counts}
-use Rattle.vm_ids.specs.Held.{segments_of}
-use Rattle.vm_ids.specs.declared.reply.Trouble.{Trouble}
-use Rattle.vm_model.specs.Machine.{Cache, Machine, cache_of, numbered}
 use Rattle.vm_model.proofs.Parts.Lists.{get_set_same}
-use Rattle.vm_port.specs.declared.traits.mapper.Mapper.{Ghosts as GhostsOfMapper}
-use Rattle.gmi_calls.specs.declared.gmi.Gmi.{Ghosts as GhostsOfGmi}
 use Rattle.gmi_calls.proofs.Rising.{rise_none, rise_then}
+use Rattle.interface_callers.proofs.Words.{Cache, GhostsOfGmi, GhostsOfMapper, Machine, MapperCounts, Rise, Trouble, cache_of, counts_sum, no_counts, numbered, segments_of}
 use Rattle.interface_callers.proofs.Lists.{all_at, get_append, get_last, put_back, take_none}
 use Rattle.mix_process.specs.Adding.{AreKept, most_of, put_at, with_more}
 use Rattle.mix_process.specs.Copying.{IsCopied, IsInherited, MayCopy, MayInherit, copy_budget, cost_to_copy, usage_of_parts, usage_to_copy}

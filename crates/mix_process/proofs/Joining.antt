@@ -2,7 +2,7 @@
 use Rattle.std.proofs.Common.{◌≡◌, ℕ, zero, suc, ◌+◌, ◌-◌, Bool, true, false, cond, List, [], ◌∷◌, ◌++◌, length, map, Option, Some, None, refl, sym, ap, ◌∙◌, append_assoc, arith}
 use Rattle.std.specs.Prelude.{option_map, slice_get}
 use Rattle.std.proofs.lemmas.List.{append-nil, map-set}
-use Rattle.vm_model.specs.Machine.{Cache, Machine, Page, cache_of, numbered}
+use Rattle.interface_callers.proofs.Words.{Cache, Machine, Page, cache_of, numbered}
 use Rattle.interface_callers.proofs.Lists.{all_at, map_same, number_at, put_back}
 use Rattle.mix_process.specs.Adding.{IsPutAt, put_at, with_more}
 use Rattle.mix_process.specs.ProcessMachine as model

@@ -2,7 +2,7 @@
 use Rattle.std.proofs.Common.{◌≡◌, ℕ, ◌+◌, ◌-◌, List, [], map, Option, Some, None, refl, sym, ap, ◌∙◌, arith}
 use Rattle.std.specs.Prelude.{option_map, slice_get}
 use Rattle.std.specs.Option.{option_map_or}
-use Rattle.vm_model.specs.Machine.{Cache, Machine, Page, cache_of, numbered}
+use Rattle.interface_callers.proofs.Words.{Cache, Machine, Page, cache_of, numbered}
 use Rattle.interface_callers.proofs.Lists.{all_at, map_same, number_at}
 use Rattle.mix_process.specs.Adding.{AreKept}
 use Rattle.mix_process.specs.ProcessMachine as model

@@ -4,12 +4,9 @@ use Rattle.std.specs.Prelude.{◌&&◌, nat_lt}
 use Rattle.std.specs.List.{list_any}
 use Rattle.std.proofs.lemmas.Bool.{cases_lt}
 use Rattle.std.proofs.lemmas.Bool.Decides.{nat_tests}
-use Rattle.vm_ids.specs.declared.command.Mapping.{Mapping}
-use Rattle.vm_model.specs.Answering.{insert_region, overlaps}
-use Rattle.vm_model.specs.Machine.{Actor, Region}
-use Rattle.vm_model.specs.Place.{holds, region_at}
 use Rattle.vm_model.specs.Regions.{mapping_of}
 use Rattle.vm_model.proofs.Outcomes.Lying.{or_parts}
+use Rattle.interface_callers.proofs.Words.{Actor, Mapping, Region, holds, insert_region, overlaps, region_at}
 use Rattle.mix_process.specs.ProcessMachine.{area_start}
 use Rattle.mix_process.specs.Seen.{mapping_behind, pages_in, same_area}
 use Rattle.mix_process.specs.Tying.{AreMapped, IsRegionOf}

@@ -7,25 +7,14 @@ use Rattle.std.proofs.lemmas.Bool.{cases_eq}
 use Rattle.std.proofs.lemmas.Bool.Decides.{nat_tests}
 use Rattle.std.proofs.lemmas.List.{append-nil, length-set}
 use Rattle.std.proofs.lemmas.Option.{get_or_from_slice_get, slice_get_within}
-use Rattle.vm_ids.specs.Counting.{no_counts}
-use Rattle.vm_ids.specs.Held.{Held, segments_of}
 use Rattle.vm_ids.specs.declared.command.Command.TheVariants as vm_commands
-use Rattle.vm_ids.specs.declared.command.Mapping.{Mapping}
-use Rattle.vm_ids.specs.declared.numbers.ActorId.{ActorId}
-use Rattle.vm_ids.specs.declared.numbers.RegionId.{RegionId}
 use Rattle.vm_ids.specs.declared.refusal.Refusal.TheVariants as refusals
 use Rattle.vm_ids.specs.declared.reply.Reply.TheVariants as replies
-use Rattle.vm_ids.specs.declared.reply.Trouble.{Trouble}
 use Rattle.vm_ids.specs.declared.reply.Trouble.TheVariants as troubles
-use Rattle.vm_model.specs.Answering.{Answer, add_region, answer_by, insert_region, region_of}
-use Rattle.vm_model.specs.Machine.{Actor, Cache, Machine, actor_of, cache_of, live_pages, living_actors, numbered}
 use Rattle.vm_model.specs.Machine as vm_machine
-use Rattle.vm_model.specs.declared.limits.TheConstants.{LIVE_PAGES, LIVING_ACTORS, MOST_MADE}
 use Rattle.vm_model.proofs.Parts.Lists.{get_set_same, numbered_place, sum_by_less}
 use Rattle.vm_model.proofs.Parts.ListParts.{numbered_set_other}
-use Rattle.gmi_calls.specs.Calling.{CallDone, RaisesMade}
-use Rattle.gmi_calls.specs.Managing.{meanings_of}
-use Rattle.gmi_calls.specs.declared.gmi.Gmi.{Ghosts as GhostsOfGmi}
+use Rattle.interface_callers.proofs.Words.{Actor, ActorId, Answer, Cache, CallDone, GhostsOfGmi, Held, LIVE_PAGES, LIVING_ACTORS, Machine, Mapping, MOST_MADE, RaisesMade, RegionId, Trouble, actor_of, add_region, answer_by, cache_of, insert_region, live_pages, living_actors, meanings_of, no_counts, numbered, region_of, segments_of}
 use Rattle.interface_callers.proofs.Lists.{number_at}
 use Rattle.mix_process.specs.Adding.{IsMapped, IsPutAt, IsUnmapped, MapsInto, MapsPart, MayMap, map_budget, put_at, usage_to_map}
 use Rattle.mix_process.specs.Inner.{spare_of}

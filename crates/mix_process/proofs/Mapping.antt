@@ -5,13 +5,10 @@ use Rattle.std.specs.List.{AllByRecursion, list_any}
 use Rattle.std.proofs.lemmas.Bool.{cases_eq}
 use Rattle.std.proofs.lemmas.Bool.Decides.{nat_tests}
 use Rattle.std.proofs.lemmas.Option.{slice_get_within}
-use Rattle.vm_ids.specs.declared.command.Mapping.{Mapping}
-use Rattle.vm_ids.specs.declared.numbers.ActorId.{ActorId}
-use Rattle.vm_model.specs.Answering.{add_region, insert_region, overlaps, region_of}
-use Rattle.vm_model.specs.Machine.{Actor, Machine, Region, actor_of, numbered}
 use Rattle.vm_model.specs.Regions.{mapping_of}
 use Rattle.vm_model.proofs.Parts.Lists.{get_set_same, numbered_place}
 use Rattle.vm_model.proofs.Parts.ListParts.{numbered_set_other}
+use Rattle.interface_callers.proofs.Words.{Actor, ActorId, Machine, Mapping, Region, actor_of, add_region, insert_region, numbered, overlaps, region_of}
 use Rattle.interface_callers.proofs.Lists.{get_append, get_last, get_snoc, none_any, number_at}
 use Rattle.mix_process.specs.ProcessMachine.{area_start, may_write}
 use Rattle.mix_process.specs.Adding.{most_of}

@@ -4,27 +4,17 @@ use Rattle.std.specs.Prelude.{◌||◌, Ok, Err, nat_le, nat_lt, slice_get}
 use Rattle.std.proofs.lemmas.Bool.Decides.{nat_tests}
 use Rattle.std.proofs.lemmas.List.{append-nil, length-append, length-replicate}
 use Rattle.std.proofs.lemmas.List.Sums.{sum_by_push}
-use Rattle.vm_ids.specs.Counting.{counts_sum}
-use Rattle.vm_ids.specs.Held.{segments_of}
 use Rattle.vm_ids.specs.declared.command.Command.TheVariants as vm_commands
-use Rattle.vm_ids.specs.declared.numbers.CacheId.{CacheId}
 use Rattle.vm_ids.specs.declared.refusal.Refusal.TheVariants as refusals
 use Rattle.vm_ids.specs.declared.reply.Reply.TheVariants as replies
-use Rattle.vm_ids.specs.declared.reply.Trouble.{Trouble}
 use Rattle.vm_ids.specs.declared.reply.Trouble.TheVariants as troubles
-use Rattle.vm_model.specs.Answering.{Answer}
-use Rattle.vm_model.specs.Machine.{Cache, Machine, Page, cache_of, live_pages, living_actors, numbered}
 use Rattle.vm_model.specs.Machine as vm_machine
 use Rattle.vm_model.specs.Run.{CallIs}
 use Rattle.vm_model.specs.Run as vm_run
-use Rattle.vm_model.specs.declared.limits.TheConstants.{LIVE_PAGES, LIVING_ACTORS, MOST_MADE}
 use Rattle.vm_model.proofs.Parts.Lists.{numbered_place, sum_by_less}
-use Rattle.vm_port.specs.declared.traits.mapper.Mapper.{Ghosts as GhostsOfMapper}
-use Rattle.gmi_calls.specs.Calling.{CallDone, MapperCall, RaisesMade}
-use Rattle.gmi_calls.specs.Managing.{meanings_of}
-use Rattle.gmi_calls.specs.declared.gmi.Gmi.{Ghosts as GhostsOfGmi}
 use Rattle.gmi_calls.proofs.Rising.{rise_then}
 use Rattle.gmi_calls.proofs.Still.{without_mapper}
+use Rattle.interface_callers.proofs.Words.{Answer, Cache, CacheId, CallDone, GhostsOfGmi, GhostsOfMapper, LIVE_PAGES, LIVING_ACTORS, Machine, MapperCall, MOST_MADE, Page, RaisesMade, Trouble, cache_of, counts_sum, live_pages, living_actors, meanings_of, numbered, segments_of}
 use Rattle.interface_callers.proofs.Rows.{IsDone}
 use Rattle.interface_callers.proofs.Temporary.{destroy_done}
 use Rattle.interface_callers.proofs.Lists.{put_back}

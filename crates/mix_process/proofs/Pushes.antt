@@ -6,10 +6,8 @@ use Rattle.std.specs.FinMap.{FinMap, get, get-insert, insert, nat_cmp-IsAntisymm
 use Rattle.std.specs.Ordering.{eq_by_cmp, nat_cmp}
 use Rattle.std.specs.Cmp.{nat_cmp_total, unsigned_tied}
 use Rattle.std.proofs.lemmas.Bool.{cases_eq, eq-eqb, ne_eqb}
-use Rattle.vm_ids.specs.Held.{Held, Segments, put_segment_page, segments_in, segments_of}
-use Rattle.vm_model.specs.Machine.{Cache, Machine, Page, cache_named, cache_of}
-use Rattle.vm_model.specs.Pushing.{MayPush, PushRule, page_named, segments_after}
 use Rattle.vm_model.proofs.Parts.Lists.{is_there}
+use Rattle.interface_callers.proofs.Words.{Cache, Held, Machine, MayPush, Page, PushRule, Segments, cache_named, cache_of, page_named, put_segment_page, segments_after, segments_in, segments_of}
 use Rattle.interface_callers.proofs.Naming.{after_none, named_cache}
 use Rattle.interface_callers.proofs.Lists.{put_back}
 use Rattle.mix_process.specs.Seen.{cache_pages}

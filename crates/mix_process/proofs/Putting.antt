@@ -4,10 +4,9 @@ use Rattle.std.specs.Prelude.{option_map, slice_get}
 use Rattle.std.specs.Option.{option_map_or}
 use Rattle.std.proofs.lemmas.List.{length-set}
 use Rattle.std.proofs.lemmas.Option.{slice_get_within}
-use Rattle.vm_model.specs.Answering.{put_cache, put_page}
-use Rattle.vm_model.specs.Machine.{Cache, Machine, Page, cache_of, numbered}
 use Rattle.vm_model.proofs.Parts.Lists.{numbered_place}
 use Rattle.vm_model.proofs.Parts.ListParts.{numbered_set, numbered_set_other}
+use Rattle.interface_callers.proofs.Words.{Cache, Machine, Page, cache_of, numbered, put_cache, put_page}
 use Rattle.interface_callers.proofs.Lists.{all_at, get_append, map_same, number_at}
 use Rattle.interface_callers.proofs.Alike.{HasShape, IsLike, shape_put}
 use Rattle.mix_process.specs.ProcessMachine as model

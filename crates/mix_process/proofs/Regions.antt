@@ -3,19 +3,12 @@ use Rattle.std.proofs.Common.{◌≡◌, ◌⊎◌, inl, inr, ◌==◌, ℕ, ◌
 use Rattle.std.specs.Prelude.{Ok, Err, not, nat_le, nat_lt}
 use Rattle.std.specs.List.{list_any}
 use Rattle.std.proofs.lemmas.Bool.Decides.{nat_tests}
-use Rattle.vm_ids.specs.Counting.{MapperCounts}
-use Rattle.vm_ids.specs.Held.{Segments}
 use Rattle.vm_ids.specs.declared.command.Command.TheVariants as vm_commands
-use Rattle.vm_ids.specs.declared.command.Mapping.{Mapping}
 use Rattle.vm_ids.specs.declared.refusal.Refusal.TheVariants as refusals
 use Rattle.vm_ids.specs.declared.reply.Reply.TheVariants as replies
 use Rattle.vm_ids.specs.declared.reply.Trouble.TheVariants as troubles
 use Rattle.vm_model.specs.Answering as vm
-use Rattle.vm_model.specs.Answering.{Answer, add_region, overlaps, passes_end}
-use Rattle.vm_model.specs.Machine.{Actor, Cache, Machine, cache_of, numbered}
-use Rattle.vm_model.specs.Outcome.{IsAlike, Outcome, OutcomeAt, blank}
-use Rattle.vm_model.specs.PageForest.{PageForest}
-use Rattle.vm_model.specs.declared.limits.TheConstants.{MOST_MADE}
+use Rattle.interface_callers.proofs.Words.{Actor, Answer, Cache, IsAlike, Machine, MapperCounts, Mapping, MOST_MADE, Outcome, OutcomeAt, PageForest, Segments, add_region, blank, cache_of, numbered, overlaps, passes_end}
 use Rattle.interface_callers.proofs.Alike.{HasShape, whole_shape}
 use Rattle.interface_callers.proofs.Answers.{still_err}
 use Rattle.mix_process.specs.ProcessMachine.{area_start}

@@ -4,8 +4,7 @@ use Rattle.std.proofs.Common.{◌≡◌, ℕ, List, [], ◌∷◌, map, Option, 
 use Rattle.std.specs.Prelude.{option_map}
 use Rattle.std.specs.Option.{option_map_or}
 use Rattle.std.specs.List.{AllByRecursion}
-use Rattle.vm_model.specs.Machine.{Actor, Cache, Machine, cache_of, numbered}
-use Rattle.vm_model.specs.Outcome.{blank, blank_cache}
+use Rattle.interface_callers.proofs.Words.{Actor, Cache, Machine, blank, blank_cache, cache_of, numbered}
 use Rattle.interface_callers.proofs.Alike.{HasShape, shape_back, shape_cache}
 use Rattle.interface_callers.proofs.Blanks.{blank_at}
 use Rattle.mix_process.specs.Seen.{cache_pages}

@@ -1,34 +1,20 @@
 -- Calls of the processes that are one call of the manager each.
 use Rattle.std.proofs.Common.{◌≡◌, ℕ, ◌+◌, ◌≤◌, List, length, take, drop, Option, Some, None, refl, sym, ap, subst, ◌∙◌, arith}
 use Rattle.std.specs.Prelude.{Ok, Err, Result, not, option_map, slice_get}
-use Rattle.vm_ids.specs.Counting.{MapperCounts, no_counts}
-use Rattle.vm_ids.specs.Held.{Segments, segments_of}
-use Rattle.vm_ids.specs.declared.command.Command.{Command}
 use Rattle.vm_ids.specs.declared.command.Command.TheVariants as vm_commands
 use Rattle.vm_ids.specs.declared.command.MixCommand.{MixCommand}
 use Rattle.vm_ids.specs.declared.command.MixCommand.TheVariants as commands
-use Rattle.vm_ids.specs.declared.numbers.ProcId.{ProcId}
 use Rattle.vm_ids.specs.declared.reply.FaultAt.TheVariants as faults
 use Rattle.vm_ids.specs.declared.reply.Reply.TheVariants as replies
-use Rattle.vm_ids.specs.declared.refusal.Refusal.{Refusal}
 use Rattle.vm_ids.specs.declared.refusal.Refusal.TheVariants as refusals
 use Rattle.vm_ids.specs.declared.reply.Trouble.TheVariants as troubles
 use Rattle.vm_model.specs.Answering as vm
-use Rattle.vm_model.specs.Answering.{Answer, answer_of}
-use Rattle.vm_model.specs.Asking.{pages_touched}
-use Rattle.vm_model.specs.Machine.{Machine, live_pages, numbered}
-use Rattle.vm_model.specs.Outcome.{Outcome, OutcomeAt, blank}
-use Rattle.vm_model.specs.PageForest.{PageForest, forest_shown}
 use Rattle.vm_model.specs.Run.{CallIs}
 use Rattle.vm_model.specs.Run as vm_run
-use Rattle.vm_model.specs.declared.limits.TheConstants.{LIVE_PAGES}
 use Rattle.vm_model.proofs.Outcomes.Rows.{each_ok}
 use Rattle.vm_model.proofs.Parts.Lists.{numbered-map}
-use Rattle.vm_port.specs.declared.traits.mapper.Mapper.{Ghosts as GhostsOfMapper}
-use Rattle.gmi_calls.specs.Calling.{MapperCall, RaisesMade}
-use Rattle.gmi_calls.specs.Managing.{meanings_of}
-use Rattle.gmi_calls.specs.declared.gmi.Gmi.{Ghosts as GhostsOfGmi}
 use Rattle.gmi_calls.proofs.Rising.{rise_none}
+use Rattle.interface_callers.proofs.Words.{Answer, Command, GhostsOfGmi, GhostsOfMapper, LIVE_PAGES, Machine, MapperCall, MapperCounts, Outcome, OutcomeAt, PageForest, ProcId, RaisesMade, Refusal, Segments, answer_of, blank, forest_shown, live_pages, meanings_of, no_counts, numbered, pages_touched, segments_of}
 use Rattle.interface_callers.proofs.Alike.{HasShape, shape_self, whole_shape}
 use Rattle.interface_callers.proofs.Blanks.{as_untold}
 use Rattle.interface_callers.proofs.Calls as calls

@@ -2,7 +2,7 @@
 use Rattle.std.proofs.Common.{◌≡◌, ◌≢◌, ◌⊎◌, inl, inr, ℕ, ◌+◌, List, [], ◌∷◌, ◌++◌, length, Option, Some, None, refl, sym, ap, subst, ◌∙◌, arith}
 use Rattle.std.specs.Prelude.{slice_get}
 use Rattle.std.specs.List.{AllByRecursion}
-use Rattle.vm_model.specs.Machine.{Cache, Machine, actor_of, cache_of, numbered}
+use Rattle.interface_callers.proofs.Words.{Cache, Machine, actor_of, cache_of, numbered}
 use Rattle.interface_callers.proofs.Lists.{all_at, get_append, get_last, get_snoc}
 use Rattle.mix_process.specs.Tying.{AreMapped, AreTied, IsPart, IsRun, IsSingle, IsSmall, Owns, none_spare}
 use Rattle.mix_process.specs.Tying.AreMapped.{none}

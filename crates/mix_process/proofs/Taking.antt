@@ -2,9 +2,8 @@
 use Rattle.std.proofs.Common.{◌≡◌, ◌≢◌, ◌⊎◌, inl, inr, ℕ, ◌+◌, ◌-◌, ◌≤◌, ◌<◌, List, [], ◌∷◌, ◌++◌, length, Option, Some, None, refl, sym, ap, ◌∙◌, arith}
 use Rattle.std.specs.Prelude.{slice_get}
 use Rattle.std.proofs.lemmas.Option.{slice_get_within}
-use Rattle.vm_ids.specs.Held.{Segments}
-use Rattle.vm_model.specs.Machine.{Cache, Machine, cache_of, numbered}
 use Rattle.vm_model.proofs.Parts.Lists.{numbered_place}
+use Rattle.interface_callers.proofs.Words.{Cache, Machine, Segments, cache_of, numbered}
 use Rattle.interface_callers.proofs.Lists.{all_at, get_append, get_last, get_snoc, number_at}
 use Rattle.interface_callers.proofs.Making as making
 use Rattle.mix_process.specs.Adding.{fresh_page}

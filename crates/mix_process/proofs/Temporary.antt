@@ -1,19 +1,11 @@
 -- What becomes of a living actor that exits: nothing can keep it from going.
 use Rattle.std.proofs.Common.{◌≡◌, ℕ, ◌-◌, set, Option, Some, None, sym, ap, ◌∙◌}
 use Rattle.std.specs.Prelude.{Ok, Err}
-use Rattle.vm_ids.specs.Counting.{MapperCounts}
-use Rattle.vm_ids.specs.Held.{Segments}
-use Rattle.vm_ids.specs.declared.command.Command.{Command}
 use Rattle.vm_ids.specs.declared.command.Command.TheVariants as commands
-use Rattle.vm_ids.specs.declared.numbers.ActorId.{ActorId}
-use Rattle.vm_ids.specs.declared.reply.FaultAt.{FaultAt}
 use Rattle.vm_ids.specs.declared.reply.Reply.TheVariants as replies
 use Rattle.vm_ids.specs.declared.reply.Trouble.TheVariants as troubles
 use Rattle.vm_ids.specs.declared.refusal.Refusal.TheVariants as refusals
-use Rattle.vm_model.specs.Machine.{Actor, Machine, actor_of}
-use Rattle.vm_model.specs.PageForest.{PageForest, forest_shown}
-use Rattle.vm_model.specs.Answering.{Answer, answer_of, exit_actor_of, reply, with_some}
-use Rattle.vm_model.specs.Outcome.{MayFault, MayLackMemory, Outcome, OutcomeAt, blank}
+use Rattle.interface_callers.proofs.Words.{Actor, ActorId, Answer, Command, FaultAt, Machine, MapperCounts, MayFault, MayLackMemory, Outcome, OutcomeAt, PageForest, Segments, actor_of, answer_of, blank, exit_actor_of, forest_shown, reply, with_some}
 use Rattle.interface_callers.proofs.Rows.{IsDone, is_done}
 use Rattle.interface_callers.proofs.Answers.{still_done}
 

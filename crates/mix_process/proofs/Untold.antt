@@ -4,17 +4,10 @@ use Rattle.std.specs.Prelude.{All, option_map}
 use Rattle.std.specs.Option.{option_map_or}
 use Rattle.std.proofs.lemmas.List.{length-map, length-replicate, map-append, map-set, take-map}
 use Rattle.std.proofs.lemmas.List.Elements.{All-append, All-map, All-nil, All-take}
-use Rattle.vm_ids.specs.Counting.{MapperCounts}
-use Rattle.vm_ids.specs.Held.{Segments}
-use Rattle.vm_ids.specs.declared.command.Command.{Command}
 use Rattle.vm_ids.specs.declared.command.MixCommand.{MixCommand}
-use Rattle.vm_model.specs.Answering.{Answer}
-use Rattle.vm_model.specs.Machine.{Cache, Machine, Page, cache_of, numbered, zero_page}
-use Rattle.vm_model.specs.Outcome.{BlankOutcome, HasWholePages, IsWhole, blank, blank_cache}
-use Rattle.vm_model.specs.PageForest.{PageForest}
 use Rattle.vm_model.proofs.Machines.Sound.{numbered-all}
 use Rattle.vm_model.proofs.Parts.Lists.{numbered-map}
-use Rattle.gmi_calls.specs.Untold.{UntoldStep}
+use Rattle.interface_callers.proofs.Words.{Answer, BlankOutcome, Cache, Command, HasWholePages, IsWhole, Machine, MapperCounts, Page, PageForest, Segments, UntoldStep, blank, blank_cache, cache_of, numbered, zero_page}
 use Rattle.interface_callers.proofs.Blanks.{blank_live, no_segments}
 use Rattle.interface_callers.proofs.Lists.{mapped_some, some_then, then_same}
 use Rattle.interface_callers.proofs.Answers.{alike_self}

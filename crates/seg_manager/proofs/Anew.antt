@@ -7,14 +7,9 @@ use Rattle.std.specs.Option.{option_map_or}
 use Rattle.std.proofs.lemmas.Bool.{cases_eq, eq-eqb, eqb-true, ne_eqb}
 use Rattle.std.proofs.lemmas.Bool.Decides.{nat_tests}
 use Rattle.std.proofs.lemmas.List.{append-nil, length-append, map-append}
-use Rattle.vm_ids.specs.Held.{Segments}
-use Rattle.vm_ids.specs.declared.numbers.SegId.{SegId}
-use Rattle.vm_model.specs.Answering.{is_mapped, opened}
-use Rattle.vm_model.specs.Machine.{Cache, Machine, Page, cache_named, cache_of, is_named_by, segment_of}
-use Rattle.vm_model.specs.Outcome.{blank, blank_cache}
 use Rattle.vm_model.proofs.Parts.ListParts.{at_some, numbered_past, numbered_push, numbered_pushed}
 use Rattle.vm_model.proofs.Parts.Pairs.{each_by}
-use Rattle.gmi_calls.specs.Backing.{AreBacked}
+use Rattle.interface_callers.proofs.Words.{AreBacked, Cache, Machine, Page, SegId, Segments, blank, blank_cache, cache_named, cache_of, is_mapped, is_named_by, opened, segment_of}
 use Rattle.interface_callers.proofs.Naming.{has_number}
 use Rattle.interface_callers.proofs.Lists.{get_append, get_last, get_snoc}
 use Rattle.seg_manager.specs.Inner.{first_of, named_with}

@@ -1,22 +1,10 @@
 -- After a call of the manager below its caller can call it again.
 use Rattle.std.proofs.Common.{◌≡◌, ℕ, ◌+◌, ◌*◌, ◌≤◌, List, length, Option, Some, None, refl, sym, ap, subst, ◌∙◌}
 use Rattle.std.specs.Prelude.{option_map, IfSome}
-use Rattle.vm_ids.specs.Counting.{MapperCounts}
-use Rattle.vm_ids.specs.Held.{Segments, segments_of}
-use Rattle.vm_ids.specs.declared.command.Command.{Command}
-use Rattle.vm_model.specs.Answering.{Answer}
-use Rattle.vm_model.specs.Machine.{Machine}
-use Rattle.vm_model.specs.Outcome.{OutcomeAt}
-use Rattle.vm_model.specs.PageForest.{PageForest}
 use Rattle.vm_model.specs.Run.{CallIs}
 use Rattle.vm_model.specs.Run as vm_run
-use Rattle.vm_model.specs.declared.limits.TheConstants.{LIVE_PAGES, MOST_MADE}
-use Rattle.vm_port.specs.declared.traits.mapper.Mapper.{Ghosts as GhostsOfMapper}
-use Rattle.gmi_calls.specs.Backing.{AreBacked}
-use Rattle.gmi_calls.specs.Calling.{MapperCall}
-use Rattle.gmi_calls.specs.Managing.{meanings_of}
-use Rattle.gmi_calls.specs.declared.gmi.Gmi.{Ghosts as GhostsOfGmi}
 use Rattle.gmi_calls.proofs.Backing.{backed_after}
+use Rattle.interface_callers.proofs.Words.{Answer, AreBacked, Command, GhostsOfGmi, GhostsOfMapper, LIVE_PAGES, Machine, MapperCall, MapperCounts, MOST_MADE, OutcomeAt, PageForest, Segments, meanings_of, segments_of}
 use Rattle.interface_callers.proofs.Calls as calls
 use Rattle.seg_manager.specs.Seen.{references_seen}
 use Rattle.seg_manager.specs.Tying.{AreTied, CanCall}

@@ -10,11 +10,7 @@ use Rattle.std.proofs.lemmas.Cmp.{nat_eq_equiv}
 use Rattle.std.proofs.lemmas.List.{length-map, length-set}
 use Rattle.std.proofs.lemmas.Map.Made.{length-le_from_is_member}
 use Rattle.std.specs.Prelude.{nat_eq}
-use Rattle.vm_ids.specs.Held.{Segments}
-use Rattle.vm_ids.specs.declared.numbers.CacheId.{CacheId}
-use Rattle.vm_ids.specs.declared.numbers.SegId.{SegId}
-use Rattle.vm_model.specs.Answering.{is_mapped}
-use Rattle.vm_model.specs.Machine.{Cache, Machine, cache_of, segment_of}
+use Rattle.interface_callers.proofs.Words.{Cache, CacheId, Machine, SegId, Segments, cache_of, is_mapped, segment_of}
 use Rattle.interface_callers.proofs.Lists.{all_at}
 use Rattle.seg_manager.specs.Inner.{Closes, first_of, named_with, unused_in}
 use Rattle.seg_manager.specs.ReferenceMachine.{ReferenceMachine, close_one, goes}

@@ -6,15 +6,12 @@ use Rattle.std.specs.List.{AllByRecursion}
 use Rattle.std.specs.Option.{option_map_or}
 use Rattle.std.proofs.lemmas.Bool.{cases_eq, eq-eqb, eqb-true, ne_eqb}
 use Rattle.std.proofs.lemmas.Bool.Decides.{nat_tests}
-use Rattle.vm_ids.specs.Held.{Segments}
-use Rattle.vm_model.specs.Answering.{is_mapped}
-use Rattle.vm_model.specs.Machine.{Cache, Machine, Page, cache_named, cache_of, is_named_by, segment_of}
 use Rattle.vm_model.proofs.Parts.Lists.{numbered_place}
 use Rattle.vm_model.proofs.Parts.ListParts.{at_some, numbered_set, numbered_set_other}
 use Rattle.vm_model.proofs.Parts.Naming.{segment_cache}
 use Rattle.vm_model.proofs.Parts.Pairs.{each_by}
-use Rattle.gmi_calls.specs.Backing.{AreBacked}
 use Rattle.gmi_calls.proofs.BackedCaches.{named_is}
+use Rattle.interface_callers.proofs.Words.{AreBacked, Cache, Machine, Page, Segments, cache_named, cache_of, is_mapped, is_named_by, segment_of}
 use Rattle.interface_callers.proofs.Blanks.{without}
 use Rattle.seg_manager.specs.ReferenceMachine.{ReferenceMachine, goes, is_open, let_go, stored_from, used}
 use Rattle.seg_manager.specs.Keeping.{without as but_without}

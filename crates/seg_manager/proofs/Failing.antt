@@ -6,27 +6,17 @@ use Rattle.std.specs.FinMap.{get}
 use Rattle.std.specs.List.{position_from}
 use Rattle.std.specs.Option.{option_map_or}
 use Rattle.std.proofs.lemmas.List.{length-map}
-use Rattle.vm_ids.specs.Counting.{MapperCounts}
-use Rattle.vm_ids.specs.Held.{Segments}
 use Rattle.vm_ids.specs.declared.command.Command.TheVariants.{Destroy, MakeTemp, OpenSegment}
 use Rattle.vm_ids.specs.declared.command.KeepCommand.{KeepCommand}
 use Rattle.vm_ids.specs.declared.command.KeepCommand.TheVariants as commands
-use Rattle.vm_ids.specs.declared.numbers.CacheId.{CacheId}
-use Rattle.vm_ids.specs.declared.numbers.SegId.{SegId}
-use Rattle.vm_ids.specs.declared.refusal.Refusal.{Refusal}
 use Rattle.vm_ids.specs.declared.refusal.Refusal.TheVariants.{NoSegment, TooMany}
-use Rattle.vm_ids.specs.declared.reply.FaultAt.{FaultAt}
 use Rattle.vm_ids.specs.declared.reply.FaultAt.TheVariants as faults
 use Rattle.vm_ids.specs.declared.reply.Reply.TheVariants.{Cache as MadeCache}
 use Rattle.vm_ids.specs.declared.reply.Trouble.TheVariants.{Mapper, Refused}
 use Rattle.vm_model.specs.Answering as plain
-use Rattle.vm_model.specs.Answering.{Answer, make_temp_of, open_of, opened, unless, with_some}
-use Rattle.vm_model.specs.Machine.{Cache, Machine, Page, cache_of, is_named_by, live_pages}
 use Rattle.vm_model.specs.Outcome as plain_outcome
-use Rattle.vm_model.specs.Outcome.{OutcomeAt, blank, blank_cache}
-use Rattle.vm_model.specs.PageForest.{PageForest}
-use Rattle.vm_model.specs.declared.limits.TheConstants.{LIVE_PAGES, MOST_MADE}
 use Rattle.vm_model.proofs.Parts.Lists.{numbered-map}
+use Rattle.interface_callers.proofs.Words.{Answer, Cache, CacheId, FaultAt, LIVE_PAGES, Machine, MapperCounts, MOST_MADE, OutcomeAt, Page, PageForest, Refusal, SegId, Segments, blank, blank_cache, cache_of, is_named_by, live_pages, make_temp_of, open_of, opened, unless, with_some}
 use Rattle.interface_callers.proofs.Answers.{alike_err}
 use Rattle.interface_callers.proofs.Naming.{named_blank}
 use Rattle.interface_callers.proofs.Blanks.{blank_live}

@@ -2,9 +2,8 @@
 use Rattle.std.proofs.Common.{◌≡◌, ℕ, ◌+◌, ◌-◌, Bool, true, false, cond, [], ◌∷◌, ◌++◌, set, Option, Some, None, refl, sym, ap, ◌∙◌, arith}
 use Rattle.std.specs.Prelude.{◌||◌, nat_lt, not}
 use Rattle.std.specs.Option.{option_map_or}
-use Rattle.vm_model.specs.Answering.{is_mapped, put_cache}
-use Rattle.vm_model.specs.Machine.{Cache, Machine, cache_of}
 use Rattle.vm_model.proofs.Parts.Lists.{numbered_place}
+use Rattle.interface_callers.proofs.Words.{Cache, Machine, cache_of, is_mapped, put_cache}
 use Rattle.interface_callers.proofs.Hiding.{IsView, actor_mapped}
 use Rattle.seg_manager.specs.ReferenceMachine.{ReferenceMachine, goes, used, used_at}
 use Rattle.seg_manager.proofs.Going.{Caches, numbered_used, set_used, used_same}

@@ -4,24 +4,14 @@ use Rattle.std.specs.Prelude.{◌||◌, Ok, Err, nat_lt, not, option_and_then, s
 use Rattle.std.specs.List.{list_any}
 use Rattle.std.specs.Option.{option_map_or}
 use Rattle.std.proofs.lemmas.Bool.{cases_eq, eq-eqb, ne_eqb}
-use Rattle.vm_ids.specs.Counting.{MapperCounts}
-use Rattle.vm_ids.specs.Held.{Segments}
 use Rattle.vm_ids.specs.declared.command.Command.TheVariants.{Map}
-use Rattle.vm_ids.specs.declared.command.Mapping.{Mapping}
-use Rattle.vm_ids.specs.declared.numbers.ActorId.{ActorId}
-use Rattle.vm_ids.specs.declared.refusal.Refusal.{Refusal}
-use Rattle.vm_ids.specs.declared.reply.Reply.{Reply}
 use Rattle.vm_ids.specs.declared.reply.Reply.TheVariants as replies
-use Rattle.vm_ids.specs.declared.reply.Trouble.{Trouble}
 use Rattle.vm_ids.specs.declared.reply.Trouble.TheVariants as troubles
 use Rattle.vm_model.specs.Answering as plain
-use Rattle.vm_model.specs.Answering.{Answer, add_region, insert_region, is_mapped, maps_in, region_of}
-use Rattle.vm_model.specs.Machine.{Actor, Cache, Machine, Region, cache_of}
 use Rattle.vm_model.specs.Outcome as plain_outcome
-use Rattle.vm_model.specs.Outcome.{IsAlike, OutcomeAt}
-use Rattle.vm_model.specs.PageForest.{PageForest}
 use Rattle.vm_model.proofs.Parts.ListParts.{at_some}
 use Rattle.vm_model.proofs.Parts.Lists.{numbered_place}
+use Rattle.interface_callers.proofs.Words.{Actor, ActorId, Answer, Cache, IsAlike, Machine, MapperCounts, Mapping, OutcomeAt, PageForest, Refusal, Region, Reply, Segments, Trouble, add_region, cache_of, insert_region, is_mapped, maps_in, region_of}
 use Rattle.interface_callers.proofs.Answers.{alike_err}
 use Rattle.interface_callers.proofs.Hiding.{map_lifts}
 use Rattle.interface_callers.proofs.Rows.{map_row}

@@ -4,8 +4,8 @@ use Rattle.std.specs.Prelude.{is_some, nat_le, option_and_then, replicate, slice
 use Rattle.std.specs.Option.{option_map_or}
 use Rattle.std.proofs.lemmas.Bool.{eq-eqb}
 use Rattle.std.proofs.lemmas.Bool.Decides.{nat_tests}
-use Rattle.vm_model.specs.Machine.{Cache, Page, cache_named, is_named_by, numbered}
 use Rattle.vm_model.proofs.Parts.ListParts.{at_some}
+use Rattle.interface_callers.proofs.Words.{Cache, Page, cache_named, is_named_by, numbered}
 use Rattle.interface_callers.proofs.Naming.{named_by}
 use Rattle.seg_manager.specs.ReferenceMachine.{ReferenceMachine, Stored, goes, put_stored, stored_at, stored_from, used, used_at, with_cache}
 

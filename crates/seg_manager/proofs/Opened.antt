@@ -4,20 +4,12 @@ use Rattle.std.specs.Prelude.{IfSome, Ok, Err, is_some, nat_le, nat_lt, option_m
 use Rattle.std.specs.FinMap.{get}
 use Rattle.std.proofs.lemmas.Bool.Decides.{nat_tests}
 use Rattle.std.proofs.lemmas.List.{length-map, map-append}
-use Rattle.vm_ids.specs.Counting.{MapperCounts}
-use Rattle.vm_ids.specs.Held.{Segments}
 use Rattle.vm_ids.specs.declared.command.Command.TheVariants as commands
-use Rattle.vm_ids.specs.declared.numbers.SegId.{SegId}
 use Rattle.vm_ids.specs.declared.refusal.Refusal.TheVariants as refusals
-use Rattle.vm_ids.specs.declared.reply.FaultAt.{FaultAt}
 use Rattle.vm_ids.specs.declared.reply.FaultAt.TheVariants as faults
 use Rattle.vm_ids.specs.declared.reply.Reply.TheVariants as replies
 use Rattle.vm_ids.specs.declared.reply.Trouble.TheVariants as troubles
-use Rattle.vm_model.specs.Answering.{Answer, Answered, open_of, opened, refuse, reply, unless, with_some}
-use Rattle.vm_model.specs.Machine.{Cache, Machine, Page, cache_named, live_pages}
-use Rattle.vm_model.specs.Outcome.{IsAlike, MayFault, Outcome, OutcomeAt, blank, blank_cache}
-use Rattle.vm_model.specs.PageForest.{PageForest}
-use Rattle.vm_model.specs.declared.limits.TheConstants.{LIVE_PAGES, MOST_MADE}
+use Rattle.interface_callers.proofs.Words.{Answer, Answered, Cache, FaultAt, IsAlike, LIVE_PAGES, Machine, MapperCounts, MayFault, MOST_MADE, Outcome, OutcomeAt, Page, PageForest, SegId, Segments, blank, blank_cache, cache_named, live_pages, open_of, opened, refuse, reply, unless, with_some}
 use Rattle.interface_callers.proofs.Naming.{named_blank}
 use Rattle.interface_callers.proofs.Answers.{still_err}
 

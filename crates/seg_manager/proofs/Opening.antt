@@ -6,13 +6,10 @@ use Rattle.std.specs.Option.{option_map_or}
 use Rattle.std.proofs.lemmas.Bool.{cases_eq, eq-eqb, eqb-true, ne_eqb}
 use Rattle.std.proofs.lemmas.Bool.Decides.{nat_tests}
 use Rattle.std.proofs.lemmas.List.{length-set}
-use Rattle.vm_ids.specs.Held.{Segments}
-use Rattle.vm_ids.specs.declared.numbers.SegId.{SegId}
-use Rattle.vm_model.specs.Answering.{is_mapped}
-use Rattle.vm_model.specs.Machine.{Cache, Machine, cache_of, is_named_by, segment_of}
 use Rattle.vm_model.proofs.Parts.Lists.{numbered_place}
 use Rattle.vm_model.proofs.Parts.ListParts.{at_some}
 use Rattle.vm_model.proofs.Parts.Naming.{segment_cache}
+use Rattle.interface_callers.proofs.Words.{Cache, Machine, SegId, Segments, cache_of, is_mapped, is_named_by, segment_of}
 use Rattle.interface_callers.proofs.Lists.{all_at}
 use Rattle.seg_manager.specs.Inner.{first_of, is_of}
 use Rattle.seg_manager.specs.ReferenceMachine.{ReferenceMachine, goes, let_go, number_in, stored_from, used, used_at}

@@ -2,27 +2,15 @@
 use Rattle.std.proofs.Common.{◌≡◌, inr, ℕ, ◌+◌, ◌-◌, Bool, true, false, List, [], ◌∷◌, ◌++◌, length, take, drop, Option, Some, refl, sym, ap, subst, ◌∙◌, arith}
 use Rattle.std.specs.Prelude.{◌||◌, Ok, Err, nat_lt, not, slice_get}
 use Rattle.std.specs.Option.{option_map_or}
-use Rattle.vm_ids.specs.Counting.{MapperCounts}
-use Rattle.vm_ids.specs.Held.{Segments}
-use Rattle.vm_ids.specs.declared.command.Command.{Command}
 use Rattle.vm_ids.specs.declared.command.Command.TheVariants.{Copy, Load, MakeActor, PageOut, Store}
 use Rattle.vm_ids.specs.declared.command.KeepCommand.TheVariants.{Plain}
-use Rattle.vm_ids.specs.declared.command.Span.{Span}
-use Rattle.vm_ids.specs.declared.numbers.ActorId.{ActorId}
-use Rattle.vm_ids.specs.declared.numbers.CacheId.{CacheId}
-use Rattle.vm_ids.specs.declared.refusal.Refusal.{Refusal}
 use Rattle.vm_ids.specs.declared.refusal.Refusal.TheVariants as refusals
-use Rattle.vm_ids.specs.declared.reply.FaultAt.{FaultAt}
-use Rattle.vm_ids.specs.declared.reply.Reply.{Reply}
 use Rattle.vm_ids.specs.declared.reply.Reply.TheVariants as replies
 use Rattle.vm_ids.specs.declared.reply.Trouble.TheVariants as troubles
 use Rattle.vm_model.specs.Answering as plain
-use Rattle.vm_model.specs.Answering.{Answer, overwrite, page_at, put_cache, put_page, put_pages}
-use Rattle.vm_model.specs.Machine.{Actor, Cache, Machine, cache_of}
 use Rattle.vm_model.specs.Outcome as plain_outcome
-use Rattle.vm_model.specs.Outcome.{IsNotRefused, MayLackMemory, NotRefusedButFor}
-use Rattle.vm_model.specs.PageForest.{PageForest, forest_shown}
 use Rattle.vm_model.proofs.Parts.Lists.{numbered_place}
+use Rattle.interface_callers.proofs.Words.{Actor, ActorId, Answer, Cache, CacheId, Command, FaultAt, IsNotRefused, Machine, MapperCounts, MayLackMemory, NotRefusedButFor, PageForest, Refusal, Reply, Segments, Span, cache_of, forest_shown, overwrite, page_at, put_cache, put_page, put_pages}
 use Rattle.interface_callers.proofs.Hiding.{actor_lifts, actor_mapped, copy_faults, copy_lifts, lift, load_faults, load_lifts, page_out_faults, shown_at, store_faults, store_lifts, visible}
 use Rattle.interface_callers.proofs.Rows.{actor_row, copy_row, load_row, store_row}
 use Rattle.seg_manager.specs.Answering.{Answered, answer_of}

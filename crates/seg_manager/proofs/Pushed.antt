@@ -5,15 +5,11 @@ use Rattle.std.specs.List.{AllByRecursion}
 use Rattle.std.specs.FinMap.{get, get-insert}
 use Rattle.std.specs.Cmp.{nat_cmp_total, unsigned_tied}
 use Rattle.std.proofs.lemmas.Bool.{cases_eq, ne_eqb}
-use Rattle.vm_ids.specs.Denying.{denies}
-use Rattle.vm_ids.specs.Held.{Segments, put_segment_page}
-use Rattle.vm_model.specs.Machine.{Cache, Machine, Page, cache_named, cache_of, pages_in, segment_of}
-use Rattle.vm_model.specs.Pushing.{MayPush, PushRule, page_named, segments_after}
 use Rattle.vm_model.specs.Synchronised.{ArePushed}
 use Rattle.vm_model.proofs.Parts.Lists.{is_there}
-use Rattle.gmi_calls.specs.Backing.{AreBacked, Backs}
 use Rattle.gmi_calls.proofs.Opening.{same_list}
 use Rattle.gmi_calls.proofs.Pushing.{IsNamedPage, still_backed}
+use Rattle.interface_callers.proofs.Words.{AreBacked, Backs, Cache, Machine, MayPush, Page, PushRule, Segments, cache_named, cache_of, denies, page_named, pages_in, put_segment_page, segment_of, segments_after}
 use Rattle.interface_callers.proofs.Naming.{after_none, named_cache}
 
 -- After some pushes the segments back the caches, and those without a cache are as before.

@@ -4,18 +4,8 @@ use Rattle.std.specs.Prelude.{IfSome, IsSome, option_and_then, option_map, slice
 use Rattle.std.specs.List.{AllByRecursion, list_any}
 use Rattle.std.specs.Option.{option_map_or}
 use Rattle.std.proofs.lemmas.List.{length-append}
-use Rattle.vm_ids.specs.Counting.{MapperCounts, counts_sum}
-use Rattle.vm_ids.specs.Denying.{denies}
-use Rattle.vm_ids.specs.Held.{Segments, put_segment_page, segments_of}
-use Rattle.vm_ids.specs.declared.command.Command.{Command}
-use Rattle.vm_model.specs.Answering.{Answer}
-use Rattle.vm_model.specs.Machine.{Cache, Machine, Page, cache_named, is_named_by}
-use Rattle.vm_model.specs.Pushing.{MayPush, PushRule, page_named, segments_after}
 use Rattle.vm_model.proofs.Parts.Pairs.{each_append}
-use Rattle.vm_port.specs.declared.traits.mapper.Mapper.{Ghosts as GhostsOfMapper}
-use Rattle.gmi_calls.specs.Calling.{MapperCall}
-use Rattle.gmi_calls.specs.Managing.{meanings_of}
-use Rattle.gmi_calls.specs.declared.gmi.Gmi.{Ghosts as GhostsOfGmi}
+use Rattle.interface_callers.proofs.Words.{Answer, Cache, Command, GhostsOfGmi, GhostsOfMapper, Machine, MapperCall, MapperCounts, MayPush, Page, PushRule, Segments, cache_named, counts_sum, denies, is_named_by, meanings_of, page_named, put_segment_page, segments_after, segments_of}
 use Rattle.interface_callers.proofs.Naming.{after_none, named_by}
 use Rattle.seg_manager.specs.Keeping.{but_for, is_of_any, without}
 use Rattle.seg_manager.specs.Seen.{references_seen, whole_of}

@@ -5,12 +5,9 @@ use Rattle.std.specs.List.{list_any}
 use Rattle.std.specs.Option.{option_or}
 use Rattle.std.proofs.lemmas.Bool.{cases_eq, eq-eqb, ne_eqb}
 use Rattle.std.proofs.lemmas.List.Sums.{sum_by-cons}
-use Rattle.vm_ids.specs.declared.refusal.Refusal.{Refusal}
 use Rattle.vm_ids.specs.declared.refusal.Refusal.TheVariants.{Crosses}
-use Rattle.vm_model.specs.Answering.{insert_region, maps_in, without_region}
-use Rattle.vm_model.specs.Machine.{Actor, Region, locks, locks_any}
-use Rattle.vm_model.specs.Place.{Place, holds, place_of_actor, placed, region_at}
 use Rattle.vm_model.specs.Regions.{region_among, region_with}
+use Rattle.interface_callers.proofs.Words.{Actor, Place, Refusal, Region, holds, insert_region, locks, locks_any, maps_in, place_of_actor, placed, region_at, without_region}
 use Rattle.interface_callers.proofs.Lists.{one_of, or_true}
 use Rattle.seg_manager.specs.Limits.{Renaming, renamed_actors, renamed_region, with_pair}
 use Rattle.seg_manager.proofs.Entries.{fun_same}

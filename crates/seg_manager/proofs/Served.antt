@@ -5,22 +5,11 @@ use Rattle.std.specs.FinMap.{get}
 use Rattle.std.specs.Option.{option_map_or}
 use Rattle.std.proofs.lemmas.List.{length-map}
 use Rattle.std.proofs.lemmas.List.Elements.{All-cons, All-head, All-tail}
-use Rattle.vm_ids.specs.Counting.{MapperCounts}
-use Rattle.vm_ids.specs.Held.{Segments, segments_of}
-use Rattle.vm_ids.specs.declared.command.Command.{Command}
 use Rattle.vm_ids.specs.declared.command.Command.TheVariants.{Copy, Load, MakeActor, PageOut, Store}
 use Rattle.vm_ids.specs.declared.command.KeepCommand.TheVariants.{Plain}
-use Rattle.vm_ids.specs.declared.command.Span.{Span}
 use Rattle.vm_model.specs.Answering as plain
-use Rattle.vm_model.specs.Answering.{Answer}
-use Rattle.vm_model.specs.Machine.{Cache, Machine, cache_of}
-use Rattle.vm_model.specs.Outcome.{HasWholePages, IsWhole, OutcomeAt, blank, blank_cache}
-use Rattle.vm_model.specs.PageForest.{PageForest, forest_shown}
 use Rattle.vm_model.proofs.Parts.Lists.{numbered-map}
-use Rattle.vm_port.specs.declared.traits.mapper.Mapper.{Ghosts as GhostsOfMapper}
-use Rattle.gmi_calls.specs.Calling.{MapperCall}
-use Rattle.gmi_calls.specs.Managing.{meanings_of}
-use Rattle.gmi_calls.specs.declared.gmi.Gmi.{Ghosts as GhostsOfGmi}
+use Rattle.interface_callers.proofs.Words.{Answer, Cache, Command, GhostsOfGmi, GhostsOfMapper, HasWholePages, IsWhole, Machine, MapperCall, MapperCounts, OutcomeAt, PageForest, Segments, Span, blank, blank_cache, cache_of, forest_shown, meanings_of, segments_of}
 use Rattle.interface_callers.proofs.Rows.{outcome_next}
 use Rattle.seg_manager.specs.Calling.{AnswersKept, IsPassed, SegmentCall, Serves}
 use Rattle.seg_manager.specs.Inner.{span_shown}

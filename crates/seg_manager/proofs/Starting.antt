@@ -2,11 +2,7 @@
 use Rattle.std.proofs.Common.{◌≡◌, ◌==◌, ℕ, ◌≤◌, Bool, true, false, cond, List, [], length, Option, Some, None, refl, sym, ap, subst, ◌∙◌, arith}
 use Rattle.std.specs.Prelude.{IfSome, option_and_then}
 use Rattle.std.specs.Option.{option_map_or}
-use Rattle.vm_ids.specs.Held.{Held, Segments, segments_of}
-use Rattle.vm_model.specs.Machine.{Cache, Machine, cache_of, live_pages, numbered, segment_of}
-use Rattle.vm_model.specs.declared.limits.TheConstants.{LIVE_PAGES}
-use Rattle.gmi_calls.specs.Backing.{AreBacked}
-use Rattle.gmi_calls.specs.declared.gmi.Gmi.{Ghosts as GhostsOfGmi}
+use Rattle.interface_callers.proofs.Words.{AreBacked, Cache, GhostsOfGmi, Held, LIVE_PAGES, Machine, Segments, cache_of, live_pages, numbered, segment_of, segments_of}
 use Rattle.interface_callers.proofs.Blanks.{blank_bare}
 use Rattle.seg_manager.specs.Calling.{beginning}
 use Rattle.seg_manager.specs.ReferenceMachine.{goes, stored_from, used}

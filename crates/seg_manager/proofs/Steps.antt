@@ -2,13 +2,8 @@
 -- isn't.
 use Rattle.std.proofs.Common.{◌≡◌, ℕ, ◌+◌, Bool, true, false, cond, List, [], ◌∷◌, map, Option, Some, None, refl, sym, ap, subst, ◌∙◌}
 use Rattle.std.specs.Prelude.{option_map}
-use Rattle.vm_ids.specs.Counting.{MapperCounts}
-use Rattle.vm_ids.specs.Held.{Segments}
 use Rattle.vm_ids.specs.declared.command.KeepCommand.{KeepCommand}
-use Rattle.vm_model.specs.Answering.{Answer}
-use Rattle.vm_model.specs.Machine.{Actor, Cache, Machine}
-use Rattle.vm_model.specs.Outcome.{blank, blank_cache}
-use Rattle.vm_model.specs.PageForest.{PageForest}
+use Rattle.interface_callers.proofs.Words.{Actor, Answer, Cache, Machine, MapperCounts, PageForest, Segments, blank, blank_cache}
 use Rattle.interface_callers.proofs.Answers.{alike_self}
 use Rattle.interface_callers.proofs.Blanks.{no_segments}
 use Rattle.seg_manager.specs.Outcome.{Outcome}

@@ -2,26 +2,13 @@
 use Rattle.std.proofs.Common.{◌≡◌, ◌⊎◌, inl, inr, ℕ, ◌+◌, ◌^◌, ◌≤◌, List, [], ◌∷◌, length, take, Option, Some, None, refl, sym, ap, subst, ◌∙◌, arith}
 use Rattle.std.specs.Prelude.{IfNone, IfSome, Ok, Err, Result}
 use Rattle.std.proofs.lemmas.List.{drop-map, length-append, length-map}
-use Rattle.vm_ids.specs.Counting.{MapperCounts, counts_sum}
-use Rattle.vm_ids.specs.Held.{Segments, segments_of}
 use Rattle.vm_ids.specs.declared.command.Command.TheVariants.{Destroy, MakeTemp}
 use Rattle.vm_ids.specs.declared.command.KeepCommand.TheVariants as commands
-use Rattle.vm_ids.specs.declared.numbers.CacheId.{CacheId}
 use Rattle.vm_ids.specs.declared.refusal.Refusal.TheVariants as refusals
-use Rattle.vm_ids.specs.declared.reply.FaultAt.{FaultAt}
 use Rattle.vm_ids.specs.declared.reply.Reply.TheVariants as replies
-use Rattle.vm_ids.specs.declared.reply.Trouble.{Trouble}
 use Rattle.vm_ids.specs.declared.reply.Trouble.TheVariants as troubles
-use Rattle.vm_model.specs.Answering.{Answer, answer_by, temporary}
-use Rattle.vm_model.specs.Machine.{Machine, Page}
-use Rattle.vm_model.specs.Outcome.{OutcomeAt, blank, seen_at}
-use Rattle.vm_model.specs.PageForest.{PageForest}
-use Rattle.vm_port.specs.declared.traits.mapper.Mapper.{Ghosts as GhostsOfMapper}
-use Rattle.gmi_calls.specs.Backing.{AreBacked}
-use Rattle.gmi_calls.specs.Calling.{MapperCall}
-use Rattle.gmi_calls.specs.Managing.{meanings_of}
-use Rattle.gmi_calls.specs.declared.gmi.Gmi.{Ghosts as GhostsOfGmi}
 use Rattle.gmi_calls.proofs.Rising.{rise_then}
+use Rattle.interface_callers.proofs.Words.{Answer, AreBacked, CacheId, FaultAt, GhostsOfGmi, GhostsOfMapper, Machine, MapperCall, MapperCounts, OutcomeAt, Page, PageForest, Segments, Trouble, answer_by, blank, counts_sum, meanings_of, seen_at, segments_of, temporary}
 use Rattle.interface_callers.proofs.Making.{IsMade, few_caches, fresh_cache, made_at, seen_made, unmade_at}
 use Rattle.seg_manager.specs.Answering.{make_temp_of, reply_cache}
 use Rattle.seg_manager.specs.Calling.{FailsBelow, HasNoRoomWithout, SegmentCall, Serves}

@@ -1,10 +1,8 @@
 -- A temporary cache is made, where caches that are kept make room.
 use Rattle.std.proofs.Common.{ℕ}
 use Rattle.std.specs.Prelude.{Err}
-use Rattle.vm_ids.specs.Held.{segments_of}
 use Rattle.vm_ids.specs.declared.command.Command.TheVariants as vm_commands
-use Rattle.vm_port.specs.declared.traits.mapper.Mapper.{Ghosts as GhostsOfMapper}
-use Rattle.gmi_calls.specs.declared.gmi.Gmi.{Ghosts as GhostsOfGmi}
+use Rattle.interface_callers.proofs.Words.{GhostsOfGmi, GhostsOfMapper, segments_of}
 use Rattle.interface_callers.proofs.Making.{unmade_at}
 use Rattle.seg_manager.specs.Tying.{CanCall}
 use Rattle.seg_manager.specs.declared.manager.SegManager.{SegManager}

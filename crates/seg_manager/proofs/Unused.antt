@@ -7,13 +7,10 @@ use Rattle.std.proofs.lemmas.Bool.{cases_eq, eq-eqb, eqb-true, ne_eqb}
 use Rattle.std.proofs.lemmas.Bool.Decides.{nat_tests}
 use Rattle.std.proofs.lemmas.List.{append-nil}
 use Rattle.std.proofs.lemmas.List.Folds.{list_any-append}
-use Rattle.vm_ids.specs.Held.{Segments}
-use Rattle.vm_ids.specs.declared.numbers.CacheId.{CacheId}
-use Rattle.vm_model.specs.Answering.{is_mapped, maps_in}
-use Rattle.vm_model.specs.Machine.{Actor, Cache, Machine, Region, cache_of, segment_of}
 use Rattle.vm_model.proofs.Parts.Naming.{segment_cache}
 use Rattle.vm_model.proofs.Parts.Lists.{numbered_place}
 use Rattle.vm_model.proofs.Parts.Pairs.{each_append, each_by}
+use Rattle.interface_callers.proofs.Words.{Actor, Cache, CacheId, Machine, Region, Segments, cache_of, is_mapped, maps_in, segment_of}
 use Rattle.seg_manager.specs.Inner.{kept_by, named_with, unused_in}
 use Rattle.seg_manager.specs.ReferenceMachine.{goes}
 use Rattle.seg_manager.specs.Keeping.{left_one}

@@ -8,9 +8,9 @@ use Rattle.std.proofs.lemmas.Bool.{cases_eq}
 use Rattle.std.proofs.lemmas.Bool.Decides.{nat_tests}
 use Rattle.std.proofs.lemmas.List.{length-append, length-set, map-append, map-set}
 use Rattle.std.proofs.lemmas.List.Folds.{list_any-append}
-use Rattle.vm_model.specs.Machine.{Cache, Machine, cache_of}
 use Rattle.vm_model.proofs.Parts.ListParts.{numbered_past, numbered_push, numbered_pushed}
 use Rattle.vm_model.proofs.Parts.Lists.{is_there}
+use Rattle.interface_callers.proofs.Words.{Cache, Machine, cache_of}
 use Rattle.interface_callers.proofs.Alike.{AllTemporary}
 use Rattle.interface_callers.proofs.Lists.{map_same, or_false}
 use Rattle.transit_ipc.specs.Answering.{put_last}

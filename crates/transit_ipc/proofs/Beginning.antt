@@ -1,11 +1,8 @@
 -- Ports over a manager without caches.
 use Rattle.std.proofs.Common.{◌≡◌, ℕ, false, true, List, [], Option, Some, None, sym, ap, subst, inl, inr, ◌∙◌, arith}
 use Rattle.std.specs.Prelude.{sum_by}
-use Rattle.vm_ids.specs.Held.{Held}
-use Rattle.vm_model.specs.Answering.{is_mapped}
-use Rattle.vm_model.specs.Machine.{Cache, Machine, cache_of, numbered, pages_in}
 use Rattle.vm_model.proofs.Parts.ListParts.{at_some, at_zero, zero_or}
-use Rattle.gmi_calls.specs.declared.gmi.Gmi.{Ghosts as GhostsOfGmi}
+use Rattle.interface_callers.proofs.Words.{Cache, GhostsOfGmi, Held, Machine, cache_of, is_mapped, numbered, pages_in}
 use Rattle.interface_callers.proofs.Blanks.{blank_bare}
 use Rattle.transit_ipc.specs.Tying.{AreAble, AreTied, IsBare}
 use Rattle.transit_ipc.specs.declared.port.Port.{Port}

@@ -1,26 +1,12 @@
 -- After a call of the manager the ports can call it again.
 use Rattle.std.proofs.Common.{◌≡◌, ℕ, ◌+◌, ◌*◌, ◌≤◌, List, Option, Some, None, refl, sym, ap, subst, arith}
-use Rattle.vm_ids.specs.Counting.{MapperCounts}
-use Rattle.vm_ids.specs.Held.{Segments, segments_of}
-use Rattle.vm_ids.specs.declared.command.Command.{Command}
 use Rattle.vm_ids.specs.declared.command.Command.TheVariants.{Map}
-use Rattle.vm_ids.specs.declared.command.Mapping.{Mapping}
 use Rattle.vm_ids.specs.declared.command.PortCommand.TheVariants.{Plain}
-use Rattle.vm_ids.specs.declared.numbers.ActorId.{ActorId}
-use Rattle.vm_model.specs.Answering.{Answer}
-use Rattle.vm_model.specs.Asking.{ReachesMapper}
-use Rattle.vm_model.specs.Machine.{Machine}
 use Rattle.vm_model.specs.Outcome as plain
-use Rattle.vm_model.specs.Outcome.{OutcomeAt}
-use Rattle.vm_model.specs.PageForest.{PageForest}
 use Rattle.vm_model.specs.Run.{CallIs}
 use Rattle.vm_model.specs.Run as vm_run
-use Rattle.vm_model.specs.declared.limits.TheConstants.{LIVE_PAGES}
-use Rattle.vm_port.specs.declared.traits.mapper.Mapper.{Ghosts as GhostsOfMapper}
-use Rattle.gmi_calls.specs.Calling.{CallDone, MapperCall}
-use Rattle.gmi_calls.specs.Managing.{meanings_of}
-use Rattle.gmi_calls.specs.declared.gmi.Gmi.{Ghosts as GhostsOfGmi}
 use Rattle.gmi_calls.proofs.Still.{without_mapper}
+use Rattle.interface_callers.proofs.Words.{ActorId, Answer, CallDone, Command, GhostsOfGmi, GhostsOfMapper, LIVE_PAGES, Machine, MapperCall, MapperCounts, Mapping, OutcomeAt, PageForest, ReachesMapper, Segments, meanings_of, segments_of}
 use Rattle.interface_callers.proofs.Calls as calls
 use Rattle.transit_ipc.specs.Calling.{IsServed, PortCall}
 use Rattle.transit_ipc.specs.Inner.{mapping_shown}

@@ -5,11 +5,10 @@ use Rattle.std.specs.List.{list_any}
 use Rattle.std.specs.Option.{option_map_or}
 use Rattle.std.proofs.lemmas.Bool.Decides.{nat_tests}
 use Rattle.std.proofs.lemmas.List.Sums.{sum_by-cons}
-use Rattle.vm_model.specs.Machine.{Cache, Machine, cache_of, live_pages, numbered, pages_in}
-use Rattle.vm_model.specs.declared.limits.TheConstants.{LIVE_PAGES, MOST_MADE}
 use Rattle.vm_model.proofs.Parts.ListParts.{at_some}
 use Rattle.vm_model.proofs.Parts.Lists.{numbered_place}
 use Rattle.std.proofs.lemmas.Bool.{eqb-true}
+use Rattle.interface_callers.proofs.Words.{Cache, LIVE_PAGES, Machine, MOST_MADE, cache_of, live_pages, numbered, pages_in}
 use Rattle.transit_ipc.specs.Answering.{lacks_room}
 use Rattle.transit_ipc.specs.PortMachine.{pages_at, waiting_pages}
 use Rattle.transit_ipc.specs.Seen.{but_for, memory_seen, message_seen, port_seen, ports_seen}

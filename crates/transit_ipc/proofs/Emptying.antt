@@ -2,12 +2,8 @@
 use Rattle.std.proofs.Common.{◌≡◌, List, [], Option, Some, None, refl, sym, ap, ◌∙◌}
 use Rattle.std.specs.Prelude.{option_map}
 use Rattle.std.specs.Option.{option_map_or}
-use Rattle.vm_ids.specs.Counting.{MapperCounts}
-use Rattle.vm_ids.specs.Held.{Held, Segments, segments_of}
 use Rattle.vm_ids.specs.declared.command.PortCommand.{PortCommand}
-use Rattle.vm_model.specs.Answering.{Answer}
-use Rattle.vm_model.specs.Machine.{Cache, Machine, Page, cache_of}
-use Rattle.vm_model.specs.Outcome.{blank, blank_cache}
+use Rattle.interface_callers.proofs.Words.{Answer, Cache, Held, Machine, MapperCounts, Page, Segments, blank, blank_cache, cache_of, segments_of}
 use Rattle.interface_callers.proofs.Blanks.{as_untold, blank_at, no_segments}
 use Rattle.interface_callers.proofs.Answers.{alike_self}
 use Rattle.interface_callers.proofs.Lists.{then_same}

@@ -6,12 +6,9 @@ use Rattle.std.specs.List.{list_any}
 use Rattle.std.proofs.lemmas.Bool.{cases_eq, eqb-true}
 use Rattle.std.proofs.lemmas.List.Folds.{list_any-append}
 use Rattle.std.proofs.lemmas.Option.{slice_get_within}
-use Rattle.vm_ids.specs.declared.command.Mapping.{Mapping}
-use Rattle.vm_model.specs.Answering.{add_region, insert_region, is_mapped, maps_in, put_cache, region_of, temporary}
-use Rattle.vm_model.specs.Machine.{Actor, Cache, Machine, Region, cache_of}
-use Rattle.vm_model.specs.Outcome.{blank}
 use Rattle.vm_model.proofs.Parts.Lists.{get_set_other, get_set_same, numbered_place}
 use Rattle.vm_model.proofs.Parts.ListParts.{numbered_push, numbered_pushed, numbered_set, numbered_set_other}
+use Rattle.interface_callers.proofs.Words.{Actor, Cache, Machine, Mapping, Region, add_region, blank, cache_of, insert_region, is_mapped, maps_in, put_cache, region_of, temporary}
 use Rattle.interface_callers.proofs.Alike.{blank_shape, shape_back}
 use Rattle.interface_callers.proofs.Lists.{any_at, one_of, or_true}
 use Rattle.transit_ipc.specs.Seen.{memory_seen}

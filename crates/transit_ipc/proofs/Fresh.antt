@@ -2,14 +2,12 @@
 use Rattle.std.proofs.Common.{◌≡◌, ◌⊎◌, inl, inr, ℕ, ◌+◌, Bool, true, false, List, [], ◌∷◌, ◌++◌, length, Option, Some, sym, ap, ◌∙◌, arith}
 use Rattle.std.specs.Prelude.{◌||◌, nat_le, nat_lt}
 use Rattle.std.proofs.lemmas.Bool.Decides.{nat_tests}
-use Rattle.vm_ids.specs.Held.{Segments}
 use Rattle.vm_ids.specs.declared.command.Command.TheVariants.{MakeTemp}
 use Rattle.vm_ids.specs.declared.refusal.Refusal.TheVariants.{TooMany}
 use Rattle.vm_ids.specs.declared.reply.Reply.TheVariants as replies
 use Rattle.vm_model.specs.Answering as plain
-use Rattle.vm_model.specs.Machine.{Cache, Machine, cache_of, live_pages}
-use Rattle.vm_model.specs.declared.limits.TheConstants.{LIVE_PAGES, MOST_MADE}
 use Rattle.vm_model.proofs.Parts.ListParts.{numbered_push}
+use Rattle.interface_callers.proofs.Words.{Cache, LIVE_PAGES, Machine, MOST_MADE, Segments, cache_of, live_pages}
 use Rattle.interface_callers.proofs.Lists.{either}
 use Rattle.interface_callers.proofs.Rows.{plain_goes, plain_refused}
 use Rattle.transit_ipc.specs.Answering.{Answered, lacks_room, plain_of, reply, within}

@@ -1,9 +1,8 @@
 -- The caches in which no message waits are those that are seen.
 use Rattle.std.proofs.Common.{◌≡◌, ℕ, ◌+◌, ◌-◌, Bool, true, false, List, Option, Some, None, refl, ap, subst, ◌∙◌, arith}
 use Rattle.std.specs.Prelude.{IsSome}
-use Rattle.vm_model.specs.Answering.{is_mapped}
-use Rattle.vm_model.specs.Machine.{Cache, Machine}
 use Rattle.vm_model.proofs.Parts.Lists.{numbered_place}
+use Rattle.interface_callers.proofs.Words.{Cache, Machine, is_mapped}
 use Rattle.interface_callers.proofs.Hiding.{IsView}
 use Rattle.transit_ipc.specs.Seen.{but_for}
 use Rattle.transit_ipc.specs.Transit.{is_transit}

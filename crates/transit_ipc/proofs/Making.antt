@@ -10,8 +10,7 @@ use Rattle.std.proofs.lemmas.List.Folds.{list_any-append}
 use Rattle.vm_ids.specs.declared.refusal.Refusal.TheVariants.{TooMany}
 use Rattle.vm_ids.specs.declared.reply.Reply.TheVariants as replies
 use Rattle.vm_ids.specs.declared.reply.Trouble.TheVariants as troubles
-use Rattle.vm_model.specs.Machine.{Cache, Machine, cache_of}
-use Rattle.vm_model.specs.Outcome.{IsNotRefused}
+use Rattle.interface_callers.proofs.Words.{Cache, IsNotRefused, Machine, cache_of}
 use Rattle.interface_callers.proofs.Lists.{get_last, or_false}
 use Rattle.transit_ipc.specs.Answering.{Answered, empty_port, make_port_of, refuse, unless}
 use Rattle.transit_ipc.specs.Calling.{IsMade}

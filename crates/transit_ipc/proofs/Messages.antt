@@ -3,10 +3,9 @@ use Rattle.std.proofs.Common.{◌≡◌, ◌≢◌, inl, inr, ◌==◌, ℕ, suc
 use Rattle.std.specs.Prelude.{◌||◌, slice_get}
 use Rattle.std.specs.List.{list_any}
 use Rattle.std.specs.Option.{option_map_or}
-use Rattle.vm_ids.specs.declared.numbers.CacheId.{CacheId}
 use Rattle.vm_ids.proofs.Places.{same_number}
-use Rattle.vm_model.specs.Machine.{Cache, Machine, cache_of}
 use Rattle.vm_model.proofs.Parts.ListParts.{numbered_past}
+use Rattle.interface_callers.proofs.Words.{Cache, CacheId, Machine, cache_of}
 use Rattle.interface_callers.proofs.Lists.{any_at, either, map_same}
 use Rattle.std.proofs.lemmas.Bool.{eqb-true}
 use Rattle.transit_ipc.specs.Inner.{shown}

@@ -4,19 +4,11 @@ use Rattle.std.specs.Prelude.{◌||◌, Ok, Err, Result, is_some, nat_lt, option
 use Rattle.std.specs.Option.{option_map_or}
 use Rattle.std.proofs.lemmas.Bool.Decides.{nat_tests}
 use Rattle.std.proofs.lemmas.List.{length-drop, length-map, length-replicate, length-take-le, set-set}
-use Rattle.vm_ids.specs.Counting.{MapperCounts}
-use Rattle.vm_ids.specs.Held.{Segments}
 use Rattle.vm_ids.specs.declared.command.Command.TheVariants as commands
-use Rattle.vm_ids.specs.declared.command.Span.{Span}
 use Rattle.vm_ids.specs.declared.refusal.Refusal.TheVariants as refusals
 use Rattle.vm_ids.specs.declared.reply.Reply.TheVariants as replies
-use Rattle.vm_ids.specs.declared.reply.Trouble.{Trouble}
-use Rattle.vm_model.specs.Answering.{Answer, Answered, is_any_denied, is_any_locked, move_of, overlaps_itself, passes_an_end, passes_end, put_cache, put_pages, put_span, reply, unless, with_some, zero_source}
-use Rattle.vm_model.specs.Machine.{Cache, Machine, Page, cache_of, is_locked_page, zero_page}
-use Rattle.vm_model.specs.Outcome.{IsNotRefused, OutcomeAt, blank, blank_cache}
-use Rattle.vm_model.specs.PageForest.{PageForest}
 use Rattle.vm_model.proofs.Parts.Lists.{length-overwrite}
-use Rattle.gmi_calls.specs.Calling.{done_by}
+use Rattle.interface_callers.proofs.Words.{Answer, Answered, Cache, IsNotRefused, Machine, MapperCounts, OutcomeAt, Page, PageForest, Segments, Span, Trouble, blank, blank_cache, cache_of, done_by, is_any_denied, is_any_locked, is_locked_page, move_of, overlaps_itself, passes_an_end, passes_end, put_cache, put_pages, put_span, reply, unless, with_some, zero_page, zero_source}
 use Rattle.interface_callers.proofs.Alike.{AllTemporary, HasShape, IsLike, blank_shape, shape_back, shape_cache, shape_put, shape_self, shape_then, still_temporary, whole_shape}
 use Rattle.interface_callers.proofs.Blanks.{as_many, blank_at, blank_span, blank_without, emptied, whole_cache, without}
 use Rattle.interface_callers.proofs.Answers.{alike_done}

@@ -1,24 +1,15 @@
 -- Commands that are passed on to the manager: its machine answers as that of the ports does.
 use Rattle.std.proofs.Common.{◌≡◌, ℕ, false, List, length, map, Option, Some, None, refl, sym, ap, subst, ◌∙◌}
 use Rattle.std.specs.Prelude.{Ok, Err}
-use Rattle.vm_ids.specs.Counting.{MapperCounts}
-use Rattle.vm_ids.specs.Held.{Segments}
-use Rattle.vm_ids.specs.declared.command.Command.{Command}
 use Rattle.vm_ids.specs.declared.command.Command.TheVariants.{Load, MakeActor, MakeTemp, Map, PageOut, Store}
-use Rattle.vm_ids.specs.declared.command.Mapping.{Mapping}
 use Rattle.vm_ids.specs.declared.command.PortCommand.TheVariants.{Plain}
-use Rattle.vm_ids.specs.declared.numbers.ActorId.{ActorId}
-use Rattle.vm_ids.specs.declared.reply.FaultAt.{FaultAt}
 use Rattle.vm_ids.specs.declared.reply.Trouble.TheVariants as troubles
 use Rattle.vm_model.specs.Answering as plain
-use Rattle.vm_model.specs.Answering.{Answer, overwrite, page_at, put_cache, put_page}
-use Rattle.vm_model.specs.Machine.{Cache, Machine}
 use Rattle.vm_model.specs.Outcome as plain_outcome
-use Rattle.vm_model.specs.Outcome.{IsNotRefused, MayLackMemory, NotRefusedButFor}
-use Rattle.vm_model.specs.PageForest.{PageForest, forest_shown}
 use Rattle.vm_model.proofs.Outcomes.Rows.{each_unless}
 use Rattle.vm_model.proofs.Parts.ListParts.{numbered_set_other}
 use Rattle.vm_model.proofs.Parts.Lists.{numbered_place}
+use Rattle.interface_callers.proofs.Words.{ActorId, Answer, Cache, Command, FaultAt, IsNotRefused, Machine, MapperCounts, Mapping, MayLackMemory, NotRefusedButFor, PageForest, Segments, forest_shown, overwrite, page_at, put_cache, put_page}
 use Rattle.interface_callers.proofs.Hiding.{actor_lifts, lift, load_faults, load_lifts, map_lifts, page_out_faults, store_faults, store_lifts, visible}
 use Rattle.interface_callers.proofs.Rows.{actor_row, load_row, map_row, outcome_next, store_row}
 use Rattle.transit_ipc.specs.Answering.{Answered, plain_of, unless, within}

@@ -3,24 +3,13 @@ use Rattle.std.proofs.Common.{◌≡◌, ◌⊎◌, ℕ, suc, ◌^◌, ◌<◌, 
 use Rattle.std.specs.Prelude.{Ok, Err, Result, slice_get}
 use Rattle.std.specs.List.{list_any}
 use Rattle.std.specs.VecDeque.{deque_capacity}
-use Rattle.vm_ids.specs.Held.{segments_of}
 use Rattle.vm_ids.specs.declared.command.Command.TheVariants as vm_commands
 use Rattle.vm_ids.specs.declared.command.PortCommand.{PortCommand}
 use Rattle.vm_ids.specs.declared.command.PortCommand.TheVariants as commands
-use Rattle.vm_ids.specs.declared.numbers.CacheId.{CacheId}
-use Rattle.vm_ids.specs.declared.numbers.PageNo.{PageNo}
-use Rattle.vm_ids.specs.declared.numbers.PortId.{PortId}
-use Rattle.vm_ids.specs.declared.refusal.Refusal.{Refusal}
 use Rattle.vm_ids.specs.declared.refusal.Refusal.TheVariants as refusals
 use Rattle.vm_ids.specs.declared.reply.Reply.TheVariants as replies
-use Rattle.vm_ids.specs.declared.reply.Trouble.{Trouble}
 use Rattle.vm_ids.specs.declared.reply.Trouble.TheVariants as troubles
-use Rattle.vm_model.specs.Answering.{Answer, is_mapped, maps_in, put_cache}
-use Rattle.vm_model.specs.Machine.{Actor, Machine}
-use Rattle.vm_port.specs.declared.traits.mapper.Mapper.{Ghosts as GhostsOfMapper}
-use Rattle.gmi_calls.specs.Calling.{Fits, MapperCall, done_by}
-use Rattle.gmi_calls.specs.Managing.{meanings_of}
-use Rattle.gmi_calls.specs.declared.gmi.Gmi.{Ghosts as GhostsOfGmi}
+use Rattle.interface_callers.proofs.Words.{Actor, Answer, CacheId, Fits, GhostsOfGmi, GhostsOfMapper, Machine, MapperCall, PageNo, PortId, Refusal, Trouble, done_by, is_mapped, maps_in, meanings_of, put_cache, segments_of}
 use Rattle.interface_callers.proofs.Alike.{shape_cache, still_temporary}
 use Rattle.interface_callers.proofs.Blanks.{without}
 use Rattle.interface_callers.proofs.Rows.{RowIs}

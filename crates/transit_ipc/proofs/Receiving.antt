@@ -4,24 +4,13 @@ use Rattle.std.specs.Prelude.{Ok, Err, Result, option_map, slice_get}
 use Rattle.std.specs.Option.{option_map_or}
 use Rattle.std.proofs.lemmas.List.{take_all}
 use Rattle.std.proofs.lemmas.Option.{slice_get-map}
-use Rattle.vm_ids.specs.Counting.{MapperCounts}
-use Rattle.vm_ids.specs.Held.{Segments}
 use Rattle.vm_ids.specs.declared.command.PortCommand.{PortCommand}
 use Rattle.vm_ids.specs.declared.command.PortCommand.TheVariants as commands
-use Rattle.vm_ids.specs.declared.command.Span.{Span}
-use Rattle.vm_ids.specs.declared.numbers.CacheId.{CacheId}
-use Rattle.vm_ids.specs.declared.numbers.PageNo.{PageNo}
-use Rattle.vm_ids.specs.declared.numbers.PortId.{PortId}
-use Rattle.vm_ids.specs.declared.refusal.Refusal.{Refusal}
 use Rattle.vm_ids.specs.declared.refusal.Refusal.TheVariants as refusals
 use Rattle.vm_ids.specs.declared.reply.Reply.TheVariants as replies
-use Rattle.vm_ids.specs.declared.reply.Trouble.{Trouble}
 use Rattle.vm_ids.specs.declared.reply.Trouble.TheVariants as troubles
 use Rattle.vm_model.specs.Answering as plain
-use Rattle.vm_model.specs.Answering.{is_any_denied, is_any_locked, passes_end, put_cache, put_pages, put_span}
-use Rattle.vm_model.specs.Machine.{Cache, Machine, Page, cache_of}
-use Rattle.vm_model.specs.Outcome.{IsNotRefused}
-use Rattle.gmi_calls.specs.Calling.{done_by}
+use Rattle.interface_callers.proofs.Words.{Cache, CacheId, IsNotRefused, Machine, MapperCounts, Page, PageNo, PortId, Refusal, Segments, Span, Trouble, cache_of, done_by, is_any_denied, is_any_locked, passes_end, put_cache, put_pages, put_span}
 use Rattle.interface_callers.proofs.Alike.{AllTemporary}
 use Rattle.interface_callers.proofs.Blanks.{without}
 use Rattle.interface_callers.proofs.Rows.{RowIs}

@@ -4,10 +4,9 @@ use Rattle.std.specs.Prelude.{IsSome, slice_get}
 use Rattle.std.specs.VecDeque.{deque_capacity}
 use Rattle.std.proofs.lemmas.Bool.{cases_eq}
 use Rattle.std.proofs.lemmas.List.{drop-map, length-drop, length-set, map-set}
-use Rattle.vm_model.specs.Answering.{put_cache}
-use Rattle.vm_model.specs.Machine.{Cache, Machine, cache_of}
 use Rattle.vm_model.proofs.Parts.ListParts.{numbered_set, numbered_set_other}
 use Rattle.vm_model.proofs.Parts.Lists.{numbered_place}
+use Rattle.interface_callers.proofs.Words.{Cache, Machine, cache_of, put_cache}
 use Rattle.interface_callers.proofs.Blanks.{without}
 use Rattle.interface_callers.proofs.Hiding.{put_seen}
 use Rattle.transit_ipc.specs.Answering.{without_first}

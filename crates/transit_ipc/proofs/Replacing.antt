@@ -4,8 +4,8 @@ use Rattle.std.specs.Prelude.{◌||◌, slice_get}
 use Rattle.std.specs.List.{list_any}
 use Rattle.std.proofs.lemmas.Bool.{cases_eq}
 use Rattle.std.proofs.lemmas.Option.{slice_get_within}
-use Rattle.vm_model.specs.Machine.{Cache}
 use Rattle.vm_model.proofs.Parts.Lists.{get_set_other, get_set_same}
+use Rattle.interface_callers.proofs.Words.{Cache}
 use Rattle.interface_callers.proofs.Lists.{any_at}
 use Rattle.transit_ipc.specs.Seen.{but_for}
 use Rattle.transit_ipc.specs.Transit.{is_transit, waits_in}

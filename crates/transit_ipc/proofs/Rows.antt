@@ -1,7 +1,7 @@
 -- A fact of each answer of a row, from the fact of its refusals and of its end; and which of them
 -- it is.
 use Rattle.std.proofs.Common.{◌≡◌, Bool, true, false, Option, Some, None, refl}
-use Rattle.vm_ids.specs.declared.refusal.Refusal.{Refusal}
+use Rattle.interface_callers.proofs.Words.{Refusal}
 use Rattle.transit_ipc.specs.Answering.{Answered, refuse, unless, with_some}
 use Rattle.transit_ipc.specs.PortMachine.{PortMachine}
 

@@ -4,24 +4,14 @@ use Rattle.std.specs.Prelude.{◌&&◌, IsSome, Ok, Err, Result, nat_le, nat_lt,
 use Rattle.std.proofs.lemmas.Bool.Decides.{nat_tests}
 use Rattle.std.proofs.lemmas.List.{length-drop, length-map, length-take-le}
 use Rattle.std.proofs.lemmas.Option.{slice_get-map, slice_get_past}
-use Rattle.vm_ids.specs.Counting.{MapperCounts}
-use Rattle.vm_ids.specs.Held.{Segments}
-use Rattle.vm_ids.specs.declared.command.Extent.{Extent}
 use Rattle.vm_ids.specs.declared.command.PortCommand.{PortCommand}
 use Rattle.vm_ids.specs.declared.command.PortCommand.TheVariants as commands
-use Rattle.vm_ids.specs.declared.command.Span.{Span}
-use Rattle.vm_ids.specs.declared.numbers.CacheId.{CacheId}
-use Rattle.vm_ids.specs.declared.numbers.PortId.{PortId}
-use Rattle.vm_ids.specs.declared.refusal.Refusal.{Refusal}
 use Rattle.vm_ids.specs.declared.refusal.Refusal.TheVariants as refusals
 use Rattle.vm_ids.specs.declared.reply.Reply.TheVariants as replies
-use Rattle.vm_ids.specs.declared.reply.Trouble.{Trouble}
 use Rattle.vm_ids.specs.declared.reply.Trouble.TheVariants as troubles
 use Rattle.vm_model.specs.Answering as plain
-use Rattle.vm_model.specs.Answering.{is_mapped, maps_in, passes_end, put_pages, put_span}
-use Rattle.vm_model.specs.Machine.{Actor, Cache, Machine, Page, Region, cache_of, is_locked_page, locks, locks_any}
 use Rattle.vm_model.proofs.Parts.ListParts.{numbered_past, numbered_push}
-use Rattle.gmi_calls.specs.Calling.{done_by}
+use Rattle.interface_callers.proofs.Words.{Actor, Cache, CacheId, Extent, Machine, MapperCounts, Page, PortId, Refusal, Region, Segments, Span, Trouble, cache_of, done_by, is_locked_page, is_mapped, locks, locks_any, maps_in, passes_end, put_pages, put_span}
 use Rattle.interface_callers.proofs.Copies.{MayCopy, copied, copy_row}
 use Rattle.interface_callers.proofs.Rows.{RowIs}
 use Rattle.interface_callers.proofs.Lists.{any_at, none_any, overwritten}

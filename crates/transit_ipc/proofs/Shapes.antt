@@ -3,9 +3,8 @@ use Rattle.std.proofs.Common.{ℕ, Bool, true, false, cond, List, Option, None, 
 use Rattle.std.specs.Bool.{IsTrue}
 use Rattle.std.specs.List.{list_any}
 use Rattle.std.specs.Prelude.{IsSome}
-use Rattle.vm_model.specs.Answering.{maps_in}
-use Rattle.vm_model.specs.Machine.{Actor, Cache, Machine, cache_of}
 use Rattle.vm_model.proofs.Parts.Lists.{is_there}
+use Rattle.interface_callers.proofs.Words.{Actor, Cache, Machine, cache_of, maps_in}
 use Rattle.interface_callers.proofs.Alike.{HasShape, shape_cache, still_temporary}
 use Rattle.transit_ipc.specs.Seen.{memory_seen}
 use Rattle.transit_ipc.specs.Transit.{is_transit}

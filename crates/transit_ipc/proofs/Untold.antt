@@ -2,18 +2,10 @@
 use Rattle.std.proofs.Common.{◌≡◌, ℕ, ◌+◌, Bool, true, false, List, [], ◌∷◌, Option, Some, None, refl, sym, ap, subst, ◌∙◌}
 use Rattle.std.specs.Prelude.{All, IsSome, option_and_then, slice_get}
 use Rattle.std.proofs.lemmas.List.Elements.{All-cons, All-head, All-tail}
-use Rattle.vm_ids.specs.Counting.{MapperCounts}
-use Rattle.vm_ids.specs.Held.{Segments}
-use Rattle.vm_ids.specs.declared.command.Command.{Command}
 use Rattle.vm_ids.specs.declared.command.PortCommand.{PortCommand}
 use Rattle.vm_ids.specs.declared.command.PortCommand.TheVariants.{Plain}
-use Rattle.vm_model.specs.Answering.{Answer}
-use Rattle.vm_model.specs.Machine.{Cache, Machine, cache_named}
 use Rattle.vm_model.specs.Outcome as plain
-use Rattle.vm_model.specs.Outcome.{HasWholePages, IsAlike, IsWhole, OutcomeAt, blank}
-use Rattle.vm_model.specs.PageForest.{PageForest}
-use Rattle.vm_model.specs.Pushing.{PushRule, page_named}
-use Rattle.gmi_calls.specs.Untold.{UntoldStep}
+use Rattle.interface_callers.proofs.Words.{Answer, Cache, Command, HasWholePages, IsAlike, IsWhole, Machine, MapperCounts, OutcomeAt, PageForest, PushRule, Segments, UntoldStep, blank, cache_named, page_named}
 use Rattle.interface_callers.proofs.Naming.{after_none, named_cache}
 use Rattle.transit_ipc.specs.Outcome.{Outcome}
 use Rattle.transit_ipc.specs.Seen.{but_for, ports_seen}
