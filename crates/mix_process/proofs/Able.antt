@@ -1,23 +1,17 @@
 -- The processes can go on calling the manager after a call of it.
-use Rattle.std.proofs.Common.{◌≡◌, ◌≢◌, inl, inr, ℕ, ◌-◌, ◌≤◌, true, List, length, set, Option, Some, None, refl, sym, ap, subst, ◌∙◌}
+use Rattle.std.proofs.Common.{◌≡◌, ◌≢◌, inl, inr, ℕ, ◌-◌, ◌≤◌, true, List, length, set, Option, Some, None, refl, sym, ap, ◌∙◌}
 use Rattle.std.specs.Prelude.{slice_get}
 use Rattle.std.proofs.lemmas.Bool.{cases_eq}
 use Rattle.std.proofs.lemmas.Option.{slice_get_within}
-use Rattle.vm_ids.specs.Held.{Held, segments_of}
-use Rattle.vm_ids.specs.declared.command.Command.{Command}
-use Rattle.vm_model.specs.Answering.{Answer}
-use Rattle.vm_model.specs.Machine.{Cache, Machine, Page, actor_of, cache_of}
 use Rattle.vm_model.specs.Run.{CallIs}
 use Rattle.vm_model.specs.Run as vm_run
-use Rattle.vm_model.specs.declared.limits.TheConstants.{MOST_MADE}
-use Rattle.vm_model.proofs.Outcomes.Kept.{IsKept, kept}
+use Rattle.vm_model.proofs.Outcomes.Kept.{IsKept}
 use Rattle.vm_model.proofs.Parts.Lists.{get_set_same, numbered_place}
-use Rattle.vm_port.specs.declared.traits.mapper.Mapper.{Ghosts as GhostsOfMapper}
-use Rattle.gmi_calls.specs.Calling.{MapperCall}
-use Rattle.gmi_calls.specs.Managing.{meanings_of}
-use Rattle.gmi_calls.specs.Room.{CallWithin}
-use Rattle.gmi_calls.specs.declared.gmi.Gmi.{Ghosts as GhostsOfGmi}
+use Rattle.vm_model.proofs.Parts.ListParts.{numbered_set_other}
 use Rattle.gmi_calls.proofs.Living.{stays_few}
+use Rattle.interface_callers.proofs.Words.{Answer, Cache, Command, GhostsOfGmi, GhostsOfMapper, Held, Machine, MapperCall, MOST_MADE, Page, actor_of, cache_of, meanings_of, segments_of}
+use Rattle.interface_callers.proofs.Lists.{all_at, number_at}
+use Rattle.interface_callers.proofs.Calls as calls
 use Rattle.mix_process.specs.Inner.{AreApart, AreOwn, spare_of}
 use Rattle.mix_process.specs.ProcessMachine.{may_write}
 use Rattle.mix_process.specs.Seen.{cache_pages}
@@ -26,30 +20,25 @@ use Rattle.mix_process.specs.declared.mix.Image.{Image}
 use Rattle.mix_process.specs.declared.process.Part.{Part}
 use Rattle.mix_process.specs.declared.process.Process.{Process}
 use Rattle.mix_process.proofs.Clearing.{run_kept}
-use Rattle.mix_process.proofs.Lists.{number_at}
 use Rattle.mix_process.proofs.Pushes.{segments_stay, still_synchronised}
-use Rattle.mix_process.proofs.Putting.{all_at, number_other}
-use Rattle.mix_process.proofs.Single.{fits_still, unlimited_still}
 use Rattle.mix_process.proofs.Storing.{own_cache}
-use Rattle.mix_process.proofs.Untold.{blank_after}
+
+pub sync_alike : (m n : Machine) (images : List Image) (told : Option Held) → ((i : ℕ) (image : Image) → slice_get images i ≡ Some image → cache_pages n image.cache.0 ≡ cache_pages m image.cache.0) → AreSynchronised m images told → AreSynchronised n images told
+sync_alike m n images None alike sync = tt
+sync_alike m n images (Some h) alike sync = λ i image e. sync i image e ∙ ap (λ (pages : List Page). Some pages) (sym (alike i image e))
 
 module _ {Manager X Chooser : Type 0} (M : GhostsOfMapper X) (G : GhostsOfGmi Manager X Chooser) (old gmi : Manager) (before after : X) (c : Command) (a : Answer) (images : List Image) (made : ℕ)
     (processes : ℕ → Option Process) (spare : ℕ → Type 0) (can : AreAble G old images (M.held before) (M.page_bytes before) made processes spare) (call : MapperCall M (meanings_of G) before old c a after gmi) where
   abbrev pub is_call : CallIs (M.counts before) (M.counts after) (vm_run.state_of G.machine G.forest old (M.held before)) c a (vm_run.state_of G.machine G.forest gmi (M.held after))
-  is_call = subst (λ (room : Option ℕ). CallWithin room (M.counts before) (M.counts after) (vm_run.state_of G.machine G.forest old (M.held before)) c a (vm_run.state_of G.machine G.forest gmi (M.held after))) can.unlimited call.answers
+  is_call = calls.call_is M G old gmi before after c a can.unlimited call
 
   pub keeps_sizes : IsKept (G.machine old (M.held before)) c a (G.machine gmi (M.held after))
-  keeps_sizes = kept (segments_of (M.held after)) (G.machine old (M.held before)) (G.machine gmi (M.held after)) (G.forest old (M.held before)) c a is_call.rises is_call.is.outcome
-
-  sync_images : (told : Option Held) → ((i : ℕ) (image : Image) → slice_get images i ≡ Some image → cache_pages (G.machine gmi (M.held after)) image.cache.0 ≡ cache_pages (G.machine old (M.held before)) image.cache.0)
-      → AreSynchronised (G.machine old (M.held before)) images told → AreSynchronised (G.machine gmi (M.held after)) images told
-  sync_images None alike sync = tt
-  sync_images (Some h) alike sync = λ i image e. sync i image e ∙ ap (λ (pages : List Page). Some pages) (sym (alike i image e))
+  keeps_sizes = calls.keeps M G old gmi before after c a can.unlimited call
 
   -- the images are as the segments hold them
   pub sync_after : ((i : ℕ) (image : Image) → slice_get images i ≡ Some image → cache_pages (G.machine gmi (M.held after)) image.cache.0 ≡ cache_pages (G.machine old (M.held before)) image.cache.0)
       → AreSynchronised (G.machine gmi (M.held after)) images (M.held after)
-  sync_after alike = sync_images (M.held after) alike (still_synchronised (G.machine old (M.held before)) processes spare images can.tied (M.held before) (M.held after) is_call.pushes is_call.is.pushed can.synchronised)
+  sync_after alike = sync_alike (G.machine old (M.held before)) (G.machine gmi (M.held after)) images (M.held after) alike (still_synchronised (G.machine old (M.held before)) processes spare images can.tied (M.held before) (M.held after) is_call.pushes is_call.is.pushed can.synchronised)
 
   -- no segment changes
   pub segments_after : segments_of (M.held after) ≡ segments_of (M.held before)
@@ -60,15 +49,15 @@ module _ {Manager X Chooser : Type 0} (M : GhostsOfMapper X) (G : GhostsOfGmi Ma
       → AreAble G gmi images' (M.held after) (M.page_bytes after) made' processes' spare'
   able_after images' made' processes' spare' few most tied sync = record {
     valid = call.valid;
-    unlimited = unlimited_still (G.room old) (G.room gmi) can.unlimited call.room;
-    fits = fits_still (M.page_bytes before) (M.page_bytes after) (G.machine old (M.held before)) (G.machine gmi (M.held after)) call.page keeps_sizes.page can.fits;
+    unlimited = calls.unlimited_after M G old gmi before after c a can.unlimited call;
+    fits = calls.fits_after M G old gmi before after c a can.unlimited call can.fits;
     live = keeps_sizes.live can.live;
     living = stays_few (segments_of (M.held after)) (G.machine old (M.held before)) (G.machine gmi (M.held after)) (G.forest old (M.held before)) c a is_call.rises is_call.is.outcome can.living;
     few = few;
     most = most;
     tied = tied;
     synchronised = sync;
-    blank = blank_after (M.held after) (G.machine old (M.held before)) (G.machine gmi (M.held after)) (G.forest old (M.held before)) c a is_call.rises is_call.is.outcome;
+    blank = calls.blank_then M G old gmi before after c a can.unlimited call;
   }
 
 -- The same processes under other numbers
@@ -129,7 +118,7 @@ module _ (m : Machine) (processes others : ℕ → Option Process) (images : Lis
   actor_gone = number_at (set m.actors (p.actor.0 - 1) None) p.actor.0 None at.0 (get_set_same m.actors (p.actor.0 - 1) None (slice_get_within m.actors (p.actor.0 - 1) (Some run.regions) at.1))
 
   actor_kept : (k : ℕ) → k ≢ p.actor.0 → actor_of (ended m p.actor.0) k ≡ actor_of m k
-  actor_kept k other = number_other m.actors p.actor.0 k None at.0 other
+  actor_kept k other = numbered_set_other m.actors p.actor.0 k None at.0 other
 
   owner : (j : ℕ) (part : Part) (cache : ℕ) → slice_get p.parts.items j ≡ Some part → may_write part.area ≡ true → part.cache.0 ≡ cache → Owns processes n0 j cache
   owner j part cache found own is = record { process = p; part = part; there = alive; has = found; own = own; is = is }

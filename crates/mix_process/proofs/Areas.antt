@@ -6,15 +6,15 @@ use Rattle.std.proofs.lemmas.Bool.Decides.{nat_tests}
 use Rattle.std.proofs.lemmas.List.{length-append, length-replicate, length-set}
 use Rattle.std.proofs.lemmas.Option.{slice_get_within}
 use Rattle.vm_ids.specs.declared.refusal.Refusal.TheVariants as refusals
-use Rattle.vm_model.specs.Answering.{overwrite}
-use Rattle.vm_model.specs.Machine.{Page}
 use Rattle.vm_model.proofs.Parts.Lists.{get_set_other, get_set_same}
+use Rattle.interface_callers.proofs.Words.{Page, overwrite}
+use Rattle.interface_callers.proofs.Lists.{get_append}
 use Rattle.mix_process.specs.Laws.{byte_in}
 use Rattle.mix_process.specs.ProcessMachine.{Place, Process, area_at, area_start, is_within, pages_of, place_in, place_of, with_pages}
 use Rattle.mix_process.specs.Answering.{grown_by, page_at, written_at}
 use Rattle.mix_process.specs.declared.area.Area.{Area}
 use Rattle.mix_process.specs.declared.area.Area.TheVariants.{Data, Stack, Text}
-use Rattle.mix_process.proofs.Lists.{get_append, get_behind, get_front}
+use Rattle.mix_process.proofs.Lists.{get_behind, get_front}
 
 -- the areas in the order in which they are asked
 abbrev pub area_by : Bool → Bool → Bool → Option Area

@@ -3,11 +3,8 @@ use Rattle.std.proofs.Common.{◌≡◌, ◌⊎◌, inl, inr, ◌==◌, ℕ, ◌
 use Rattle.std.specs.Prelude.{Err}
 use Rattle.std.proofs.lemmas.Bool.Decides.{nat_tests}
 use Rattle.std.proofs.lemmas.List.{length-append}
-use Rattle.vm_ids.specs.declared.reply.Trouble.{Trouble}
-use Rattle.vm_model.specs.Machine.{numbered}
 use Rattle.vm_model.proofs.Parts.Lists.{numbered_place}
-use Rattle.vm_port.specs.declared.traits.mapper.Mapper.{Ghosts as GhostsOfMapper}
-use Rattle.gmi_calls.specs.declared.gmi.Gmi.{Ghosts as GhostsOfGmi}
+use Rattle.interface_callers.proofs.Words.{GhostsOfGmi, GhostsOfMapper, Trouble, numbered}
 use Rattle.mix_process.specs.Inner.{IsEnded, with_extra}
 use Rattle.mix_process.specs.Starting.{IsTakenBack}
 use Rattle.mix_process.specs.Seen.{processes_seen}

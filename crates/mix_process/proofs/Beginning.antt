@@ -1,14 +1,11 @@
 -- No processes over a bare manager can be called.
 use Rattle.std.proofs.Common.{◌≡◌, ◌==◌, ℕ, ◌≤◌, Bool, true, false, cond, List, [], length, Option, Some, None, refl, sym, ap, subst, ◌∙◌, arith}
 use Rattle.std.specs.Prelude.{option_and_then, slice_get}
-use Rattle.vm_ids.specs.Held.{Held}
-use Rattle.vm_model.specs.Machine.{Actor, Cache, Machine, live_pages, living_actors, numbered}
-use Rattle.vm_model.specs.declared.limits.TheConstants.{LIVE_PAGES, LIVING_ACTORS}
-use Rattle.gmi_calls.specs.declared.gmi.Gmi.{Ghosts as GhostsOfGmi}
+use Rattle.interface_callers.proofs.Words.{Actor, Cache, GhostsOfGmi, Held, LIVE_PAGES, LIVING_ACTORS, Machine, live_pages, living_actors, numbered}
+use Rattle.interface_callers.proofs.Blanks.{blank_bare}
 use Rattle.mix_process.specs.Tying.{AreAble, AreSynchronised, AreTied, IsBare, none_spare}
 use Rattle.mix_process.specs.declared.mix.Image.{Image}
 use Rattle.mix_process.specs.declared.process.Process.{Process}
-use Rattle.mix_process.proofs.Untold.{blank_bare}
 
 nothing : {A : Type 0} (b : Bool) → cond b None (option_and_then {T = Option A} (λ x. x) None) ≡ None
 nothing true = refl

@@ -1,27 +1,17 @@
 -- A process is begun: it has an actor, and no parts.
-use Rattle.std.proofs.Common.{◌≡◌, ◌⊎◌, inl, inr, ℕ, ◌+◌, ◌-◌, ◌*◌, ◌≤◌, ◌<◌, Bool, true, false, List, [], ◌∷◌, ◌++◌, length, Option, Some, None, Vec, Global, refl, sym, ap, subst, ◌∙◌, arith}
+use Rattle.std.proofs.Common.{◌≡◌, ◌⊎◌, inl, inr, ℕ, ◌+◌, ◌-◌, ◌*◌, ◌≤◌, ◌<◌, false, List, [], ◌∷◌, ◌++◌, length, Option, Some, None, Vec, Global, refl, sym, ap, subst, ◌∙◌, arith}
 use Rattle.std.specs.Prelude.{◌||◌, Ok, Err, nat_le}
 use Rattle.std.proofs.lemmas.Bool.Decides.{nat_tests}
 use Rattle.std.proofs.lemmas.List.{length-append}
-use Rattle.vm_ids.specs.Counting.{MapperCounts, no_counts}
-use Rattle.vm_ids.specs.Held.{Held, Segments, segments_of}
 use Rattle.vm_ids.specs.declared.command.Command.TheVariants as vm_commands
-use Rattle.vm_ids.specs.declared.numbers.ActorId.{ActorId}
 use Rattle.vm_ids.specs.declared.refusal.Refusal.TheVariants as refusals
 use Rattle.vm_ids.specs.declared.reply.Reply.TheVariants as replies
-use Rattle.vm_ids.specs.declared.reply.Trouble.{Trouble}
 use Rattle.vm_ids.specs.declared.reply.Trouble.TheVariants as troubles
 use Rattle.vm_model.specs.Answering as vm
-use Rattle.vm_model.specs.Answering.{Answer}
-use Rattle.vm_model.specs.Machine.{Machine, live_pages, living_actors, numbered}
-use Rattle.vm_model.specs.Outcome.{IsAlike, Outcome, OutcomeAt, blank}
-use Rattle.vm_model.specs.PageForest.{PageForest}
 use Rattle.vm_model.specs.Run as vm_run
 use Rattle.vm_model.specs.Run.{AnswerIs}
-use Rattle.vm_model.specs.declared.limits.TheConstants.{LIVING_ACTORS, MOST_MADE}
-use Rattle.gmi_calls.specs.Calling.{CallDone, RaisesMade}
-use Rattle.gmi_calls.specs.Managing.{meanings_of}
-use Rattle.gmi_calls.specs.declared.gmi.Gmi.{Ghosts as GhostsOfGmi}
+use Rattle.interface_callers.proofs.Words.{ActorId, Answer, CallDone, GhostsOfGmi, Held, IsAlike, LIVING_ACTORS, Machine, MapperCounts, MOST_MADE, Outcome, OutcomeAt, PageForest, RaisesMade, Segments, Trouble, blank, live_pages, living_actors, meanings_of, no_counts, numbered, segments_of}
+use Rattle.interface_callers.proofs.Lists.{one_of}
 use Rattle.mix_process.specs.Outcome.{Usage, usage_of}
 use Rattle.mix_process.specs.Seen.{cache_pages}
 use Rattle.mix_process.specs.Starting.{IsStarted, start_budget, usage_to_start}
@@ -29,7 +19,8 @@ use Rattle.mix_process.specs.Tying.{AreAble, AreTied, CanCall, none_spare}
 use Rattle.mix_process.specs.Use.{IsLack}
 use Rattle.mix_process.specs.declared.mix.Mix.{Mix}
 use Rattle.mix_process.specs.declared.process.Process.{Process}
-use Rattle.mix_process.proofs.Calls.{able_called, answered, sync_called}
+use Rattle.mix_process.proofs.Able.{sync_alike}
+use Rattle.mix_process.proofs.Calls.{able_called, answered}
 use Rattle.mix_process.proofs.Starting.{tied_started}
 use Rattle.mix_process.proofs.Passing.{actors_past, each_unless, living_past, passed_next}
 use Rattle.mix_process.proofs.Untold.{usage_blank}
@@ -51,10 +42,6 @@ pub record HasNoActor (m : Machine) (answer : Answer) (next : Machine) : Type 0 
 
 abbrev pub Making : Machine → Answer → Machine → Type 0
 Making m answer next = HasActor m answer next ⊎ HasNoActor m answer next
-
-one_of : (x y : Bool) → (x || y) ≡ true → (x ≡ true) ⊎ (y ≡ true)
-one_of true y e = inl refl
-one_of false y e = inr e
 
 fewer_by : (a b : ℕ) → (nat_le LIVING_ACTORS a || nat_le MOST_MADE b) ≡ false → b < MOST_MADE
 fewer_by a b e = grind (arith, nat_tests)
@@ -134,8 +121,7 @@ module _ {Manager X Chooser : Type 0} (G : GhostsOfGmi Manager X Chooser) (old :
   able table same few most tied =
       able_called G old.gmi gmi told page_bytes vm_commands.MakeActor a old.images.items (length old.processes.items) (numbered old.processes.items) none_spare can called
       old.images.items (length table) (numbered table) none_spare few most tied
-      (sync_called G old.gmi gmi told page_bytes vm_commands.MakeActor a old.images.items (length old.processes.items) (numbered old.processes.items) none_spare can called
-      (λ i image e. ap (λ caches. cache_pages (record m { caches = caches }) image.cache.0) same))
+      (sync_alike (G.machine old.gmi told) (G.machine gmi told) old.images.items told (λ i image e. ap (λ caches. cache_pages (record m { caches = caches }) image.cache.0) same) can.synchronised)
 
   abbrev with_table : Vec (Option Process) Global → Mix Manager
   with_table table = record old { gmi = gmi; processes = table }

@@ -2,15 +2,10 @@
 use Rattle.std.proofs.Common.{◌≡◌, ℕ, ◌+◌, ◌*◌, ◌^◌, ◌≤◌, ◌<◌, Bool, true, false, cond, List, [], ◌∷◌, ◌++◌, length, set, take, drop, replicate, Option, Some, None, refl, sym, ap, subst, ◌∙◌, arith}
 use Rattle.std.specs.Prelude.{Ok, Err, Result, option_map, slice_get}
 use Rattle.std.proofs.lemmas.List.{length-append, length-drop, length-map, length-take-le}
-use Rattle.vm_ids.specs.Counting.{MapperCounts, Rise, counts_sum, no_counts}
-use Rattle.vm_ids.specs.Held.{Held, segments_of}
-use Rattle.vm_ids.specs.declared.reply.Trouble.{Trouble}
-use Rattle.vm_model.specs.Machine.{Machine, Page, cache_of, numbered}
-use Rattle.vm_model.specs.declared.limits.TheConstants.{LIVE_PAGES}
 use Rattle.vm_model.proofs.Parts.Lists.{get_set_same}
-use Rattle.vm_port.specs.declared.traits.mapper.Mapper.{Ghosts as GhostsOfMapper}
-use Rattle.gmi_calls.specs.declared.gmi.Gmi.{Ghosts as GhostsOfGmi}
 use Rattle.gmi_calls.proofs.Rising.{rise_none, rise_then}
+use Rattle.interface_callers.proofs.Words.{GhostsOfGmi, GhostsOfMapper, Held, LIVE_PAGES, Machine, MapperCounts, Page, Rise, Trouble, cache_of, counts_sum, no_counts, numbered, segments_of}
+use Rattle.interface_callers.proofs.Lists.{get_last}
 use Rattle.mix_process.specs.Adding.{AreKept, IsAdded, IsMapped, IsUnmapped, MapsPart, MayAdd, MayMap, Source, fresh_page, most_of, own_budget, put_at, usage_to_map, with_more}
 use Rattle.mix_process.specs.Inner.{spare_of}
 use Rattle.mix_process.specs.Loaded.{IsLoaded, MayLoad, loaded, usage_to_load}
@@ -30,7 +25,6 @@ use Rattle.mix_process.proofs.Able.{respared}
 use Rattle.mix_process.proofs.Fitted.{cache_few}
 use Rattle.mix_process.proofs.Inheriting.{set_again, set_last}
 use Rattle.mix_process.proofs.Joining.{map_place}
-use Rattle.mix_process.proofs.Lists.{get_last}
 use Rattle.mix_process.proofs.Looking.{pages-append}
 use Rattle.mix_process.proofs.Mapped.{spare_only}
 use Rattle.mix_process.proofs.Seeing.{pages_there}

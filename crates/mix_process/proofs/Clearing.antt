@@ -1,15 +1,15 @@
 -- How the ties change where actors and caches go.
-use Rattle.std.proofs.Common.{◌≡◌, ◌≢◌, ◌⊎◌, inl, inr, ◌==◌, ℕ, zero, suc, ◌+◌, ◌-◌, ◌≤◌, Bool, true, false, cond, List, [], ◌∷◌, length, set, Option, Some, None, refl, sym, ap, subst, ◌∙◌, arith}
-use Rattle.std.specs.Prelude.{◌||◌, nat_lt, option_map, slice_get}
-use Rattle.std.specs.List.{AllByRecursion, list_any}
+use Rattle.std.proofs.Common.{◌≡◌, ◌≢◌, ◌⊎◌, inl, inr, ◌==◌, ℕ, zero, suc, ◌+◌, ◌-◌, ◌≤◌, Bool, true, false, cond, List, [], ◌∷◌, length, Option, Some, None, refl, sym, ap, subst, ◌∙◌, arith}
+use Rattle.std.specs.Prelude.{nat_lt, option_map, slice_get}
+use Rattle.std.specs.List.{AllByRecursion}
 use Rattle.std.specs.Option.{option_map_or}
 use Rattle.std.proofs.lemmas.Bool.{cases_eq}
-use Rattle.std.proofs.lemmas.Bool.Decides.{nat_tests}
-use Rattle.std.proofs.lemmas.Option.{slice_get_within}
-use Rattle.vm_model.specs.Answering.{insert_region, is_mapped, maps_in}
-use Rattle.vm_model.specs.Machine.{Actor, Cache, Machine, Page, Region, actor_of, cache_of, numbered}
-use Rattle.vm_ids.specs.declared.command.Mapping.{Mapping}
-use Rattle.vm_model.proofs.Parts.Lists.{get_set_same, numbered_place}
+use Rattle.vm_ids.proofs.Places.{other_number}
+use Rattle.vm_model.proofs.Parts.Lists.{numbered_place}
+use Rattle.vm_model.proofs.Parts.ListParts.{numbered_set, numbered_set_other}
+use Rattle.interface_callers.proofs.Words.{Actor, Cache, Machine, Mapping, Page, Region, actor_of, cache_of, insert_region, is_mapped, maps_in, numbered}
+use Rattle.interface_callers.proofs.Lists.{all_at, get_append, get_last, map_same, none_any, number_at}
+use Rattle.interface_callers.proofs.Blanks.{without}
 use Rattle.mix_process.specs.ProcessMachine as model
 use Rattle.mix_process.specs.ProcessMachine.{may_write}
 use Rattle.mix_process.specs.Seen.{cache_pages, image_seen, process_seen, processes_seen}
@@ -20,8 +20,7 @@ use Rattle.mix_process.specs.declared.area.Area.TheVariants.{Data, Stack, Text}
 use Rattle.mix_process.specs.declared.mix.Image.{Image}
 use Rattle.mix_process.specs.declared.process.Part.{Part}
 use Rattle.mix_process.specs.declared.process.Process.{Process}
-use Rattle.mix_process.proofs.Lists.{get_append, get_last, number_at}
-use Rattle.mix_process.proofs.Putting.{all_at, map_same, number_other, process_same}
+use Rattle.mix_process.proofs.Putting.{process_same}
 
 -- Regions are of caches of parts
 
@@ -43,17 +42,6 @@ region_part (more before rs p r rest is) k x e = elim (inserted_one r rs k x e) 
   | inl same ↦ (length before, p, get_last before p, ap (λ (r : Region). r.cache) same ∙ ap (λ (q : Mapping). q.extent.cache.0) is.mapping)
   | inr f ↦ (let found = region_part rest f.0 x f.1 in (found.0, found.1, get_append before (p ∷ []) found.0 found.1 found.2, found.3))
 ]
-
-pub none_any : {A : Type 0} (p : A → Bool) (xs : List A) → ((i : ℕ) (x : A) → slice_get xs i ≡ Some x → p x ≡ false) → list_any p xs ≡ false
-none_any p [] h = refl
-none_any p (x ∷ xs) h = λ i. h 0 x refl i || none_any p xs (λ j y e. h (suc j) y e) i
-
-pub not_equal : (a b : ℕ) → a ≢ b → (a == b) ≡ false
-not_equal a b h = go (a == b) refl
-  where
-    go : (t : Bool) → (a == b) ≡ t → (a == b) ≡ false
-    go true e = absurd (h (grind (arith, nat_tests)))
-    go false e = e
 
 pub run_regions : (m : Machine) (p : Process) (run : IsRun m p) (actor : ℕ) (regions : Actor) → p.actor.0 ≡ actor → actor_of m actor ≡ Some regions → Some run.regions ≡ Some regions
 run_regions m p run actor regions e at = sym run.there ∙ ap (actor_of m) e ∙ at
@@ -92,7 +80,7 @@ module _ (m : Machine) (processes : ℕ → Option Process) (spare : ℕ → Typ
           let both : Some run.regions ≡ Some regions = run_regions m whose.1 run (i + 1) regions whose.3 at in
           let same : run.regions ≡ regions = cc in
           let found = region_part run.mapped k r (ap (λ (rs : Actor). slice_get rs k) same ∙ f) in
-          not_equal r.cache cache (λ q. part_kept whose.0 whose.1 found.0 found.1 cache whose.2 found.2 spared (sym found.3 ∙ q))
+          other_number r.cache cache (λ q. part_kept whose.0 whose.1 found.0 found.1 cache whose.2 found.2 spared (sym found.3 ∙ q))
 
       by_actor : (i : ℕ) (o : Option Actor) → slice_get m.actors i ≡ Some o → maps_in cache o ≡ false
       by_actor i None e = refl
@@ -109,18 +97,15 @@ module _ (m : Machine) (processes : ℕ → Option Process) (spare : ℕ → Typ
 
 -- The caches of a machine without one
 
-abbrev pub without : Machine → ℕ → Machine
-without m cache = record m { caches = set m.caches (cache - 1) None }
-
 module _ (m : Machine) (cache : ℕ) (c : Cache) (there : cache_of m cache ≡ Some c) where
   place : (1 ≤ cache) × (slice_get m.caches (cache - 1) ≡ Some (Some c))
   place = numbered_place m.caches cache c there
 
   pub gone : cache_of (without m cache) cache ≡ None
-  gone = number_at (set m.caches (cache - 1) None) cache None place.0 (get_set_same m.caches (cache - 1) None (slice_get_within m.caches (cache - 1) (Some c) place.1))
+  gone = numbered_set m.caches cache c None there
 
   pub kept_other : (k : ℕ) → k ≢ cache → cache_of (without m cache) k ≡ cache_of m k
-  kept_other k other = number_other m.caches cache k None place.0 other
+  kept_other k other = numbered_set_other m.caches cache k None place.0 other
 
   -- what is there then was there, and is another
   pub was_there : (k : ℕ) (d : Cache) → cache_of (without m cache) k ≡ Some d → (k ≢ cache) × (cache_of m k ≡ Some d)

@@ -2,8 +2,8 @@
 use Rattle.std.proofs.Common.{◌≡◌, ◌≢◌, ℕ, suc, ◌+◌, ◌*◌, ◌≤◌, ◌<◌, Bool, true, false, cond, List, [], ◌∷◌, ◌++◌, length, Some, refl, sym, ap, ◌∙◌, arith}
 use Rattle.std.specs.Prelude.{slice_get}
 use Rattle.std.proofs.lemmas.Option.{slice_get_within}
-use Rattle.vm_model.specs.Machine.{Machine}
-use Rattle.vm_model.specs.declared.limits.TheConstants.{LIVE_PAGES}
+use Rattle.interface_callers.proofs.Words.{LIVE_PAGES, Machine}
+use Rattle.interface_callers.proofs.Lists.{all_at}
 use Rattle.mix_process.specs.Adding.{usage_to_map}
 use Rattle.mix_process.specs.Copying.{copy_budget, cost_to_copy, usage_of_parts}
 use Rattle.mix_process.specs.Outcome.{Usage, usage_to_fork, usage_to_grow}
@@ -16,7 +16,6 @@ use Rattle.mix_process.specs.declared.area.Area.TheVariants.{Data, Stack, Text}
 use Rattle.mix_process.specs.declared.process.Part.{Part}
 use Rattle.mix_process.specs.declared.process.Process.{Process}
 use Rattle.mix_process.proofs.Looking.{area_same}
-use Rattle.mix_process.proofs.Putting.{all_at}
 use Rattle.mix_process.proofs.Seeing.{seen_length}
 
 abbrev pub cost_of_parts : List Part → ℕ

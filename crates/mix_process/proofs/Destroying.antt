@@ -1,20 +1,17 @@
 -- The caches of their own of parts are destroyed, one after the other.
-use Rattle.std.proofs.Common.{◌≡◌, ◌≢◌, ◌⊎◌, inl, inr, ℕ, zero, suc, ◌+◌, ◌-◌, ◌*◌, ◌≤◌, ◌<◌, Bool, true, false, cond, List, [], ◌∷◌, ◌++◌, length, Some, None, refl, sym, ap, subst, ◌∙◌, arith}
+use Rattle.std.proofs.Common.{◌≡◌, ◌≢◌, ◌⊎◌, inl, inr, ℕ, ◌+◌, ◌-◌, ◌*◌, ◌≤◌, ◌<◌, Bool, true, false, cond, List, [], ◌∷◌, ◌++◌, length, Some, None, refl, sym, ap, subst, ◌∙◌, arith}
 use Rattle.std.specs.Prelude.{Ok, slice_get}
 use Rattle.std.proofs.lemmas.List.{length-set}
 use Rattle.std.proofs.lemmas.Option.{slice_get_within}
-use Rattle.vm_ids.specs.Counting.{counts_sum, no_counts}
-use Rattle.vm_ids.specs.Held.{segments_of}
 use Rattle.vm_ids.specs.declared.command.Command.TheVariants as vm_commands
 use Rattle.vm_ids.specs.declared.reply.Reply.TheVariants as replies
-use Rattle.vm_model.specs.Answering.{Answer}
-use Rattle.vm_model.specs.Machine.{Machine, cache_of, live_pages, numbered, pages_in}
 use Rattle.vm_model.proofs.Parts.Lists.{numbered_place, sum_by_less}
-use Rattle.vm_port.specs.declared.traits.mapper.Mapper.{Ghosts as GhostsOfMapper}
-use Rattle.gmi_calls.specs.Calling.{MapperCall, RaisesMade}
-use Rattle.gmi_calls.specs.Managing.{meanings_of}
-use Rattle.gmi_calls.specs.declared.gmi.Gmi.{Ghosts as GhostsOfGmi}
 use Rattle.gmi_calls.proofs.Rising.{rise_none, rise_then}
+use Rattle.interface_callers.proofs.Words.{Answer, GhostsOfGmi, GhostsOfMapper, Machine, MapperCall, RaisesMade, cache_of, counts_sum, live_pages, meanings_of, no_counts, numbered, pages_in, segments_of}
+use Rattle.interface_callers.proofs.Lists.{get_append, get_last, get_snoc}
+use Rattle.interface_callers.proofs.Rows.{IsDone}
+use Rattle.interface_callers.proofs.Temporary.{destroy_done}
+use Rattle.interface_callers.proofs.Blanks.{without}
 use Rattle.mix_process.specs.ProcessMachine.{may_write}
 use Rattle.mix_process.specs.Inner.{AreApart, AreCleared, AreOwn, own_pages, spare_of}
 use Rattle.mix_process.specs.Seen.{cache_pages, processes_seen}
@@ -22,17 +19,9 @@ use Rattle.mix_process.specs.Tying.{AreAble, AreTied, IsOwnCache}
 use Rattle.mix_process.specs.declared.mix.Mix.{Mix}
 use Rattle.mix_process.specs.declared.process.Part.{Part}
 use Rattle.mix_process.proofs.Able.{able_after, is_call, respared, segments_after, sync_after}
-use Rattle.mix_process.proofs.Clearing.{images_without, kept_other, not_mapped, own_kept, seen_without, tied_without, without}
-use Rattle.mix_process.proofs.Lists.{get_append, get_last}
-use Rattle.mix_process.proofs.Temporary.{IsDone, free_destroyed}
+use Rattle.mix_process.proofs.Clearing.{images_without, kept_other, not_mapped, own_kept, seen_without, tied_without}
 
 -- Lists that end in a part
-
-pub get_snoc : {A : Type 0} (xs : List A) (x : A) (j : ℕ) (y : A) → slice_get (xs ++ x ∷ []) j ≡ Some y → (slice_get xs j ≡ Some y) ⊎ ((j ≡ length xs) × (y ≡ x))
-get_snoc [] x zero y e = inr (refl, (let same : x ≡ y = cc in sym same))
-get_snoc [] x (suc j) y e = absurd (cc e)
-get_snoc (z ∷ xs) x zero y e = inl e
-get_snoc (z ∷ xs) x (suc j) y e = elim (get_snoc xs x j y e) [ inl f ↦ inl f | inr f ↦ inr (ap suc f.0, f.1) ]
 
 own-append : (xs ys : List Part) → own_pages (xs ++ ys) ≡ own_pages xs + own_pages ys
 own-append [] ys = omega arith
@@ -102,31 +91,31 @@ module _ {Manager X Chooser : Type 0} (M : GhostsOfMapper X) (G : GhostsOfGmi Ma
         let spared : spare_of (rest ++ part ∷ []) part.cache.0 = (length rest, part, get_last rest part, writes, refl) in
         let own : IsOwnCache m part = c.own (length rest) part (get_last rest part) writes in
         let it = is_call M G mix.gmi gmi now after (vm_commands.Destroy part.cache) a old.images.items (length old.processes.items) (numbered old.processes.items) (spare_of (rest ++ part ∷ [])) c.able call in
-        let done : IsDone a (G.machine gmi (M.held after)) (without m part.cache.0) = free_destroyed (segments_of (M.held after)) m (G.forest mix.gmi (M.held now)) part.cache own.cache own.there own.temporary (not_mapped m (numbered old.processes.items) (spare_of (rest ++ part ∷ [])) old.images.items t part.cache.0 spared) a (G.machine gmi (M.held after)) it.rises it.is.outcome in
+        let done : IsDone a (G.machine gmi (M.held after)) (without m part.cache.0) = destroy_done (segments_of (M.held after)) m (G.forest mix.gmi (M.held now)) part.cache own.cache own.there own.temporary (not_mapped m (numbered old.processes.items) (spare_of (rest ++ part ∷ [])) old.images.items t part.cache.0 spared) a (G.machine gmi (M.held after)) it.rises it.is.outcome in
         let fewer = λ (k : ℕ) (s : spare_of rest k). (let have : spare_of (rest ++ part ∷ []) k = (s.0, s.1, get_append rest (part ∷ []) s.0 s.1 s.2, s.3, s.4) in let apart : k ≢ part.cache.0 = λ e. other writes s.0 s.1 s.2 s.3 (s.4 ∙ e) in let both : spare_of (rest ++ part ∷ []) k × (k ≢ part.cache.0) = (have, apart) in both) in
         let others = λ (k : ℕ) (s : spare_of (rest ++ part ∷ []) k). (let which : (k ≡ part.cache.0) ⊎ spare_of rest k = elim (get_snoc rest part s.0 s.1 s.2) [ inl f ↦ inr (s.0, s.1, f, s.3, s.4) | inr f ↦ inl (sym s.4 ∙ ap (λ (p : Part). p.cache.0) f.1) ] in which) in
         let tied : AreTied (G.machine gmi (M.held after)) (numbered old.processes.items) (spare_of rest) old.images.items =
-        subst (λ (x : Machine). AreTied x (numbered old.processes.items) (spare_of rest) old.images.items) (sym done.next_is) (tied_without m (numbered old.processes.items) (spare_of (rest ++ part ∷ [])) (spare_of rest) old.images.items t part.cache.0 spared fewer others) in
+        subst (λ (x : Machine). AreTied x (numbered old.processes.items) (spare_of rest) old.images.items) (sym done.next) (tied_without m (numbered old.processes.items) (spare_of (rest ++ part ∷ [])) (spare_of rest) old.images.items t part.cache.0 spared fewer others) in
         let place = numbered_place m.caches part.cache.0 own.cache own.there in
         let less : live_pages (without m part.cache.0) ≤ live_pages m = sum_by_less pages_in m.caches (part.cache.0 - 1) (Some own.cache) None place.1 (omega arith) in
         let raised : RaisesMade m (vm_commands.Destroy part.cache) (Ok replies.Done) (without m part.cache.0) (G.made mix.gmi) (G.made gmi) =
-        subst (λ (x : Machine). RaisesMade m (vm_commands.Destroy part.cache) (Ok replies.Done) x (G.made mix.gmi) (G.made gmi)) done.next_is
-        (subst (λ (b : Answer). RaisesMade m (vm_commands.Destroy part.cache) b (G.machine gmi (M.held after)) (G.made mix.gmi) (G.made gmi)) done.answer_is call.made) in
+        subst (λ (x : Machine). RaisesMade m (vm_commands.Destroy part.cache) (Ok replies.Done) x (G.made mix.gmi) (G.made gmi)) done.next
+        (subst (λ (b : Answer). RaisesMade m (vm_commands.Destroy part.cache) b (G.machine gmi (M.held after)) (G.made mix.gmi) (G.made gmi)) done.done call.made) in
         let many : pages_in (cache_of m part.cache.0) ≡ part.pages = ap pages_in own.there ∙ own.many in
         record {
           able = able_after M G mix.gmi gmi now after (vm_commands.Destroy part.cache) a old.images.items (length old.processes.items) (numbered old.processes.items) (spare_of (rest ++ part ∷ [])) c.able call old.images.items (length old.processes.items) (numbered old.processes.items) (spare_of rest)
-              (omega (arith, c.able.few, ap (λ (x : Machine). length x.actors) done.next_is)) (omega (arith, c.able.most, ap (λ (x : Machine). length x.actors) done.next_is)) tied
+              (omega (arith, c.able.few, ap (λ (x : Machine). length x.actors) done.next)) (omega (arith, c.able.most, ap (λ (x : Machine). length x.actors) done.next)) tied
               (sync_after M G mix.gmi gmi now after (vm_commands.Destroy part.cache) a old.images.items (length old.processes.items) (numbered old.processes.items) (spare_of (rest ++ part ∷ [])) c.able call
-              (λ i image e. ap (λ (x : Machine). cache_pages x image.cache.0) done.next_is ∙ images_without m (numbered old.processes.items) (spare_of (rest ++ part ∷ [])) (spare_of rest) old.images.items t part.cache.0 spared fewer others i image e));
+              (λ i image e. ap (λ (x : Machine). cache_pages x image.cache.0) done.next ∙ images_without m (numbered old.processes.items) (spare_of (rest ++ part ∷ [])) (spare_of rest) old.images.items t part.cache.0 spared fewer others i image e));
           same = ap (λ (x : Mix Manager). let y : Mix Manager = record x { gmi = gmi } in y) c.same;
           apart = less_apart;
-          own = λ j p e own_p. own_kept m (G.machine gmi (M.held after)) p (ap (λ (x : Machine). cache_of x p.cache.0) done.next_is ∙ kept_other m part.cache.0 own.cache own.there p.cache.0 (other writes j p e own_p)) (c.own j p (get_append rest (part ∷ []) j p e) own_p);
-          seen = ap (λ (x : Machine). processes_seen x old.processes.items old.images.items) done.next_is ∙ seen_without m old.processes.items (spare_of (rest ++ part ∷ [])) (spare_of rest) old.images.items t part.cache.0 spared fewer others ∙ c.seen;
+          own = λ j p e own_p. own_kept m (G.machine gmi (M.held after)) p (ap (λ (x : Machine). cache_of x p.cache.0) done.next ∙ kept_other m part.cache.0 own.cache own.there p.cache.0 (other writes j p e own_p)) (c.own j p (get_append rest (part ∷ []) j p e) own_p);
+          seen = ap (λ (x : Machine). processes_seen x old.processes.items old.images.items) done.next ∙ seen_without m old.processes.items (spare_of (rest ++ part ∷ [])) (spare_of rest) old.images.items t part.cache.0 spared fewer others ∙ c.seen;
           made = omega (arith, c.made, own_snoc rest part true writes, less_made m (without m part.cache.0) (pages_in (cache_of m part.cache.0)) part.pages (G.made mix.gmi) (G.made gmi) many own.some less raised);
           alike = record {
-            actors = ap (λ (x : Machine). length x.actors) done.next_is ∙ c.alike.actors;
-            caches = ap (λ (x : Machine). length x.caches) done.next_is ∙ length-set m.caches (part.cache.0 - 1) None ∙ c.alike.caches;
-            regions = ap (λ (x : Machine). x.regions_made) done.next_is ∙ c.alike.regions;
+            actors = ap (λ (x : Machine). length x.actors) done.next ∙ c.alike.actors;
+            caches = ap (λ (x : Machine). length x.caches) done.next ∙ length-set m.caches (part.cache.0 - 1) None ∙ c.alike.caches;
+            regions = ap (λ (x : Machine). x.regions_made) done.next ∙ c.alike.regions;
           };
           rises = counts_sum c.rises it.rises;
           rose = rise_then (M.counts before) (M.counts now) (M.counts after) c.rises it.rises c.rose it.rose;

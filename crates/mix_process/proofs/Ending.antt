@@ -5,21 +5,18 @@ use Rattle.std.proofs.lemmas.Bool.{cases_eq}
 use Rattle.std.proofs.lemmas.Bool.Decides.{nat_tests}
 use Rattle.std.proofs.lemmas.List.{length-set, map-set}
 use Rattle.std.proofs.lemmas.Option.{slice_get_within}
-use Rattle.vm_ids.specs.Held.{Held, Segments, segments_of}
 use Rattle.vm_ids.specs.declared.command.Command.TheVariants as vm_commands
 use Rattle.vm_ids.specs.declared.command.MixCommand.TheVariants as commands
-use Rattle.vm_ids.specs.declared.numbers.ProcId.{ProcId}
 use Rattle.vm_ids.specs.declared.refusal.Refusal.TheVariants as refusals
 use Rattle.vm_ids.specs.declared.reply.Reply.TheVariants as replies
 use Rattle.vm_ids.specs.declared.reply.Trouble.TheVariants as troubles
-use Rattle.vm_model.specs.Answering.{Answer}
-use Rattle.vm_model.specs.Machine.{Machine, live_pages, numbered}
 use Rattle.vm_model.proofs.Parts.Lists.{get_set_same, numbered-map, numbered_place}
-use Rattle.vm_port.specs.declared.traits.mapper.Mapper.{Ghosts as GhostsOfMapper}
-use Rattle.gmi_calls.specs.Calling.{CallDone, MapperCall, RaisesMade}
-use Rattle.gmi_calls.specs.Managing.{meanings_of}
-use Rattle.gmi_calls.specs.declared.gmi.Gmi.{Ghosts as GhostsOfGmi}
+use Rattle.vm_model.proofs.Parts.ListParts.{numbered_set_other}
 use Rattle.gmi_calls.proofs.Still.{without_mapper}
+use Rattle.interface_callers.proofs.Words.{Answer, CallDone, GhostsOfGmi, GhostsOfMapper, Held, Machine, MapperCall, ProcId, RaisesMade, Segments, live_pages, meanings_of, numbered, segments_of}
+use Rattle.interface_callers.proofs.Lists.{number_at}
+use Rattle.interface_callers.proofs.Blanks.{as_untold}
+use Rattle.interface_callers.proofs.Rows.{IsDone}
 use Rattle.mix_process.specs.ProcessMachine as model
 use Rattle.mix_process.specs.ProcessMachine.{ProcessMachine, may_write, process_of}
 use Rattle.mix_process.specs.Answering as mix
@@ -38,11 +35,9 @@ use Rattle.mix_process.specs.declared.process.Process.{Process}
 use Rattle.mix_process.proofs.Able.{AreRenamed, able_after, ended, is_call, own_caches, parts_apart, respared, sync_after, tied_ended, tied_renamed}
 use Rattle.mix_process.proofs.Clearing.{own_kept}
 use Rattle.mix_process.proofs.Having.{had}
-use Rattle.mix_process.proofs.Lists.{number_at}
-use Rattle.mix_process.proofs.Putting.{number_other}
 use Rattle.mix_process.proofs.Single.{none_here, refused_called}
-use Rattle.mix_process.proofs.Temporary.{IsDone, living_exited}
-use Rattle.mix_process.proofs.Untold.{as_untold, filled_put, filled_up, like_filled, seen_filled, step_filled}
+use Rattle.mix_process.proofs.Temporary.{living_exited}
+use Rattle.mix_process.proofs.Untold.{filled_put, filled_up, like_filled, seen_filled, step_filled}
 
 -- How many pages of its own a process has at most
 
@@ -91,22 +86,22 @@ module _ {Manager X Chooser : Type 0} (M : GhostsOfMapper X) (G : GhostsOfGmi Ma
   apart_then = parts_apart m (with_extra process (numbered old.processes.items)) (numbered old.processes.items) old.images.items can.tied 0 process refl (λ k other. extra_other process (numbered old.processes.items) k other) refl
 
   pub own_then : AreOwn n process.parts.items
-  own_then = subst (λ (x : Machine). AreOwn x process.parts.items) (sym exits.next_is)
+  own_then = subst (λ (x : Machine). AreOwn x process.parts.items) (sym exits.next)
       (λ j p e own. own_kept m (ended m process.actor.0) p refl (own_caches m (with_extra process (numbered old.processes.items)) (numbered old.processes.items) old.images.items can.tied 0 process refl (λ k other. extra_other process (numbered old.processes.items) k other) refl j p e own))
 
   pub able_then : AreAble G gmi old.images.items (M.held mapper) (M.page_bytes mapper) (length old.processes.items) (numbered old.processes.items) (spare_of process.parts.items)
   able_then =
       able_after M G old.gmi gmi mapper mapper (vm_commands.ExitActor process.actor) a old.images.items (length old.processes.items) (with_extra process (numbered old.processes.items)) none_spare can call
       old.images.items (length old.processes.items) (numbered old.processes.items) (spare_of process.parts.items)
-      (omega (arith, can.few, ap (λ (x : Machine). length x.actors) exits.next_is, length-set m.actors (process.actor.0 - 1) None)) (omega (arith, can.most, ap (λ (x : Machine). length x.actors) exits.next_is, length-set m.actors (process.actor.0 - 1) None))
-      (subst (λ (x : Machine). AreTied x (numbered old.processes.items) (spare_of process.parts.items) old.images.items) (sym exits.next_is)
+      (omega (arith, can.few, ap (λ (x : Machine). length x.actors) exits.next, length-set m.actors (process.actor.0 - 1) None)) (omega (arith, can.most, ap (λ (x : Machine). length x.actors) exits.next, length-set m.actors (process.actor.0 - 1) None))
+      (subst (λ (x : Machine). AreTied x (numbered old.processes.items) (spare_of process.parts.items) old.images.items) (sym exits.next)
       (tied_ended m (with_extra process (numbered old.processes.items)) (numbered old.processes.items) old.images.items can.tied 0 process refl (λ k other. extra_other process (numbered old.processes.items) k other) refl))
       (sync_after M G old.gmi gmi mapper mapper (vm_commands.ExitActor process.actor) a old.images.items (length old.processes.items) (with_extra process (numbered old.processes.items)) none_spare can call
-      (λ i image e. ap (λ (x : Machine). cache_pages x image.cache.0) exits.next_is))
+      (λ i image e. ap (λ (x : Machine). cache_pages x image.cache.0) exits.next))
 
   rises_little : G.made gmi ≤ G.made old.gmi + 8
-  rises_little = small_rise (live_pages m) (live_pages n) (G.made old.gmi) (G.made gmi) (ap live_pages exits.next_is)
-      (subst (λ (b : Answer). RaisesMade m (vm_commands.ExitActor process.actor) b n (G.made old.gmi) (G.made gmi)) exits.answer_is call.made)
+  rises_little = small_rise (live_pages m) (live_pages n) (G.made old.gmi) (G.made gmi) (ap live_pages exits.next)
+      (subst (λ (b : Answer). RaisesMade m (vm_commands.ExitActor process.actor) b n (G.made old.gmi) (G.made gmi)) exits.done call.made)
 
   few_pages : own_pages process.parts.items ≤ 66560
   few_pages = omega (arith, own_few process.parts.items, run.small.data_pages, run.small.stack)
@@ -120,12 +115,12 @@ module _ {Manager X Chooser : Type 0} (M : GhostsOfMapper X) (G : GhostsOfGmi Ma
     able = subst (λ (x : Mix Manager). AreAble G new.gmi x.images.items (M.held after) (M.page_bytes after) (length x.processes.items) (numbered x.processes.items) none_spare) (sym c.same)
         (respared (numbered old.processes.items) (spare_of []) none_spare c.able (λ k s. absurd (cc s.2)) (λ k s. absurd s));
     same = c.same;
-    seen = c.seen ∙ ap (λ (x : Machine). processes_seen x old.processes.items old.images.items) exits.next_is;
+    seen = c.seen ∙ ap (λ (x : Machine). processes_seen x old.processes.items old.images.items) exits.next;
     made = omega (arith, c.made, rises_little, few_pages);
     alike = record {
-      actors = c.alike.actors ∙ ap (λ (x : Machine). length x.actors) exits.next_is ∙ length-set m.actors (process.actor.0 - 1) None;
-      caches = c.alike.caches ∙ ap (λ (x : Machine). length x.caches) exits.next_is;
-      regions = c.alike.regions ∙ ap (λ (x : Machine). x.regions_made) exits.next_is;
+      actors = c.alike.actors ∙ ap (λ (x : Machine). length x.actors) exits.next ∙ length-set m.actors (process.actor.0 - 1) None;
+      caches = c.alike.caches ∙ ap (λ (x : Machine). length x.caches) exits.next;
+      regions = c.alike.regions ∙ ap (λ (x : Machine). x.regions_made) exits.next;
     };
     rises = c.rises;
     rose = c.rose;
@@ -158,7 +153,7 @@ module _ (table : List (Option Process)) (k : ℕ) (p : Process) (there : number
   left_was : (n : ℕ) (q : Process) → numbered left n ≡ Some q → (n ≢ k) × (numbered table n ≡ Some q)
   left_was n q e = elim (cases_eq n k) [
     | inl same ↦ absurd (let wrong : Some q ≡ None = sym e ∙ ap (numbered left) same ∙ left_none in cc wrong)
-    | inr other ↦ (other, sym (number_other table k n None place.0 other) ∙ e)
+    | inr other ↦ (other, sym (numbered_set_other table k n None place.0 other) ∙ e)
   ]
 
   abbrev to : ℕ → ℕ
@@ -184,7 +179,7 @@ module _ (table : List (Option Process)) (k : ℕ) (p : Process) (there : number
   came_back n q e (inl same) = (0, sym there ∙ ap (numbered table) (sym same) ∙ e, sym same)
   came_back n q e (inr other) =
       let some : 1 ≤ n = (numbered_place table n q e).0 in
-      (n, ap (λ (b : Bool). cond b (Some p) (numbered left n)) (nonzero n some) ∙ number_other table k n None place.0 other ∙ e, ap (λ (b : Bool). cond b k n) (nonzero n some))
+      (n, ap (λ (b : Bool). cond b (Some p) (numbered left n)) (nonzero n some) ∙ numbered_set_other table k n None place.0 other ∙ e, ap (λ (b : Bool). cond b k n) (nonzero n some))
 
   pub taken_out : AreRenamed (numbered table) others
   taken_out = record {

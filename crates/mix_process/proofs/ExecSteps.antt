@@ -3,8 +3,7 @@ use Rattle.std.proofs.Common.{◌≡◌, ℕ, ◌+◌, ◌^◌, ◌≤◌, false
 use Rattle.std.specs.Prelude.{is_some}
 use Rattle.std.specs.FinMap.{get}
 use Rattle.std.proofs.lemmas.Bool.Decides.{nat_tests}
-use Rattle.vm_ids.specs.Held.{Held, Segments, segments_of}
-use Rattle.vm_model.specs.Machine.{Actor, Page}
+use Rattle.interface_callers.proofs.Words.{Actor, Held, Page, Segments, segments_of}
 use Rattle.mix_process.specs.Answering.{is_too_large}
 use Rattle.mix_process.specs.Loaded.{load_budget}
 use Rattle.mix_process.specs.Starting.{HoldsIn, open_budget, start_budget}

@@ -4,23 +4,15 @@ use Rattle.std.specs.Prelude.{Ok, Err, Result, option_map, slice_get}
 use Rattle.std.specs.FinMap.{get}
 use Rattle.std.proofs.lemmas.List.{length-append, length-map}
 use Rattle.std.proofs.lemmas.List.Sums.{sum_by_push}
-use Rattle.vm_ids.specs.Counting.{MapperCounts, counts_sum}
-use Rattle.vm_ids.specs.Held.{Held, Segments, segments_of}
 use Rattle.vm_ids.specs.declared.command.MixCommand.{MixCommand}
 use Rattle.vm_ids.specs.declared.command.MixCommand.TheVariants as commands
-use Rattle.vm_ids.specs.declared.numbers.CacheId.{CacheId}
-use Rattle.vm_ids.specs.declared.numbers.ProcId.{ProcId}
-use Rattle.vm_ids.specs.declared.numbers.SegId.{SegId}
 use Rattle.vm_ids.specs.declared.refusal.Refusal.TheVariants as refusals
 use Rattle.vm_ids.specs.declared.reply.FaultAt.TheVariants as faults
 use Rattle.vm_ids.specs.declared.reply.Reply.TheVariants as replies
-use Rattle.vm_ids.specs.declared.reply.Trouble.{Trouble}
 use Rattle.vm_ids.specs.declared.reply.Trouble.TheVariants as troubles
-use Rattle.vm_model.specs.Answering.{Answer, answer_by}
-use Rattle.vm_model.specs.Machine.{Cache, Machine, Page, cache_of}
-use Rattle.vm_port.specs.declared.traits.mapper.Mapper.{Ghosts as GhostsOfMapper}
-use Rattle.gmi_calls.specs.declared.gmi.Gmi.{Ghosts as GhostsOfGmi}
 use Rattle.gmi_calls.proofs.Rising.{rise_then}
+use Rattle.interface_callers.proofs.Words.{Answer, Cache, CacheId, GhostsOfGmi, GhostsOfMapper, Held, Machine, MapperCounts, Page, ProcId, SegId, Segments, Trouble, answer_by, cache_of, counts_sum, segments_of}
+use Rattle.interface_callers.proofs.Blanks.{as_untold}
 use Rattle.mix_process.specs.Adding.{AreKept, fresh_page, put_at}
 use Rattle.mix_process.specs.Answering.{is_too_large, process_from, with_image}
 use Rattle.mix_process.specs.Calling.{MixCall}
@@ -46,7 +38,7 @@ use Rattle.mix_process.proofs.Imaging.{image_seen_for, image_there, map_snoc}
 use Rattle.mix_process.proofs.Inheriting.{set_last}
 use Rattle.mix_process.proofs.Seeing.{pages_there}
 use Rattle.mix_process.proofs.Single.{refused_called}
-use Rattle.mix_process.proofs.Untold.{as_untold, filled_up, seen_filled, step_with, zeros}
+use Rattle.mix_process.proofs.Untold.{filled_up, seen_filled, step_with, zeros}
 use Rattle.mix_process.proofs.Using.{lack_still}
 use Rattle.mix_process.proofs.ExecSteps.{alive_one, fit_sizes, made_sum, told_holds}
 

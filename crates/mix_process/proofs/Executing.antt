@@ -8,17 +8,14 @@ use Rattle.std.specs.Option.{option_map_or}
 use Rattle.std.specs.Ordering.{nat_cmp}
 use Rattle.std.proofs.lemmas.Bool.Decides.{nat_tests}
 use Rattle.std.proofs.lemmas.List.{drop-map, take-map}
-use Rattle.vm_ids.specs.Counting.{MapperCounts}
-use Rattle.vm_ids.specs.Held.{Segments}
 use Rattle.vm_ids.specs.declared.command.MixCommand.TheVariants as commands
-use Rattle.vm_ids.specs.declared.numbers.SegId.{SegId}
 use Rattle.vm_ids.specs.declared.refusal.Refusal.TheVariants as refusals
 use Rattle.vm_ids.specs.declared.reply.FaultAt.TheVariants as faults
 use Rattle.vm_ids.specs.declared.reply.Reply.TheVariants as replies
-use Rattle.vm_ids.specs.declared.reply.Trouble.{Trouble}
 use Rattle.vm_ids.specs.declared.reply.Trouble.TheVariants as troubles
-use Rattle.vm_model.specs.declared.limits.TheConstants.{MOST_MADE}
-use Rattle.vm_model.specs.Machine.{Page}
+use Rattle.interface_callers.proofs.Words.{MapperCounts, MOST_MADE, Page, SegId, Segments, Trouble}
+use Rattle.interface_callers.proofs.Blanks.{no_segments}
+use Rattle.interface_callers.proofs.Lists.{map-replicate}
 use Rattle.mix_process.specs.Answering as mix
 use Rattle.mix_process.specs.Answering.{imaged, is_too_large, process_from, with_image}
 use Rattle.mix_process.specs.Outcome.{RaisedBy, Usage, makes, one_cache, usage_for, would_pass}
@@ -27,7 +24,7 @@ use Rattle.mix_process.specs.Starting.{usage_to_open}
 use Rattle.mix_process.specs.Stepping.{StepOver, each_in, each_of}
 use Rattle.mix_process.specs.Use.{IsLack, IsWithin, usage_sum}
 use Rattle.mix_process.proofs.Imaging.{map_snoc, same_is}
-use Rattle.mix_process.proofs.Untold.{filled_up, map-replicate, no_segments, zeros}
+use Rattle.mix_process.proofs.Untold.{filled_up, zeros}
 use Rattle.mix_process.proofs.Using.{passes_still}
 
 -- Segments that hold this

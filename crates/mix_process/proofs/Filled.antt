@@ -1,26 +1,20 @@
 -- What becomes of the processes where a spare cache is filled.
-use Rattle.std.proofs.Common.{◌≡◌, ◌≢◌, inl, inr, ℕ, ◌+◌, ◌-◌, ◌*◌, ◌≤◌, List, [], ◌∷◌, ◌++◌, length, take, drop, Option, Some, None, refl, sym, ap, subst, ◌∙◌, arith}
+use Rattle.std.proofs.Common.{◌≡◌, ◌≢◌, inl, inr, ℕ, ◌+◌, ◌-◌, ◌*◌, ◌≤◌, List, [], ◌∷◌, length, take, drop, Option, Some, None, refl, sym, ap, subst, ◌∙◌, arith}
 use Rattle.std.specs.Prelude.{Ok, Err, Result, IfErr, OnOk, count_by, is_some}
 use Rattle.std.specs.Option.{option_map_or}
-use Rattle.std.proofs.lemmas.List.{append-nil, drop_all, length-drop, length-set, length-take-le}
-use Rattle.vm_ids.specs.Counting.{no_counts}
-use Rattle.vm_ids.specs.Held.{segments_of}
+use Rattle.std.proofs.lemmas.List.{length-drop, length-set, length-take-le}
 use Rattle.vm_ids.specs.declared.command.Command.TheVariants as vm_commands
-use Rattle.vm_ids.specs.declared.command.Span.{Span}
 use Rattle.vm_ids.specs.declared.reply.Reply.TheVariants as replies
-use Rattle.vm_ids.specs.declared.reply.Trouble.{Trouble}
 use Rattle.vm_ids.specs.declared.reply.Trouble.TheVariants as troubles
-use Rattle.vm_model.specs.Answering.{Answer, overwrite, put_pages, put_span}
-use Rattle.vm_model.specs.Machine.{Actor, Cache, Machine, Page, cache_of, live_pages, living_actors, numbered}
 use Rattle.vm_model.specs.Machine as vm_machine
 use Rattle.vm_model.specs.Run.{CallIs}
 use Rattle.vm_model.specs.Run as vm_run
 use Rattle.vm_model.proofs.Parts.Lists.{numbered_place, sum_by_same}
-use Rattle.vm_port.specs.declared.traits.mapper.Mapper.{Ghosts as GhostsOfMapper}
-use Rattle.gmi_calls.specs.Calling.{MapperCall, RaisesMade, done_by}
-use Rattle.gmi_calls.specs.Managing.{meanings_of}
-use Rattle.gmi_calls.specs.declared.gmi.Gmi.{Ghosts as GhostsOfGmi}
 use Rattle.gmi_calls.proofs.Rising.{rise_none}
+use Rattle.interface_callers.proofs.Words.{Actor, Answer, Cache, GhostsOfGmi, GhostsOfMapper, Machine, MapperCall, Page, RaisesMade, Span, Trouble, cache_of, done_by, live_pages, meanings_of, no_counts, numbered, put_pages, put_span, segments_of}
+use Rattle.interface_callers.proofs.Lists.{overwritten}
+use Rattle.interface_callers.proofs.Alike.{HasShape, IsLike, shape_put, shape_self}
+use Rattle.interface_callers.proofs.Copies.{Copies, MayCopy, copied_at, copies_there}
 use Rattle.mix_process.specs.Adding.{HasSpare, IsFilled, IsSourceOf, Source, filled}
 use Rattle.mix_process.specs.Inner.{spare_of}
 use Rattle.mix_process.specs.Outcome.{Usage, usage_of}
@@ -31,20 +25,12 @@ use Rattle.mix_process.specs.declared.mix.Mix.{Mix}
 use Rattle.mix_process.specs.declared.process.Part.{Part}
 use Rattle.mix_process.proofs.Able.{able_after, is_call, segments_after, sync_after}
 use Rattle.mix_process.proofs.Clearing.{image_kept}
-use Rattle.mix_process.proofs.Filling.{Copies, MayCopy, copied_at, never_locked}
+use Rattle.mix_process.proofs.Filling.{never_locked}
 use Rattle.mix_process.proofs.Joining.{all_seen}
-use Rattle.mix_process.proofs.Lists.{take_none}
 use Rattle.mix_process.proofs.Mapped.{pages_of_cache}
-use Rattle.mix_process.proofs.Putting.{became, shape_kept, stayed}
+use Rattle.mix_process.proofs.Putting.{became, stayed}
 use Rattle.mix_process.proofs.Seeing.{pages_there}
-use Rattle.mix_process.proofs.Shapes.{HasShape, IsLike, shape_self, tied_like}
-
--- a whole list is replaced
-pub overwritten : {A : Type 0} (part whole : List A) → length whole ≡ length part → overwrite 0 part whole ≡ part
-overwritten part whole same =
-    ap (λ xs. (xs ++ part) ++ drop (0 + length part) whole) (take_none whole)
-    ∙ ap (λ xs. part ++ xs) (drop_all (0 + length part) whole (omega (arith, same)))
-    ∙ append-nil part
+use Rattle.mix_process.proofs.Shapes.{tied_like}
 
 pub within_same : (u : Usage) → IsWithin u u
 within_same u = record { living = omega arith; actors = omega arith; caches = omega arith; regions = omega arith; pages = omega arith }
@@ -131,19 +117,17 @@ module _ {Manager X Chooser : Type 0} (M : GhostsOfMapper X) (G : GhostsOfGmi Ma
       abbrev it : CallIs (M.counts before) (M.counts after) (vm_run.state_of G.machine G.forest old.gmi (M.held before)) (vm_commands.Copy span) (done_by result) (vm_run.state_of G.machine G.forest gmi (M.held after))
       it = is_call M G old.gmi gmi before after (vm_commands.Copy span) (done_by result) old.images.items (length old.processes.items) (numbered old.processes.items) spare has.able call
 
-      may : MayCopy m span c d
+      may : MayCopy m span d
       may = record {
-        from = there.0.1;
         to = has.cache.there;
         temporary = has.cache.temporary;
-        inside = there.0.2;
         fits = omega (arith, has.cache.many);
         apart = there.1;
         unlocked = λ page. never_locked m (numbered old.processes.items) spare old.images.items has.able.tied part.cache.0 page;
       }
 
       copies : Copies m span c d (done_by result) n
-      copies = copied_at (segments_of (M.held after)) m span c d may (G.forest old.gmi (M.held before)) (done_by result) n it.rises it.is.outcome
+      copies = copies_there m span c d there.0.1 there.0.2 (done_by result) n (copied_at (segments_of (M.held after)) m span d may (G.forest old.gmi (M.held before)) result n it.rises it.is.outcome)
 
       many : length pages ≡ part.pages
       many = length-take-le part.pages (drop source.1.0 c.pages) (omega (arith, there.0.2, length-drop source.1.0 c.pages))
@@ -156,7 +140,7 @@ module _ {Manager X Chooser : Type 0} (M : GhostsOfMapper X) (G : GhostsOfGmi Ma
 
       put : n ≡ put_span m span c d → Keeps m n part
       put is = record {
-        shape = subst (λ (x : Machine). HasShape m x) (sym is) (shape_kept m part.cache.0 d new_cache has.cache.there like);
+        shape = subst (λ (x : Machine). HasShape m x) (sym is) (shape_put m part.cache.0 d new_cache has.cache.there like);
         others = λ k other. ap (λ (x : Machine). cache_of x k) is ∙ stayed m part.cache.0 d new_cache has.cache.there like k other;
         caches = ap (λ (x : Machine). length x.caches) is ∙ length-set m.caches (part.cache.0 - 1) (Some new_cache);
         regions = ap (λ (x : Machine). x.regions_made) is;

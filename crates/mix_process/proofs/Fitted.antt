@@ -2,13 +2,10 @@
 use Rattle.std.proofs.Common.{◌≡◌, ℕ, ◌+◌, ◌-◌, ◌^◌, ◌≤◌, true, List, length, set, Option, Some, None, refl, sym, ap, subst, ◌∙◌, arith}
 use Rattle.std.specs.Prelude.{Ok, Err, Result, IsErrAnd}
 use Rattle.std.proofs.lemmas.List.{append-nil, take_all}
-use Rattle.vm_ids.specs.declared.reply.Trouble.{Trouble}
-use Rattle.vm_model.specs.Machine.{Cache, Machine, Page, cache_of, live_pages, numbered}
 use Rattle.vm_model.specs.Machine as vm_machine
-use Rattle.vm_model.specs.declared.limits.TheConstants.{LIVE_PAGES}
 use Rattle.vm_model.proofs.Parts.Lists.{numbered_place, sum_by_part}
-use Rattle.vm_port.specs.declared.traits.mapper.Mapper.{Ghosts as GhostsOfMapper}
-use Rattle.gmi_calls.specs.declared.gmi.Gmi.{Ghosts as GhostsOfGmi}
+use Rattle.interface_callers.proofs.Words.{Cache, GhostsOfGmi, GhostsOfMapper, LIVE_PAGES, Machine, Trouble, cache_of, live_pages}
+use Rattle.interface_callers.proofs.Lists.{put_back}
 use Rattle.mix_process.specs.Adding.{FillsAndMaps, HasRoom, HasSource, IsFilled, MapsPart, MayFill, MayMap, Source, filled, most_of, put_at, source_pages, usage_to_map, with_more}
 use Rattle.mix_process.specs.Outcome.{usage_of}
 use Rattle.mix_process.specs.ProcessMachine.{may_write}
@@ -20,7 +17,7 @@ use Rattle.mix_process.specs.declared.area.Area.TheVariants.{Data, Stack, Text}
 use Rattle.mix_process.specs.declared.mix.Mix.{Mix}
 use Rattle.mix_process.specs.declared.process.Part.{Part}
 use Rattle.mix_process.specs.declared.process.Process.{Process}
-use Rattle.mix_process.proofs.Joining.{one_same, set_same}
+use Rattle.mix_process.proofs.Joining.{one_same}
 use Rattle.mix_process.proofs.Seeing.{pages_there}
 use Rattle.mix_process.proofs.Using.{lack_still}
 
@@ -55,7 +52,7 @@ module _ {Manager X Chooser : Type 0} (M : GhostsOfMapper X) (G : GhostsOfGmi Ma
       spare = f.has;
       put = record {
         now = p;
-        processes = ap (λ (x : Mix Manager). x.processes.items) f.same ∙ sym (set_same old.processes.items place (Some p) may.room.there);
+        processes = ap (λ (x : Mix Manager). x.processes.items) f.same ∙ sym (put_back old.processes.items place (Some p) may.room.there);
         images = ap (λ (x : Mix Manager). x.images) f.same;
         actor = refl;
         parts_now = sym (append-nil p.parts.items);

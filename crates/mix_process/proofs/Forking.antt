@@ -4,21 +4,14 @@ use Rattle.std.specs.Prelude.{Ok, Err, Result, is_some, option_map, slice_get}
 use Rattle.std.specs.Option.{option_map_or}
 use Rattle.std.proofs.lemmas.List.{length-append, length-map}
 use Rattle.std.proofs.lemmas.List.Sums.{sum_by_push}
-use Rattle.vm_ids.specs.Counting.{MapperCounts, counts_sum, no_counts}
-use Rattle.vm_ids.specs.Held.{Segments, segments_of}
 use Rattle.vm_ids.specs.declared.command.MixCommand.TheVariants as commands
-use Rattle.vm_ids.specs.declared.numbers.ProcId.{ProcId}
 use Rattle.vm_ids.specs.declared.refusal.Refusal.TheVariants as refusals
 use Rattle.vm_ids.specs.declared.reply.Reply.TheVariants as replies
-use Rattle.vm_ids.specs.declared.reply.Trouble.{Trouble}
 use Rattle.vm_ids.specs.declared.reply.Trouble.TheVariants as troubles
-use Rattle.vm_model.specs.Answering.{answer_by}
-use Rattle.vm_model.specs.Machine.{Actor, Machine, cache_of, numbered}
-use Rattle.vm_model.specs.Outcome.{IsNotRefused}
 use Rattle.vm_model.proofs.Parts.Lists.{numbered-map}
-use Rattle.vm_port.specs.declared.traits.mapper.Mapper.{Ghosts as GhostsOfMapper}
-use Rattle.gmi_calls.specs.declared.gmi.Gmi.{Ghosts as GhostsOfGmi}
 use Rattle.gmi_calls.proofs.Rising.{rise_none, rise_then}
+use Rattle.interface_callers.proofs.Words.{Actor, GhostsOfGmi, GhostsOfMapper, IsNotRefused, Machine, MapperCounts, ProcId, Segments, Trouble, answer_by, cache_of, counts_sum, no_counts, numbered, segments_of}
+use Rattle.interface_callers.proofs.Blanks.{as_untold}
 use Rattle.mix_process.specs.Adding.{AreKept, put_at}
 use Rattle.mix_process.specs.Answering as mix
 use Rattle.mix_process.specs.Calling.{MixCall}
@@ -41,7 +34,7 @@ use Rattle.mix_process.proofs.Imaging.{map_snoc}
 use Rattle.mix_process.proofs.Inheriting.{set_last}
 use Rattle.mix_process.proofs.Keeping.{images_kept, numbered_at, processes_kept}
 use Rattle.mix_process.proofs.Single.{none_here, refused_called}
-use Rattle.mix_process.proofs.Untold.{as_untold, filled_up, seen_filled, step_filled, zeros}
+use Rattle.mix_process.proofs.Untold.{filled_up, seen_filled, step_filled, zeros}
 use Rattle.mix_process.proofs.Using.{lack_still}
 
 abbrev alive_one : Option Actor → ℕ

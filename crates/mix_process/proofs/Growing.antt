@@ -3,20 +3,14 @@ use Rattle.std.proofs.Common.{◌≡◌, ℕ, ◌+◌, ◌-◌, ◌≤◌, ◌<�
 use Rattle.std.specs.Prelude.{Ok, Err, Result, nat_lt, option_map, slice_get}
 use Rattle.std.proofs.lemmas.Bool.Decides.{nat_tests}
 use Rattle.std.proofs.lemmas.List.{length-map, length-replicate, map-append}
-use Rattle.vm_ids.specs.Counting.{MapperCounts}
-use Rattle.vm_ids.specs.Held.{Segments, segments_of}
 use Rattle.vm_ids.specs.declared.command.MixCommand.TheVariants as commands
-use Rattle.vm_ids.specs.declared.numbers.ProcId.{ProcId}
 use Rattle.vm_ids.specs.declared.refusal.Refusal.TheVariants as refusals
 use Rattle.vm_ids.specs.declared.reply.Reply.TheVariants as replies
-use Rattle.vm_ids.specs.declared.reply.Trouble.{Trouble}
 use Rattle.vm_ids.specs.declared.reply.Trouble.TheVariants as troubles
-use Rattle.vm_model.specs.Machine.{Machine, Page, numbered, zero_page}
-use Rattle.vm_model.specs.Outcome.{IsNotRefused}
 use Rattle.vm_model.proofs.Parts.Lists.{numbered-map}
-use Rattle.vm_port.specs.declared.traits.mapper.Mapper.{Ghosts as GhostsOfMapper}
-use Rattle.gmi_calls.specs.Calling.{done_by}
-use Rattle.gmi_calls.specs.declared.gmi.Gmi.{Ghosts as GhostsOfGmi}
+use Rattle.interface_callers.proofs.Words.{GhostsOfGmi, GhostsOfMapper, IsNotRefused, Machine, MapperCounts, Page, ProcId, Segments, Trouble, done_by, numbered, segments_of, zero_page}
+use Rattle.interface_callers.proofs.Blanks.{as_untold}
+use Rattle.interface_callers.proofs.Lists.{map-replicate}
 use Rattle.mix_process.specs.Adding.{Adds, IsAdded, MayAdd, fresh_page, put_at, with_more}
 use Rattle.mix_process.specs.Answering as mix
 use Rattle.mix_process.specs.Answering.{grow_of, grown_by, put_process}
@@ -36,7 +30,7 @@ use Rattle.mix_process.proofs.Having.{had}
 use Rattle.mix_process.proofs.Mapped.{at_place}
 use Rattle.mix_process.proofs.Seeing.{seen_length}
 use Rattle.mix_process.proofs.Single.{none_here, refused_called}
-use Rattle.mix_process.proofs.Untold.{as_untold, filled_put, filled_up, map-replicate, seen_filled, step_filled, zeros}
+use Rattle.mix_process.proofs.Untold.{filled_put, filled_up, seen_filled, step_filled, zeros}
 
 -- The row
 

@@ -5,10 +5,10 @@ use Rattle.std.specs.List.{AllByRecursion}
 use Rattle.std.proofs.lemmas.Bool.{cases_eq}
 use Rattle.std.proofs.lemmas.List.Sums.{sum_by-append, sum_by-cons}
 use Rattle.std.proofs.lemmas.Option.{slice_get_within}
-use Rattle.vm_ids.specs.Held.{Held}
-use Rattle.vm_model.specs.Machine.{Actor, Cache, Machine, Page, cache_of, numbered, pages_in}
 use Rattle.vm_model.proofs.Parts.Lists.{get_set_same, numbered_place, sum_by_swap}
-use Rattle.gmi_calls.specs.declared.gmi.Gmi.{Ghosts as GhostsOfGmi}
+use Rattle.vm_model.proofs.Parts.ListParts.{numbered_set_other}
+use Rattle.interface_callers.proofs.Words.{Actor, Cache, GhostsOfGmi, Held, Machine, Page, cache_of, numbered, pages_in}
+use Rattle.interface_callers.proofs.Lists.{all_at, number_at}
 use Rattle.mix_process.specs.Outcome.{HasThese, own_pages, usage_of}
 use Rattle.mix_process.specs.ProcessMachine.{may_write}
 use Rattle.mix_process.specs.Seen as seen
@@ -20,8 +20,6 @@ use Rattle.mix_process.specs.declared.mix.Image.{Image}
 use Rattle.mix_process.specs.declared.mix.Mix.{Mix}
 use Rattle.mix_process.specs.declared.process.Part.{Part}
 use Rattle.mix_process.specs.declared.process.Process.{Process}
-use Rattle.mix_process.proofs.Lists.{number_at}
-use Rattle.mix_process.proofs.Putting.{all_at, number_other}
 use Rattle.mix_process.proofs.Seeing.{pages_there, seen_length}
 use Rattle.mix_process.proofs.Storing.{own_cache}
 
@@ -111,7 +109,7 @@ module _ {A : Type 0} (w : Option A → ℕ) (nothing : w None ≡ 0) where
 
   still : (xs : List (Option A)) (k : ℕ) → 1 ≤ k → (cs : List Count) → (IsAmong k cs → ⊥) → AllByRecursion (Stands xs) cs → AllByRecursion (Stands (set xs (k - 1) None)) cs
   still xs k some [] out all = tt
-  still xs k some (c ∷ cs) out all = ((all.0.0, number_other xs k c.0 None some (λ e. out (inl e)) ∙ all.0.1, all.0.2), still xs k some cs (λ a. out (inr a)) all.1)
+  still xs k some (c ∷ cs) out all = ((all.0.0, numbered_set_other xs k c.0 None some (λ e. out (inl e)) ∙ all.0.1, all.0.2), still xs k some cs (λ a. out (inr a)) all.1)
 
   sum_alive : (cs : List Count) (xs : List (Option A)) → AreOnce cs → AllByRecursion (Stands xs) cs → ((k : ℕ) (x : A) → numbered xs k ≡ Some x → IsAmong k cs) → sum_by w xs ≡ sum_by amount cs
   sum_alive [] xs once all only = none_alive xs (λ i x e. only (i + 1) x (number_at xs (i + 1) (Some x) (omega arith) (ap (slice_get xs) (let s : i + 1 - 1 ≡ i = omega arith in s) ∙ e)))
@@ -121,7 +119,7 @@ module _ {A : Type 0} (w : Option A → ℕ) (nothing : w None ≡ 0) where
       let gone : numbered left c.0 ≡ None = number_at left c.0 None at.0 (get_set_same xs (c.0 - 1) None (slice_get_within xs (c.0 - 1) (Some all.0.0) at.1)) in
       let rest : sum_by w left ≡ sum_by amount cs = sum_alive cs left once.1 (still xs c.0 at.0 cs once.0 all.1) (λ k x e. elim (cases_eq k c.0) [
         | inl same ↦ absurd (let wrong : None ≡ Some x = sym gone ∙ ap (numbered left) (sym same) ∙ e in cc wrong)
-        | inr other ↦ elim (only k x (sym (number_other xs c.0 k None at.0 other) ∙ e)) [ inl same ↦ absurd (other (sym same)) | inr a ↦ a ]
+        | inr other ↦ elim (only k x (sym (numbered_set_other xs c.0 k None at.0 other) ∙ e)) [ inl same ↦ absurd (other (sym same)) | inr a ↦ a ]
       ]) in
       omega (arith, sum_by_swap w xs (c.0 - 1) (Some all.0.0) None at.1, nothing, rest, all.0.2, sum_by-cons amount c cs)
 

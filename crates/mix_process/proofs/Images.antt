@@ -5,25 +5,16 @@ use Rattle.std.specs.FinMap.{get}
 use Rattle.std.specs.Option.{option_map_or}
 use Rattle.std.proofs.lemmas.List.{length-append}
 use Rattle.std.proofs.lemmas.List.Sums.{sum_by_push}
-use Rattle.vm_ids.specs.Counting.{no_counts}
-use Rattle.vm_ids.specs.Held.{Held, Segments, segments_of}
 use Rattle.vm_ids.specs.declared.command.Command.TheVariants as vm_commands
-use Rattle.vm_ids.specs.declared.numbers.CacheId.{CacheId}
-use Rattle.vm_ids.specs.declared.numbers.SegId.{SegId}
 use Rattle.vm_ids.specs.declared.reply.Reply.TheVariants as replies
-use Rattle.vm_ids.specs.declared.reply.Trouble.{Trouble}
 use Rattle.vm_ids.specs.declared.reply.Trouble.TheVariants as troubles
-use Rattle.vm_model.specs.Answering.{Answer}
-use Rattle.vm_model.specs.Machine.{Cache, Machine, Page, cache_named, cache_of, live_pages, numbered, pages_in}
 use Rattle.vm_model.specs.Run as vm_run
 use Rattle.vm_model.specs.Run.{CallIs}
 use Rattle.vm_model.proofs.Outcomes.Kept.{IsKept}
-use Rattle.vm_model.specs.declared.limits.TheConstants.{LIVE_PAGES}
-use Rattle.vm_port.specs.declared.traits.mapper.Mapper.{Ghosts as GhostsOfMapper}
-use Rattle.gmi_calls.specs.Calling.{MapperCall, RaisesMade}
-use Rattle.gmi_calls.specs.Managing.{meanings_of}
-use Rattle.gmi_calls.specs.declared.gmi.Gmi.{Ghosts as GhostsOfGmi}
 use Rattle.gmi_calls.proofs.Rising.{rise_none}
+use Rattle.interface_callers.proofs.Words.{Answer, Cache, CacheId, GhostsOfGmi, GhostsOfMapper, Held, LIVE_PAGES, Machine, MapperCall, Page, RaisesMade, SegId, Segments, Trouble, cache_named, cache_of, live_pages, meanings_of, no_counts, numbered, pages_in, segments_of}
+use Rattle.interface_callers.proofs.Lists.{get_snoc}
+use Rattle.interface_callers.proofs.Naming.{named_by}
 use Rattle.mix_process.specs.Adding.{AreKept}
 use Rattle.mix_process.specs.Answering.{imaged, with_image}
 use Rattle.mix_process.specs.Outcome.{usage_of}
@@ -34,8 +25,7 @@ use Rattle.mix_process.specs.Use.{IsWithin, usage_sum}
 use Rattle.mix_process.specs.declared.mix.Image.{Image}
 use Rattle.mix_process.specs.declared.mix.Mix.{Mix}
 use Rattle.mix_process.proofs.Able.{able_after, is_call, keeps_sizes, segments_after, sync_after}
-use Rattle.mix_process.proofs.Destroying.{get_snoc}
-use Rattle.mix_process.proofs.Imaging.{HasNotOpened, HasOpened, Opening, image_last, image_none, image_seen_for, is_same, map_snoc, opening}
+use Rattle.mix_process.proofs.Imaging.{HasNotOpened, HasOpened, Opening, image_last, image_none, image_seen_for, map_snoc, opening}
 use Rattle.mix_process.proofs.Keeping.{image_pages_kept, images_kept, numbered_at, processes_kept}
 use Rattle.mix_process.proofs.Seeing.{pages_there}
 use Rattle.mix_process.proofs.Starting.{tied_opened}
@@ -51,10 +41,6 @@ no_image (Some image) e = absurd (cc e)
 
 pub is_none : (images : List Image) (seg : ℕ) → None ≡ option_map (λ (i : Image). i.cache) (image_for images seg) → image_for images seg ≡ None
 is_none images seg e = no_image (image_for images seg) e
-
-named_by : (o : Option ℕ) (seg : ℕ) → option_map_or (λ s. s == seg) o false ≡ true → o ≡ Some seg
-named_by None seg e = absurd (cc e)
-named_by (Some s) seg e = ap (λ (n : ℕ). Some n) (is_same s seg e)
 
 -- a segment of no cache names none
 named_none : (seg : ℕ) (cs : List (Option Cache)) → ((k : ℕ) (c : Cache) → slice_get cs k ≡ Some (Some c) → c.segment ≡ Some seg → ⊥) → is_some (cache_named cs seg) ≡ false

@@ -6,32 +6,21 @@ use Rattle.std.specs.Bool.{IsTrue}
 use Rattle.std.specs.FinMap.{get}
 use Rattle.std.proofs.lemmas.Bool.Decides.{nat_tests}
 use Rattle.std.proofs.lemmas.List.{length-map}
-use Rattle.vm_ids.specs.Counting.{MapperCounts, no_counts}
-use Rattle.vm_ids.specs.Held.{Held, Segments, segments_of}
 use Rattle.vm_ids.specs.Forest.Commands.{page_name}
 use Rattle.vm_ids.specs.Forest.Reading.{chain_of}
 use Rattle.vm_ids.specs.declared.command.Command.TheVariants as vm_commands
-use Rattle.vm_ids.specs.declared.numbers.CacheId.{CacheId}
-use Rattle.vm_ids.specs.declared.numbers.PageNo.{PageNo}
-use Rattle.vm_ids.specs.declared.numbers.SegId.{SegId}
 use Rattle.vm_ids.specs.declared.refusal.Refusal.TheVariants as refusals
 use Rattle.vm_ids.specs.declared.reply.FaultAt.TheVariants as faults
-use Rattle.vm_ids.specs.declared.reply.Reply.{Reply}
 use Rattle.vm_ids.specs.declared.reply.Reply.TheVariants as replies
-use Rattle.vm_ids.specs.declared.reply.Trouble.{Trouble}
 use Rattle.vm_ids.specs.declared.reply.Trouble.TheVariants as troubles
 use Rattle.vm_model.specs.Answering as vm
-use Rattle.vm_model.specs.Answering.{Answer, opened}
-use Rattle.vm_model.specs.Machine.{Cache, Machine, Page, cache_named, cache_of, is_named_by}
-use Rattle.vm_model.specs.Outcome.{IsAlike, Outcome, OutcomeAt, blank, blank_cache}
-use Rattle.vm_model.specs.PageForest.{PageForest, forest_shown}
 use Rattle.vm_model.specs.Run as vm_run
-use Rattle.vm_model.specs.declared.limits.TheConstants.{MOST_MADE}
 use Rattle.vm_model.proofs.Parts.Lists.{numbered-map}
-use Rattle.gmi_calls.specs.Calling.{AnswersWithin}
-use Rattle.gmi_calls.specs.Managing.{meanings_of}
+use Rattle.vm_model.proofs.Outcomes.Lying.{not_past}
 use Rattle.gmi_calls.specs.Room.{AnswerWithin}
-use Rattle.gmi_calls.specs.declared.gmi.Gmi.{Ghosts as GhostsOfGmi}
+use Rattle.std.proofs.lemmas.Bool.{eqb-true}
+use Rattle.interface_callers.proofs.Words.{Answer, AnswersWithin, Cache, CacheId, GhostsOfGmi, Held, IsAlike, Machine, MapperCounts, MOST_MADE, Outcome, OutcomeAt, Page, PageForest, PageNo, Reply, SegId, Segments, Trouble, blank, blank_cache, cache_named, cache_of, forest_shown, meanings_of, no_counts, opened, segments_of}
+use Rattle.interface_callers.proofs.Naming.{named_blank}
 use Rattle.mix_process.specs.Outcome.{usage_of, would_pass}
 use Rattle.mix_process.specs.ProcessMachine.{image_in}
 use Rattle.mix_process.specs.Seen.{cache_pages, image_seen}
@@ -41,9 +30,6 @@ use Rattle.mix_process.proofs.Passing.{caches_past, each_some, each_unless, page
 use Rattle.mix_process.proofs.Untold.{usage_blank}
 
 -- Images in lists
-
-pub is_same : (a b : ℕ) → (a == b) ≡ true → a ≡ b
-is_same a b e = grind (arith, nat_tests)
 
 is_other : (a b : ℕ) → (a == b) ≡ false → a ≢ b
 is_other a b e same = grind (arith, nat_tests)
@@ -56,7 +42,7 @@ image_there [] seg image e = absurd (cc e)
 image_there (x ∷ xs) seg image e = by (x.seg.0 == seg) (image_there xs seg image) refl e
   where
     by : (b : Bool) → (image_for xs seg ≡ Some image → (i : ℕ) × (slice_get xs i ≡ Some image) × (image.seg.0 ≡ seg)) → (x.seg.0 == seg) ≡ b → cond b (Some x) (image_for xs seg) ≡ Some image → (i : ℕ) × (slice_get (x ∷ xs) i ≡ Some image) × (image.seg.0 ≡ seg)
-    by true rest s e = let same : x ≡ image = cc e in (0, e, ap (λ (y : Image). y.seg.0) (sym same) ∙ is_same x.seg.0 seg s)
+    by true rest s e = let same : x ≡ image = cc e in (0, e, ap (λ (y : Image). y.seg.0) (sym same) ∙ eqb-true x.seg.0 seg s)
     by false rest s e = let r = rest e in (suc r.0, r.1, r.2)
 
 -- where there is none, none of them is of the segment
@@ -138,23 +124,6 @@ opening_outcome told m f h seg holds free (Err troubles.Memory) next rises o = i
 
 -- Without bytes
 
-named_blank : (seg : ℕ) (o : Option Cache) → is_named_by seg (option_map blank_cache o) ≡ is_named_by seg o
-named_blank seg None = refl
-named_blank seg (Some c) = refl
-
-some_blank : (o : Option Cache) → is_some (option_map blank_cache o) ≡ is_some o
-some_blank None = refl
-some_blank (Some c) = refl
-
-free_blank : (seg : ℕ) (cs : List (Option Cache)) → is_some (cache_named (map (option_map blank_cache) cs) seg) ≡ is_some (cache_named cs seg)
-free_blank seg [] = refl
-free_blank seg (c ∷ cs) =
-    ap (λ (b : Bool). is_some (cond b (option_map blank_cache c) (cache_named (map (option_map blank_cache) cs) seg))) (named_blank seg c) ∙ by (is_named_by seg c) (free_blank seg cs)
-  where
-    by : (b : Bool) → is_some (cache_named (map (option_map blank_cache) cs) seg) ≡ is_some (cache_named cs seg) → is_some (cond b (option_map blank_cache c) (cache_named (map (option_map blank_cache) cs) seg)) ≡ is_some (cond b c (cache_named cs seg))
-    by true rest = some_blank c
-    by false rest = rest
-
 pub map_snoc : {A B : Type 0} (f : A → B) (xs : List A) (x : A) → map f (xs ++ x ∷ []) ≡ map f xs ++ f x ∷ []
 map_snoc f [] x = refl
 map_snoc f (y ∷ xs) x = λ i. f y ∷ map_snoc f xs x i
@@ -186,7 +155,7 @@ pub opening : (told : Option Segments) (m : Machine) (f : Option PageForest) (se
     → (a : Answer) (next : Machine) (rises : MapperCounts) → OutcomeAt told m f (vm_commands.OpenSegment seg) a next rises → Opening told m seg.0 rises a next
 opening (Some h) m f seg free a next rises o = opening_outcome (Some h) m f h seg refl free a next rises o
 opening None m f seg free a next rises o =
-    let free_whole : is_some (cache_named o.whole.caches seg.0) ≡ false = sym (free_blank seg.0 o.whole.caches) ∙ ap (λ (x : Machine). is_some (cache_named x.caches seg.0)) (sym o.is) ∙ free in
+    let free_whole : is_some (cache_named o.whole.caches seg.0) ≡ false = sym (named_blank seg.0 o.whole.caches) ∙ ap (λ (x : Machine). is_some (cache_named x.caches seg.0)) (sym o.is) ∙ free in
     subst (λ (x : Machine). Opening None x seg.0 rises a next) (sym o.is)
     (subst (λ (x : Machine). Opening None (blank o.whole) seg.0 rises a x) (sym o.is_next)
     (opening_blank o.whole o.whole_next seg.0 rises o.whole_answer a o.alike
@@ -201,9 +170,6 @@ Telling has cache page answer = ((f : PageForest) × (answer ≡ Ok (replies.Cha
 
 is_past : (n k : ℕ) → nat_lt n k ≡ true → n < k
 is_past n k e = grind (arith, nat_tests)
-
-not_past : (n k : ℕ) → nat_lt n k ≡ false → k ≤ n
-not_past n k e = grind (arith, nat_tests)
 
 some_same : {A : Type 0} (o : Option A) (x y : A) → o ≡ Some x → o ≡ Some y → x ≡ y
 some_same o x y e f = let both : Some x ≡ Some y = sym e ∙ f in cc both

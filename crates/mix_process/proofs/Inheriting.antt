@@ -4,14 +4,10 @@ use Rattle.std.specs.Prelude.{IfSome, Ok, Err, option_map, slice_get}
 use Rattle.std.specs.Option.{option_map_or}
 use Rattle.std.proofs.lemmas.List.{length-append, length-map}
 use Rattle.std.proofs.lemmas.Option.{slice_get_within}
-use Rattle.vm_ids.specs.Counting.{MapperCounts, Rise, counts_sum, no_counts}
-use Rattle.vm_ids.specs.Held.{segments_of}
-use Rattle.vm_ids.specs.declared.reply.Trouble.{Trouble}
-use Rattle.vm_model.specs.Machine.{Cache, Machine, cache_of, numbered}
 use Rattle.vm_model.proofs.Parts.Lists.{get_set_same}
-use Rattle.vm_port.specs.declared.traits.mapper.Mapper.{Ghosts as GhostsOfMapper}
-use Rattle.gmi_calls.specs.declared.gmi.Gmi.{Ghosts as GhostsOfGmi}
 use Rattle.gmi_calls.proofs.Rising.{rise_none, rise_then}
+use Rattle.interface_callers.proofs.Words.{Cache, GhostsOfGmi, GhostsOfMapper, Machine, MapperCounts, Rise, Trouble, cache_of, counts_sum, no_counts, numbered, segments_of}
+use Rattle.interface_callers.proofs.Lists.{all_at, get_append, get_last, put_back, take_none}
 use Rattle.mix_process.specs.Adding.{AreKept, most_of, put_at, with_more}
 use Rattle.mix_process.specs.Copying.{IsCopied, IsInherited, MayCopy, MayInherit, copy_budget, cost_to_copy, usage_of_parts, usage_to_copy}
 use Rattle.mix_process.specs.Outcome.{Usage, usage_of}
@@ -26,12 +22,10 @@ use Rattle.mix_process.specs.declared.process.Part.{Part}
 use Rattle.mix_process.specs.declared.process.Process.{Process}
 use Rattle.mix_process.proofs.Clearing.{parts_kept}
 use Rattle.mix_process.proofs.Counts.{cheap, cost_of_parts, have_some}
-use Rattle.mix_process.proofs.Joining.{map_place, one_more_seen, parts_seen, set_same}
+use Rattle.mix_process.proofs.Joining.{map_place, one_more_seen, parts_seen}
 use Rattle.mix_process.proofs.Keeping.{numbered_at}
-use Rattle.mix_process.proofs.Lists.{get_append, get_last, take_none}
 use Rattle.mix_process.proofs.Looking.{pages-append, same_self}
 use Rattle.mix_process.proofs.Mapping.{small_in}
-use Rattle.mix_process.proofs.Putting.{all_at}
 use Rattle.mix_process.proofs.Seeing.{part_length}
 use Rattle.mix_process.proofs.Taking.{part_cache}
 use Rattle.mix_process.proofs.Using.{lack_still}
@@ -189,7 +183,7 @@ module _ {Manager X Chooser : Type 0} (M : GhostsOfMapper X) (G : GhostsOfGmi Ma
       bare_seen = ap (parts_seen m) (may.bare ∙ sym (take_none p.parts.items))
 
       start : S.processes ≡ set S.processes L (Some (parts_seen m (take 0 p.parts.items)))
-      start = sym (set_same S.processes L (Some (process_seen m may.child)) (map_place (option_map (process_seen m)) old.processes.items L (Some may.child) stands))
+      start = sym (put_back S.processes L (Some (process_seen m may.child)) (map_place (option_map (process_seen m)) old.processes.items L (Some may.child) stands))
           ∙ ap (λ (x : model.Process). set S.processes L (Some x)) bare_seen
 
   module _ (place next : ℕ) (now : X) (mix : Mix Manager) (a : AreCopying M G before old may.front p place next now mix) where

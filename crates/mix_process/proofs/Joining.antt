@@ -1,8 +1,9 @@
 -- What is seen of a process that has one part more, and of processes whose caches are kept.
-use Rattle.std.proofs.Common.{◌≡◌, ℕ, zero, suc, ◌+◌, ◌-◌, Bool, true, false, cond, List, [], ◌∷◌, ◌++◌, length, map, set, Option, Some, None, refl, sym, ap, ◌∙◌, append_assoc, arith}
+use Rattle.std.proofs.Common.{◌≡◌, ℕ, zero, suc, ◌+◌, ◌-◌, Bool, true, false, cond, List, [], ◌∷◌, ◌++◌, length, map, Option, Some, None, refl, sym, ap, ◌∙◌, append_assoc, arith}
 use Rattle.std.specs.Prelude.{option_map, slice_get}
 use Rattle.std.proofs.lemmas.List.{append-nil, map-set}
-use Rattle.vm_model.specs.Machine.{Cache, Machine, Page, cache_of, numbered}
+use Rattle.interface_callers.proofs.Words.{Cache, Machine, Page, cache_of, numbered}
+use Rattle.interface_callers.proofs.Lists.{all_at, map_same, number_at, put_back}
 use Rattle.mix_process.specs.Adding.{IsPutAt, put_at, with_more}
 use Rattle.mix_process.specs.ProcessMachine as model
 use Rattle.mix_process.specs.ProcessMachine.{ProcessMachine}
@@ -15,8 +16,7 @@ use Rattle.mix_process.specs.declared.mix.Mix.{Mix}
 use Rattle.mix_process.specs.declared.process.Part.{Part}
 use Rattle.mix_process.specs.declared.process.Process.{Process}
 use Rattle.mix_process.proofs.Clearing.{part_kept, image_kept}
-use Rattle.mix_process.proofs.Lists.{number_at}
-use Rattle.mix_process.proofs.Putting.{all_at, map_same, process_same}
+use Rattle.mix_process.proofs.Putting.{process_same}
 use Rattle.mix_process.proofs.Seeing.{seen-append}
 use Rattle.mix_process.proofs.Taking.{part_cache}
 
@@ -93,11 +93,6 @@ seen_alike m p q is = ap (λ (parts : List Part). parts_seen m parts) (is ∙ ap
 
 -- In the table
 
-pub set_same : {A : Type 0} (xs : List A) (i : ℕ) (x : A) → slice_get xs i ≡ Some x → set xs i x ≡ xs
-set_same [] i x e = refl
-set_same (y ∷ xs) zero x e = let same : y ≡ x = cc in ap (λ z. z ∷ xs) (sym same)
-set_same (y ∷ xs) (suc i) x e = ap (λ zs. y ∷ zs) (set_same xs i x e)
-
 pub map_place : {A B : Type 0} (f : A → B) (xs : List A) (i : ℕ) (x : A) → slice_get xs i ≡ Some x → slice_get (map f xs) i ≡ Some (f x)
 map_place f [] i x e = absurd (cc e)
 map_place f (y ∷ xs) zero x e = let same : y ≡ x = cc in ap (λ z. Some (f z)) same
@@ -112,7 +107,7 @@ module _ {Manager : Type 0} (m : Machine) (old : Mix Manager) (place : ℕ) (p :
   pub seen_still : process_seen m put.now ≡ process_seen m p → processes_seen m new.processes.items new.images.items ≡ processes_seen m old.processes.items old.images.items
   seen_still same = seen_put
       ∙ ap (λ (x : model.Process). put_at (processes_seen m old.processes.items old.images.items) place x) same
-      ∙ (λ i. record { page_bytes = m.page_bytes; processes = set_same (map (option_map (process_seen m)) old.processes.items) place (Some (process_seen m p)) (map_place (option_map (process_seen m)) old.processes.items place (Some p) there) i; images = map (image_seen m) old.images.items })
+      ∙ (λ i. record { page_bytes = m.page_bytes; processes = put_back (map (option_map (process_seen m)) old.processes.items) place (Some (process_seen m p)) (map_place (option_map (process_seen m)) old.processes.items place (Some p) there) i; images = map (image_seen m) old.images.items })
 
 -- Caches that are kept
 

@@ -2,7 +2,8 @@
 use Rattle.std.proofs.Common.{◌≡◌, ℕ, ◌+◌, ◌-◌, List, [], map, Option, Some, None, refl, sym, ap, ◌∙◌, arith}
 use Rattle.std.specs.Prelude.{option_map, slice_get}
 use Rattle.std.specs.Option.{option_map_or}
-use Rattle.vm_model.specs.Machine.{Cache, Machine, Page, cache_of, numbered}
+use Rattle.interface_callers.proofs.Words.{Cache, Machine, Page, cache_of, numbered}
+use Rattle.interface_callers.proofs.Lists.{all_at, map_same, number_at}
 use Rattle.mix_process.specs.Adding.{AreKept}
 use Rattle.mix_process.specs.ProcessMachine as model
 use Rattle.mix_process.specs.Seen.{cache_pages, image_seen, process_seen}
@@ -10,8 +11,7 @@ use Rattle.mix_process.specs.Tying.{AreTied, IsPart}
 use Rattle.mix_process.specs.declared.mix.Image.{Image}
 use Rattle.mix_process.specs.declared.process.Part.{Part}
 use Rattle.mix_process.specs.declared.process.Process.{Process}
-use Rattle.mix_process.proofs.Lists.{number_at}
-use Rattle.mix_process.proofs.Putting.{all_at, map_same, process_same}
+use Rattle.mix_process.proofs.Putting.{process_same}
 use Rattle.mix_process.proofs.Taking.{part_cache}
 
 pub numbered_at : {A : Type 0} (xs : List (Option A)) (k : ℕ) (x : A) → slice_get xs k ≡ Some (Some x) → numbered xs (k + 1) ≡ Some x

@@ -4,24 +4,21 @@ use Rattle.std.specs.Prelude.{◌&&◌, Ok, Err, Result, nat_le, nat_lt, slice_g
 use Rattle.std.specs.List.{AllByRecursion}
 use Rattle.std.proofs.lemmas.Bool.{cases_eq}
 use Rattle.std.proofs.lemmas.Bool.Decides.{nat_tests}
-use Rattle.vm_ids.specs.Counting.{MapperCounts}
-use Rattle.vm_ids.specs.Held.{Segments}
 use Rattle.vm_ids.specs.declared.command.MixCommand.{MixCommand}
 use Rattle.vm_ids.specs.declared.command.MixCommand.TheVariants as commands
-use Rattle.vm_ids.specs.declared.refusal.Refusal.{Refusal}
 use Rattle.vm_ids.specs.declared.refusal.Refusal.TheVariants as refusals
 use Rattle.vm_ids.specs.declared.reply.Reply.TheVariants as replies
 use Rattle.vm_ids.specs.declared.reply.Trouble.TheVariants as troubles
-use Rattle.vm_model.specs.Answering.{Answer}
-use Rattle.vm_model.specs.Machine.{Page}
 use Rattle.vm_model.proofs.Parts.Lists.{get_set_other, get_set_same, numbered_place}
 use Rattle.std.proofs.lemmas.Option.{slice_get_within}
+use Rattle.interface_callers.proofs.Words.{Answer, MapperCounts, Page, Refusal, Segments}
+use Rattle.interface_callers.proofs.Lists.{get_append, get_last, number_at}
 use Rattle.mix_process.specs.ProcessMachine.{Place, Process, ProcessMachine, image_of, place, place_of, process_of}
 use Rattle.mix_process.specs.Answering.{Answered, add_process, answer_of, exec_of, exit_of, fork_of, grow_of, grown_by, imaged, load_of, page_at, process_from, reply, store_of, with_image, with_ok, with_some, written_at}
 use Rattle.mix_process.specs.Outcome.{Outcome, Stays, Usage}
 use Rattle.mix_process.specs.Laws.{Chain, ForksAreOfOneMoment, LoadsAreOfBytes, Step, byte_in, byte_of, stores_at}
 use Rattle.mix_process.proofs.Areas.{HasByte, byte_on, byte_there, grown_keeps, has_byte, placed, stored_keeps}
-use Rattle.mix_process.proofs.Lists.{get_append, get_drop, get_last, get_take, number_at}
+use Rattle.mix_process.proofs.Lists.{get_drop, get_take}
 use Rattle.mix_process.proofs.Rows.{each_ok, each_some, each_unless}
 
 -- it has the byte, or it ended

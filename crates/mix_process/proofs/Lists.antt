@@ -1,37 +1,15 @@
 -- What stands at a place of a list.
-use Rattle.std.proofs.Common.{◌≡◌, ◌==◌, ℕ, zero, suc, ◌+◌, ◌-◌, ◌<◌, ◌≤◌, Bool, true, false, cond, List, [], ◌∷◌, ◌++◌, length, take, drop, Option, Some, None, refl, ap, ◌∙◌, arith}
-use Rattle.std.specs.Prelude.{option_and_then, slice_get}
-use Rattle.std.proofs.lemmas.Bool.Decides.{nat_tests}
+use Rattle.std.proofs.Common.{◌≡◌, ℕ, zero, suc, ◌+◌, ◌-◌, ◌<◌, ◌≤◌, List, [], ◌∷◌, ◌++◌, length, take, drop, Some, refl, ap, ◌∙◌, arith}
+use Rattle.std.specs.Prelude.{slice_get}
 use Rattle.std.proofs.lemmas.List.{length-append, length-take-le}
 use Rattle.std.proofs.lemmas.Option.{slice_get_within}
-use Rattle.vm_model.specs.Answering.{overwrite}
-use Rattle.vm_model.specs.Machine.{numbered}
-
-pub take_none : {A : Type 0} (xs : List A) → take 0 xs ≡ []
-take_none [] = refl
-take_none (x ∷ xs) = refl
-
-pub get_append : {A : Type 0} (xs ys : List A) (i : ℕ) (x : A) → slice_get xs i ≡ Some x → slice_get (xs ++ ys) i ≡ Some x
-get_append [] ys i x e = absurd (cc e)
-get_append (y ∷ xs) ys zero x e = e
-get_append (y ∷ xs) ys (suc i) x e = get_append xs ys i x e
+use Rattle.interface_callers.proofs.Words.{overwrite}
+use Rattle.interface_callers.proofs.Lists.{get_append}
 
 pub get_left : {A : Type 0} (xs ys : List A) (i : ℕ) → i < length xs → slice_get (xs ++ ys) i ≡ slice_get xs i
 get_left [] ys i h = absurd (omega arith)
 get_left (x ∷ xs) ys zero h = refl
 get_left (x ∷ xs) ys (suc i) h = get_left xs ys i (omega arith)
-
-pub get_last : {A : Type 0} (xs : List A) (x : A) → slice_get (xs ++ x ∷ []) (length xs) ≡ Some x
-get_last [] x = refl
-get_last (y ∷ xs) x = get_last xs x
-
-numbered_by : {A : Type 0} (n : ℕ) (zeroth : Bool) (o p : Option (Option A)) (x : Option A) → (n == 0) ≡ zeroth → 1 ≤ n → o ≡ p → p ≡ Some x → cond zeroth None (option_and_then (λ y. y) o) ≡ x
-numbered_by n true o p x z some e f = absurd (grind (arith, nat_tests))
-numbered_by n false o p x z some e f = ap (option_and_then (λ y. y)) (e ∙ f)
-
--- what stands at a place has the number behind it
-pub number_at : {A : Type 0} (xs : List (Option A)) (n : ℕ) (x : Option A) → 1 ≤ n → slice_get xs (n - 1) ≡ Some x → numbered xs n ≡ x
-number_at xs n x some e = numbered_by n (n == 0) (slice_get xs (n - 1)) (slice_get xs (n - 1)) x refl some refl e
 
 pub get_take : {A : Type 0} (xs : List A) (n i : ℕ) → i < n → slice_get (take n xs) i ≡ slice_get xs i
 get_take [] zero i h = absurd (omega arith)

@@ -3,29 +3,19 @@ use Rattle.std.proofs.Common.{◌≡◌, ◌⊎◌, inl, inr, ℕ, ◌+◌, ◌-
 use Rattle.std.specs.Prelude.{Ok, Err, Result, IsOkAnd, nat_lt, slice_get, option_map, unwrap_or}
 use Rattle.std.specs.Option.{option_map_or}
 use Rattle.std.proofs.lemmas.Bool.Decides.{nat_tests}
-use Rattle.vm_ids.specs.Counting.{MapperCounts}
-use Rattle.vm_ids.specs.Held.{Segments}
 use Rattle.vm_ids.specs.declared.command.Command.TheVariants as vm_commands
 use Rattle.vm_ids.specs.declared.command.MixCommand.TheVariants as commands
-use Rattle.vm_ids.specs.declared.command.Mapping.{Mapping}
-use Rattle.vm_ids.specs.declared.numbers.PageNo.{PageNo}
-use Rattle.vm_ids.specs.declared.numbers.ProcId.{ProcId}
-use Rattle.vm_ids.specs.declared.reply.FaultAt.{FaultAt}
-use Rattle.vm_ids.specs.declared.refusal.Refusal.{Refusal}
 use Rattle.vm_ids.specs.declared.refusal.Refusal.TheVariants as refusals
 use Rattle.vm_ids.specs.declared.reply.FaultAt.TheVariants as faults
 use Rattle.vm_ids.specs.declared.reply.Reply.TheVariants as replies
 use Rattle.vm_ids.specs.declared.reply.Trouble.TheVariants as troubles
 use Rattle.vm_model.specs.Answering as vm
-use Rattle.vm_model.specs.Answering.{Answer}
-use Rattle.vm_model.specs.Machine.{Actor, Cache, Machine, Page, Region, actor_of, cache_of, numbered}
 use Rattle.vm_model.specs.Outcome as vm_outcome
-use Rattle.vm_model.specs.Outcome.{IsNotRefused}
-use Rattle.vm_model.specs.PageForest.{PageForest}
 use Rattle.vm_model.specs.Place as vm_place
 use Rattle.vm_model.proofs.Parts.Lists.{numbered-map}
+use Rattle.interface_callers.proofs.Words.{Actor, Answer, Cache, FaultAt, IsNotRefused, Machine, MapperCounts, Mapping, Page, PageForest, PageNo, ProcId, Refusal, Region, Segments, actor_of, cache_of, numbered}
 use Rattle.mix_process.specs.ProcessMachine as model
-use Rattle.mix_process.specs.ProcessMachine.{ProcessMachine, area_at, area_start, may_write, pages_of}
+use Rattle.mix_process.specs.ProcessMachine.{ProcessMachine, area_at, pages_of}
 use Rattle.mix_process.specs.Answering as mix
 use Rattle.mix_process.specs.Outcome.{Outcome, Usage, page_below, page_in_piece}
 use Rattle.mix_process.specs.Seen.{area_seen, cache_pages, pages_in, process_seen, processes_seen, same_area, sizes_in}

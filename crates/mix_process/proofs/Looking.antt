@@ -1,14 +1,12 @@
 -- Which region of an actor holds an address, and so which part of its process.
 use Rattle.std.proofs.Common.{◌≡◌, ◌⊎◌, inl, inr, ℕ, ◌+◌, ◌*◌, ◌<◌, ◌≤◌, Bool, true, false, cond, List, [], ◌∷◌, ◌++◌, Option, Some, None, refl, ap, ◌∙◌, arith, append_assoc}
-use Rattle.std.specs.Prelude.{◌&&◌, ◌||◌, nat_lt}
+use Rattle.std.specs.Prelude.{◌&&◌, nat_lt}
 use Rattle.std.specs.List.{list_any}
 use Rattle.std.proofs.lemmas.Bool.{cases_lt}
 use Rattle.std.proofs.lemmas.Bool.Decides.{nat_tests}
-use Rattle.vm_ids.specs.declared.command.Mapping.{Mapping}
-use Rattle.vm_model.specs.Answering.{insert_region, overlaps}
-use Rattle.vm_model.specs.Machine.{Actor, Region}
-use Rattle.vm_model.specs.Place.{holds, region_at}
 use Rattle.vm_model.specs.Regions.{mapping_of}
+use Rattle.vm_model.proofs.Outcomes.Lying.{or_parts}
+use Rattle.interface_callers.proofs.Words.{Actor, Mapping, Region, holds, insert_region, overlaps, region_at}
 use Rattle.mix_process.specs.ProcessMachine.{area_start}
 use Rattle.mix_process.specs.Seen.{mapping_behind, pages_in, same_area}
 use Rattle.mix_process.specs.Tying.{AreMapped, IsRegionOf}
@@ -39,10 +37,6 @@ apart_both address r s apart h x =
     let both : overlaps 4096 r.start r.pages s ≡ true = λ i. c i && d i in
     absurd (cc (both, apart))
 
-any_split : (b c : Bool) → (b || c) ≡ false → (b ≡ false) × (c ≡ false)
-any_split true c e = absurd (cc e)
-any_split false c e = (refl, e)
-
 inserted_by : (address : ℕ) (r x : Region) (xs : Actor) → overlaps 4096 r.start r.pages x ≡ false → region_at 4096 address (insert_region r xs) ≡ cond (holds 4096 address r) (Some r) (region_at 4096 address xs)
     → (b : Bool) → region_at 4096 address (cond b (r ∷ x ∷ xs) (x ∷ insert_region r xs)) ≡ cond (holds 4096 address r) (Some r) (region_at 4096 address (x ∷ xs))
 inserted_by address r x xs apart rest true = refl
@@ -52,7 +46,7 @@ inserted_by address r x xs apart rest false = ap (cond (holds 4096 address x) (S
 pub inserted_at : (address : ℕ) (r : Region) (rs : Actor) → list_any (overlaps 4096 r.start r.pages) rs ≡ false → region_at 4096 address (insert_region r rs) ≡ cond (holds 4096 address r) (Some r) (region_at 4096 address rs)
 inserted_at address r [] apart = refl
 inserted_at address r (x ∷ xs) apart =
-    let parts : (overlaps 4096 r.start r.pages x ≡ false) × (list_any (overlaps 4096 r.start r.pages) xs ≡ false) = any_split (overlaps 4096 r.start r.pages x) (list_any (overlaps 4096 r.start r.pages) xs) apart in
+    let parts : (overlaps 4096 r.start r.pages x ≡ false) × (list_any (overlaps 4096 r.start r.pages) xs ≡ false) = or_parts (overlaps 4096 r.start r.pages x) (list_any (overlaps 4096 r.start r.pages) xs) apart in
     inserted_by address r x xs parts.0 (inserted_at address r xs parts.1) (nat_lt r.start x.start)
 
 -- The part whose region holds an address.

@@ -7,24 +7,15 @@ use Rattle.std.proofs.lemmas.Bool.{cases_eq}
 use Rattle.std.proofs.lemmas.Bool.Decides.{nat_tests}
 use Rattle.std.proofs.lemmas.List.{append-nil, length-set}
 use Rattle.std.proofs.lemmas.Option.{get_or_from_slice_get, slice_get_within}
-use Rattle.vm_ids.specs.Counting.{no_counts}
-use Rattle.vm_ids.specs.Held.{Held, segments_of}
 use Rattle.vm_ids.specs.declared.command.Command.TheVariants as vm_commands
-use Rattle.vm_ids.specs.declared.command.Mapping.{Mapping}
-use Rattle.vm_ids.specs.declared.numbers.ActorId.{ActorId}
-use Rattle.vm_ids.specs.declared.numbers.RegionId.{RegionId}
 use Rattle.vm_ids.specs.declared.refusal.Refusal.TheVariants as refusals
 use Rattle.vm_ids.specs.declared.reply.Reply.TheVariants as replies
-use Rattle.vm_ids.specs.declared.reply.Trouble.{Trouble}
 use Rattle.vm_ids.specs.declared.reply.Trouble.TheVariants as troubles
-use Rattle.vm_model.specs.Answering.{Answer, add_region, answer_by, insert_region, region_of}
-use Rattle.vm_model.specs.Machine.{Actor, Cache, Machine, Page, actor_of, cache_of, live_pages, living_actors, numbered}
 use Rattle.vm_model.specs.Machine as vm_machine
-use Rattle.vm_model.specs.declared.limits.TheConstants.{LIVE_PAGES, LIVING_ACTORS, MOST_MADE}
 use Rattle.vm_model.proofs.Parts.Lists.{get_set_same, numbered_place, sum_by_less}
-use Rattle.gmi_calls.specs.Calling.{CallDone, RaisesMade}
-use Rattle.gmi_calls.specs.Managing.{meanings_of}
-use Rattle.gmi_calls.specs.declared.gmi.Gmi.{Ghosts as GhostsOfGmi}
+use Rattle.vm_model.proofs.Parts.ListParts.{numbered_set_other}
+use Rattle.interface_callers.proofs.Words.{Actor, ActorId, Answer, Cache, CallDone, GhostsOfGmi, Held, LIVE_PAGES, LIVING_ACTORS, Machine, Mapping, MOST_MADE, RaisesMade, RegionId, Trouble, actor_of, add_region, answer_by, cache_of, insert_region, live_pages, living_actors, meanings_of, no_counts, numbered, region_of, segments_of}
+use Rattle.interface_callers.proofs.Lists.{number_at}
 use Rattle.mix_process.specs.Adding.{IsMapped, IsPutAt, IsUnmapped, MapsInto, MapsPart, MayMap, map_budget, put_at, usage_to_map}
 use Rattle.mix_process.specs.Inner.{spare_of}
 use Rattle.mix_process.specs.Outcome.{usage_of}
@@ -36,11 +27,10 @@ use Rattle.mix_process.specs.declared.mix.Image.{Image}
 use Rattle.mix_process.specs.declared.mix.Mix.{Mix}
 use Rattle.mix_process.specs.declared.process.Part.{Part}
 use Rattle.mix_process.specs.declared.process.Process.{Process}
-use Rattle.mix_process.proofs.Calls.{able_called, answered, sync_called}
+use Rattle.mix_process.proofs.Able.{sync_alike}
+use Rattle.mix_process.proofs.Calls.{able_called, answered}
 use Rattle.mix_process.proofs.Joining.{seen_alike, seen_put, seen_still, seen_with}
-use Rattle.mix_process.proofs.Lists.{number_at}
 use Rattle.mix_process.proofs.Mapping.{tied_mapped}
-use Rattle.mix_process.proofs.Putting.{number_other}
 use Rattle.mix_process.proofs.Regions.{Maps, mapped_at}
 use Rattle.mix_process.proofs.Seeing.{part_length}
 
@@ -105,7 +95,7 @@ module _ (table : List (Option Process)) (place : ℕ) (p q : Process) (there : 
   put_others : (n : ℕ) → n ≢ place + 1 → numbered put n ≡ numbered table n
   put_others n other =
       ap (λ (k : ℕ). numbered (set table k (Some q)) n) (let e : place ≡ place + 1 - 1 = omega arith in e)
-      ∙ number_other table (place + 1) n (Some q) (omega arith) other
+      ∙ numbered_set_other table (place + 1) n (Some q) (omega arith) other
 
   module _ (alike : IsAlike p q) where
     to : HasAlikes (numbered table) (numbered put)
@@ -240,8 +230,7 @@ module _ {Manager X Chooser : Type 0} (G : GhostsOfGmi Manager X Chooser) (told 
                   (able_called G old.gmi gmi told page (vm_commands.Map p.actor (mapping_behind p.parts.items part)) a old.images.items (length old.processes.items) (numbered old.processes.items) spare able called
                   old.images.items (length (set old.processes.items place (Some put.now))) (numbered (set old.processes.items place (Some put.now))) spare
                   (omega (arith, able.few, length-set old.processes.items place (Some put.now), ap (λ (x : Machine). length x.actors) u.next_is)) (omega (arith, able.most, ap (λ (x : Machine). length x.actors) u.next_is)) tied
-                  (sync_called G old.gmi gmi told page (vm_commands.Map p.actor (mapping_behind p.parts.items part)) a old.images.items (length old.processes.items) (numbered old.processes.items) spare able called
-                  (λ i image e. ap (λ (x : Machine). cache_pages x image.cache.0) u.next_is)));
+                  (sync_alike (G.machine old.gmi told) (G.machine gmi told) old.images.items told (λ i image e. ap (λ (x : Machine). cache_pages x image.cache.0) u.next_is) able.synchronised));
               put = put;
               machine = ap (λ (x : Manager). G.machine x told) g ∙ u.next_is;
               seen = ap (λ (x : Machine). processes_seen x new.processes.items new.images.items) (ap (λ (x : Manager). G.machine x told) g ∙ u.next_is) ∙ seen_still m old place p may.room.there [] new put (seen_alike m p put.now put.parts_now);
@@ -275,8 +264,7 @@ module _ {Manager X Chooser : Type 0} (G : GhostsOfGmi Manager X Chooser) (told 
                   (able_called G old.gmi gmi told page (vm_commands.Map p.actor (mapping_behind p.parts.items part)) a old.images.items (length old.processes.items) (numbered old.processes.items) spare able called
                   old.images.items (length (set old.processes.items place (Some put.now))) (numbered (set old.processes.items place (Some put.now))) none_spare
                   (omega (arith, able.few, length-set old.processes.items place (Some put.now), actors)) (omega (arith, able.most, actors)) tied
-                  (sync_called G old.gmi gmi told page (vm_commands.Map p.actor (mapping_behind p.parts.items part)) a old.images.items (length old.processes.items) (numbered old.processes.items) spare able called
-                  (λ i image e. ap (λ (x : Machine). cache_pages x image.cache.0) made.next_is)));
+                  (sync_alike (G.machine old.gmi told) (G.machine gmi told) old.images.items told (λ i image e. ap (λ (x : Machine). cache_pages x image.cache.0) made.next_is) able.synchronised));
               put = put;
               seen = ap (λ (x : Machine). processes_seen x new.processes.items new.images.items) machine
                   ∙ seen_put m old place p may.room.there (part ∷ []) new put

@@ -5,12 +5,11 @@ use Rattle.std.specs.List.{AllByRecursion, list_any}
 use Rattle.std.proofs.lemmas.Bool.{cases_eq}
 use Rattle.std.proofs.lemmas.Bool.Decides.{nat_tests}
 use Rattle.std.proofs.lemmas.Option.{slice_get_within}
-use Rattle.vm_ids.specs.declared.command.Mapping.{Mapping}
-use Rattle.vm_ids.specs.declared.numbers.ActorId.{ActorId}
-use Rattle.vm_model.specs.Answering.{add_region, insert_region, overlaps, region_of}
-use Rattle.vm_model.specs.Machine.{Actor, Machine, Region, actor_of, numbered}
 use Rattle.vm_model.specs.Regions.{mapping_of}
 use Rattle.vm_model.proofs.Parts.Lists.{get_set_same, numbered_place}
+use Rattle.vm_model.proofs.Parts.ListParts.{numbered_set_other}
+use Rattle.interface_callers.proofs.Words.{Actor, ActorId, Machine, Mapping, Region, actor_of, add_region, insert_region, numbered, overlaps, region_of}
+use Rattle.interface_callers.proofs.Lists.{get_append, get_last, get_snoc, none_any, number_at}
 use Rattle.mix_process.specs.ProcessMachine.{area_start, may_write}
 use Rattle.mix_process.specs.Adding.{most_of}
 use Rattle.mix_process.specs.Seen.{mapping_behind, pages_in, same_area}
@@ -21,11 +20,8 @@ use Rattle.mix_process.specs.declared.area.Area.TheVariants.{Data, Stack, Text}
 use Rattle.mix_process.specs.declared.mix.Image.{Image}
 use Rattle.mix_process.specs.declared.process.Part.{Part}
 use Rattle.mix_process.specs.declared.process.Process.{Process}
-use Rattle.mix_process.proofs.Clearing.{inserted_one, none_any, parts_kept, run_kept}
-use Rattle.mix_process.proofs.Destroying.{get_snoc}
-use Rattle.mix_process.proofs.Lists.{get_append, get_last, number_at}
+use Rattle.mix_process.proofs.Clearing.{inserted_one, parts_kept, run_kept}
 use Rattle.mix_process.proofs.Looking.{pages-append, same_self}
-use Rattle.mix_process.proofs.Putting.{number_other}
 
 -- Where the regions of parts lie
 
@@ -151,7 +147,7 @@ module _ (m : Machine) (p : Process) (run : IsRun m p) (part : Part) (is_part : 
   actor_there = number_at (set m.actors (p.actor.0 - 1) (Some (insert_region new run.regions))) p.actor.0 (Some (insert_region new run.regions)) place.0 (get_set_same m.actors (p.actor.0 - 1) (Some (insert_region new run.regions)) (slice_get_within m.actors (p.actor.0 - 1) (Some run.regions) place.1))
 
   pub actor_other : (k : ℕ) → k ≢ p.actor.0 → actor_of mapped_to k ≡ actor_of m k
-  actor_other k other = number_other m.actors p.actor.0 k (Some (insert_region new run.regions)) place.0 other
+  actor_other k other = numbered_set_other m.actors p.actor.0 k (Some (insert_region new run.regions)) place.0 other
 
   -- a process with the same actor and this part more runs in it
   pub run_more : (q : Process) → q.actor ≡ p.actor → q.parts.items ≡ p.parts.items ++ part ∷ [] → IsRun mapped_to q
@@ -186,7 +182,7 @@ module _ (m : Machine) (table : List (Option Process)) (spare : ℕ → Type 0) 
   q_there = number_at table_with n0 (Some q) at.0 (get_set_same table (n0 - 1) (Some q) (slice_get_within table (n0 - 1) (Some p) at.1))
 
   others_same : (k : ℕ) → k ≢ n0 → numbered table_with k ≡ numbered table k
-  others_same k other = number_other table n0 k (Some q) at.0 other
+  others_same k other = numbered_set_other table n0 k (Some q) at.0 other
 
   -- the process of a number is the new one, or what it was
   which : (k : ℕ) (r : Process) → numbered table_with k ≡ Some r → ((k ≡ n0) × (r ≡ q)) ⊎ ((k ≢ n0) × (numbered table k ≡ Some r))

@@ -1,30 +1,25 @@
 -- What becomes of the processes where one gets pages of its own.
-use Rattle.std.proofs.Common.{◌≡◌, ◌≢◌, inl, inr, ℕ, zero, suc, ◌+◌, ◌-◌, ◌*◌, ◌^◌, ◌≤◌, Bool, true, false, cond, List, [], ◌∷◌, ◌++◌, length, take, drop, Option, Some, None, refl, sym, ap, subst, ◌∙◌, arith}
+use Rattle.std.proofs.Common.{◌≡◌, ◌≢◌, inl, inr, ℕ, zero, suc, ◌+◌, ◌-◌, ◌*◌, ◌^◌, ◌≤◌, Bool, true, false, cond, List, [], ◌∷◌, ◌++◌, length, take, drop, Option, Some, None, refl, sym, ap, subst, ◌∙◌, arith, replicate}
 use Rattle.std.specs.Prelude.{◌||◌, Ok, Err, nat_le, nat_lt, slice_get}
 use Rattle.std.proofs.lemmas.Bool.Decides.{nat_tests}
 use Rattle.std.proofs.lemmas.List.{append-nil, length-append, length-replicate}
 use Rattle.std.proofs.lemmas.List.Sums.{sum_by_push}
-use Rattle.vm_ids.specs.Counting.{counts_sum}
-use Rattle.vm_ids.specs.Held.{segments_of}
 use Rattle.vm_ids.specs.declared.command.Command.TheVariants as vm_commands
-use Rattle.vm_ids.specs.declared.numbers.CacheId.{CacheId}
 use Rattle.vm_ids.specs.declared.refusal.Refusal.TheVariants as refusals
 use Rattle.vm_ids.specs.declared.reply.Reply.TheVariants as replies
-use Rattle.vm_ids.specs.declared.reply.Trouble.{Trouble}
 use Rattle.vm_ids.specs.declared.reply.Trouble.TheVariants as troubles
-use Rattle.vm_model.specs.Answering.{Answer}
-use Rattle.vm_model.specs.Machine.{Actor, Cache, Machine, Page, cache_of, live_pages, living_actors, numbered}
 use Rattle.vm_model.specs.Machine as vm_machine
 use Rattle.vm_model.specs.Run.{CallIs}
 use Rattle.vm_model.specs.Run as vm_run
-use Rattle.vm_model.specs.declared.limits.TheConstants.{LIVE_PAGES, LIVING_ACTORS, MOST_MADE}
 use Rattle.vm_model.proofs.Parts.Lists.{numbered_place, sum_by_less}
-use Rattle.vm_port.specs.declared.traits.mapper.Mapper.{Ghosts as GhostsOfMapper}
-use Rattle.gmi_calls.specs.Calling.{CallDone, MapperCall, RaisesMade}
-use Rattle.gmi_calls.specs.Managing.{meanings_of}
-use Rattle.gmi_calls.specs.declared.gmi.Gmi.{Ghosts as GhostsOfGmi}
 use Rattle.gmi_calls.proofs.Rising.{rise_then}
 use Rattle.gmi_calls.proofs.Still.{without_mapper}
+use Rattle.interface_callers.proofs.Words.{Answer, Cache, CacheId, CallDone, GhostsOfGmi, GhostsOfMapper, LIVE_PAGES, LIVING_ACTORS, Machine, MapperCall, MOST_MADE, Page, RaisesMade, Trouble, cache_of, counts_sum, live_pages, living_actors, meanings_of, numbered, segments_of}
+use Rattle.interface_callers.proofs.Rows.{IsDone}
+use Rattle.interface_callers.proofs.Temporary.{destroy_done}
+use Rattle.interface_callers.proofs.Lists.{put_back}
+use Rattle.interface_callers.proofs.Blanks.{without}
+use Rattle.interface_callers.proofs.Making.{IsMade, Makes, fresh_cache, makes_at}
 use Rattle.mix_process.specs.Adding.{AreKept, FillsAndMaps, HasSource, HasSpare, IsAdded, IsSourceOf, MayAdd, MayFill, Source, filled, pages_from, put_at, source_pages, usage_to_map, with_more}
 use Rattle.mix_process.specs.Inner.{AreApart, AreCleared, AreOwn, spare_of}
 use Rattle.mix_process.specs.Outcome.{usage_of, usage_to_grow}
@@ -38,14 +33,13 @@ use Rattle.mix_process.specs.declared.mix.Mix.{Mix}
 use Rattle.mix_process.specs.declared.process.Part.{Part}
 use Rattle.mix_process.specs.declared.process.Process.{Process}
 use Rattle.mix_process.proofs.Able.{able_after, is_call, respared, sync_after, tied_respared}
-use Rattle.mix_process.proofs.Clearing.{kept_other, not_mapped, without}
+use Rattle.mix_process.proofs.Clearing.{kept_other, not_mapped}
 use Rattle.mix_process.proofs.Destroying.{cleared_none, cleared_one}
 use Rattle.mix_process.proofs.Fitted.{most_few, source_few}
-use Rattle.mix_process.proofs.Joining.{all_seen, one_same, set_same}
+use Rattle.mix_process.proofs.Joining.{all_seen, one_same}
 use Rattle.mix_process.proofs.Mapped.{spare_only}
 use Rattle.mix_process.proofs.Seeing.{pages_there}
-use Rattle.mix_process.proofs.Taking.{IsTaken, Takes, fresh_numbered, still_numbered, temp_at, tied_with, used}
-use Rattle.mix_process.proofs.Temporary.{IsDone, free_destroyed}
+use Rattle.mix_process.proofs.Taking.{fresh_numbered, fresh_same, still_numbered, tied_with, used}
 use Rattle.mix_process.proofs.Using.{lack_still}
 
 -- as many caches were made, or pages are live, as may be
@@ -97,36 +91,36 @@ module _ {Manager X Chooser : Type 0} (M : GhostsOfMapper X) (G : GhostsOfGmi Ma
     abbrev it : CallIs (M.counts before) (M.counts before) (vm_run.state_of G.machine G.forest old.gmi (M.held before)) (vm_commands.MakeTemp pages) a (vm_run.state_of G.machine G.forest gmi (M.held before))
     it = is_call M G old.gmi gmi before before (vm_commands.MakeTemp pages) a images (length table) (numbered table) none_spare can call
 
-    takes : Takes (segments_of (M.held before)) m pages a n
-    takes = temp_at (segments_of (M.held before)) m (G.forest old.gmi (M.held before)) pages a n it.rises it.is.outcome
+    takes : Makes (segments_of (M.held before)) m pages a n
+    takes = makes_at (segments_of (M.held before)) m (G.forest old.gmi (M.held before)) pages a n it.rises it.is.outcome
 
     -- there is no cache to be had
     pub not_taken : (t : Trouble) → a ≡ Err t → IsAdded M G before old place p area pages source (Err t) before (record old { gmi = gmi })
     not_taken t is = elim takes [
-      | inl k ↦ absurd (let wrong : Err t ≡ Ok (replies.Cache (record { 0 = length m.caches + 1 })) = sym is ∙ k.answer_is in cc wrong)
+      | inl k ↦ absurd (let wrong : Err t ≡ Ok (replies.Cache (record { 0 = length m.caches + 1 })) = sym is ∙ k.answer in cc wrong)
       | inr l ↦ record {
         can = able_after M G old.gmi gmi before before (vm_commands.MakeTemp pages) a images (length table) (numbered table) none_spare can call images (length table) (numbered table) none_spare
-            (omega (arith, can.few, ap (λ (x : Machine). length x.actors) l.next_is)) (omega (arith, can.most, ap (λ (x : Machine). length x.actors) l.next_is))
-            (subst (λ (x : Machine). AreTied x (numbered table) none_spare images) (sym l.next_is) can.tied)
+            (omega (arith, can.few, ap (λ (x : Machine). length x.actors) l.next)) (omega (arith, can.most, ap (λ (x : Machine). length x.actors) l.next))
+            (subst (λ (x : Machine). AreTied x (numbered table) none_spare images) (sym l.next) can.tied)
             (sync_after M G old.gmi gmi before before (vm_commands.MakeTemp pages) a images (length table) (numbered table) none_spare can call
-            (λ i image e. ap (λ (x : Machine). cache_pages x image.cache.0) l.next_is));
+            (λ i image e. ap (λ (x : Machine). cache_pages x image.cache.0) l.next));
         adds = record {
-          put = record { now = p; processes = sym (set_same table place (Some p) may.room.there); images = refl; actor = refl; parts_now = sym (append-nil p.parts.items) };
-          seen = ap (λ (x : Machine). processes_seen x table images) l.next_is;
+          put = record { now = p; processes = sym (put_back table place (Some p) may.room.there); images = refl; actor = refl; parts_now = sym (append-nil p.parts.items) };
+          seen = ap (λ (x : Machine). processes_seen x table images) l.next;
           lack = elim l.why [
-            | inl e ↦ subst (λ (x : Trouble). IsLack (usage_of m) (usage_to_grow pages) x) (same_trouble troubles.Memory t (sym e ∙ is)) tt
+            | inl e ↦ subst (λ (x : Trouble). IsLack (usage_of m) (usage_to_grow pages) x) (same_trouble troubles.Memory t (sym e.0 ∙ is)) tt
             | inr e ↦ subst (λ (x : Trouble). IsLack (usage_of m) (usage_to_grow pages) x) (same_trouble (troubles.Refused refusals.TooMany) t (sym e.0 ∙ is)) (full_passes (living_actors m) (length m.actors) (length m.caches) m.regions_made (live_pages m) pages e.1)
           ];
         };
-        kept = λ k c e. ap (λ (x : Machine). cache_of x k) l.next_is ∙ e;
+        kept = λ k c e. ap (λ (x : Machine). cache_of x k) l.next ∙ e;
         used = record {
-          living = omega (arith, ap living_actors l.next_is);
-          actors = omega (arith, ap (λ (x : Machine). length x.actors) l.next_is);
-          caches = omega (arith, ap (λ (x : Machine). length x.caches) l.next_is);
-          regions = omega (arith, ap (λ (x : Machine). x.regions_made) l.next_is);
-          pages = omega (arith, ap live_pages l.next_is);
+          living = omega (arith, ap living_actors l.next);
+          actors = omega (arith, ap (λ (x : Machine). length x.actors) l.next);
+          caches = omega (arith, ap (λ (x : Machine). length x.caches) l.next);
+          regions = omega (arith, ap (λ (x : Machine). x.regions_made) l.next);
+          pages = omega (arith, ap live_pages l.next);
         };
-        made = omega (arith, rises_for_temp m n pages a (G.made old.gmi) (G.made gmi) (omega (arith, ap live_pages l.next_is)) call.made, may.room.some);
+        made = omega (arith, rises_for_temp m n pages a (G.made old.gmi) (G.made gmi) (omega (arith, ap live_pages l.next)) call.made, may.room.some);
         rises = it.rises;
         rose = it.rose;
         segments = refl;
@@ -140,29 +134,32 @@ module _ {Manager X Chooser : Type 0} (M : GhostsOfMapper X) (G : GhostsOfGmi Ma
       abbrev spare : ℕ → Type 0
       spare = spare_of (part ∷ [])
 
-      taken : IsTaken (segments_of (M.held before)) m pages a n
+      abbrev fresh : Cache
+      fresh = fresh_cache (segments_of (M.held before)) m.page_bytes pages
+
+      taken : IsMade (segments_of (M.held before)) m pages a n
       taken = elim takes [
         | inl k ↦ k
         | inr l ↦ absurd (elim l.why [
-          | inl e ↦ (let wrong : Ok (replies.Cache cache) ≡ Err troubles.Memory = sym is ∙ e in cc wrong)
+          | inl e ↦ (let wrong : Ok (replies.Cache cache) ≡ Err troubles.Memory = sym is ∙ e.0 in cc wrong)
           | inr e ↦ (let wrong : Ok (replies.Cache cache) ≡ Err (troubles.Refused refusals.TooMany) = sym is ∙ e.0 in cc wrong)
         ])
       ]
 
       number : cache.0 ≡ length m.caches + 1
-      number = let both : Ok (replies.Cache cache) ≡ Ok (replies.Cache (record { 0 = length m.caches + 1 })) = sym is ∙ taken.answer_is in ap number_in both
+      number = let both : Ok (replies.Cache cache) ≡ Ok (replies.Cache (record { 0 = length m.caches + 1 })) = sym is ∙ taken.answer in ap number_in both
 
-      many : length taken.cache.pages ≡ pages
-      many = ap length taken.pages_are ∙ length-replicate pages _
+      many : length fresh.pages ≡ pages
+      many = length-replicate pages _
 
       tied : AreTied n (numbered table) spare images
-      tied = subst (λ (x : Machine). AreTied x (numbered table) spare images) (sym taken.next_is)
-          (tied_respared _ (numbered table) (λ k. k ≡ length m.caches + 1) spare images (tied_with m (numbered table) images can.tied taken.cache taken.temporary)
+      tied = subst (λ (x : Machine). AreTied x (numbered table) spare images) (sym taken.next)
+          (tied_respared _ (numbered table) (λ k. k ≡ length m.caches + 1) spare images (tied_with m (numbered table) images can.tied fresh refl)
           (λ k s. (0, part, refl, may.own, number ∙ sym s))
           (λ k s. (spare_only part k s).1 ∙ number))
 
       kept_n : AreKept m n
-      kept_n k c e = ap (λ (x : Machine). cache_of x k) taken.next_is ∙ still_numbered m.caches (Some taken.cache) k c e
+      kept_n k c e = ap (λ (x : Machine). cache_of x k) taken.next ∙ still_numbered m.caches (Some fresh) k c e
 
       pages_kept : (k : ℕ) (c : Cache) → cache_of m k ≡ Some c → cache_pages n k ≡ cache_pages m k
       pages_kept k c e = pages_there n k c (kept_n k c e) ∙ sym (pages_there m k c e)
@@ -170,23 +167,23 @@ module _ {Manager X Chooser : Type 0} (M : GhostsOfMapper X) (G : GhostsOfGmi Ma
       another : (k : ℕ) (c : Cache) → cache_of m k ≡ Some c → k ≢ cache.0
       another k c e same = used m.caches k c e (same ∙ number)
 
-      there_n : cache_of n cache.0 ≡ Some taken.cache
-      there_n = ap (λ (x : Machine). cache_of x cache.0) taken.next_is ∙ ap (numbered (m.caches ++ Some taken.cache ∷ [])) number ∙ fresh_numbered m.caches (Some taken.cache)
+      there_n : cache_of n cache.0 ≡ Some fresh
+      there_n = ap (λ (x : Machine). cache_of x cache.0) taken.next ∙ ap (numbered (m.caches ++ Some fresh ∷ [])) number ∙ fresh_numbered m.caches (Some fresh)
 
       own_n : IsOwnCache n part
       own_n = record {
-        cache = taken.cache;
+        cache = fresh;
         there = there_n;
-        temporary = taken.temporary;
+        temporary = refl;
         some = may.room.some;
         many = many;
       }
 
       actors_same : length n.actors ≡ length m.actors
-      actors_same = ap (λ (x : Machine). length x.actors) taken.next_is
+      actors_same = ap (λ (x : Machine). length x.actors) taken.next
 
       seen_n : processes_seen n table images ≡ processes_seen m table images
-      seen_n = all_seen m n table none_spare images can.tied (ap (λ (x : Machine). x.page_bytes) taken.next_is) (λ k c free e. pages_kept k c e)
+      seen_n = all_seen m n table none_spare images can.tied (ap (λ (x : Machine). x.page_bytes) taken.next) (λ k c free e. pages_kept k c e)
 
       has : HasSpare M G before held part
       has = record {
@@ -207,10 +204,10 @@ module _ {Manager X Chooser : Type 0} (M : GhostsOfMapper X) (G : GhostsOfGmi Ma
       may_fill = record { spare = has; room = may.room; source_there = has_source source may.source_there }
 
       live_n : live_pages n ≡ live_pages m + pages
-      live_n = ap live_pages taken.next_is ∙ (let e = sum_by_push vm_machine.pages_in m.caches (Some taken.cache) in omega (arith, e, many))
+      live_n = ap live_pages taken.next ∙ (let e = sum_by_push vm_machine.pages_in m.caches (Some fresh) in omega (arith, e, many))
 
       caches_n : length n.caches ≡ length m.caches + 1
-      caches_n = ap (λ (x : Machine). length x.caches) taken.next_is ∙ length-append m.caches (Some taken.cache ∷ [])
+      caches_n = ap (λ (x : Machine). length x.caches) taken.next ∙ length-append m.caches (Some fresh ∷ [])
 
       raised_n : G.made gmi ≤ G.made old.gmi + (8 * pages + 8)
       raised_n = rises_for_temp m n pages a (G.made old.gmi) (G.made gmi) (omega (arith, live_n)) call.made
@@ -223,7 +220,7 @@ module _ {Manager X Chooser : Type 0} (M : GhostsOfMapper X) (G : GhostsOfGmi Ma
       source_same (Some s) there = ap length (pages_kept s.0.0 there.0 there.1)
 
       filled_is : (s : Option Source) → HasSource m s pages → filled n part s ≡ pages_from (segments_of (M.held before)) m s pages
-      filled_is None there = pages_there n cache.0 taken.cache there_n ∙ taken.pages_are
+      filled_is None there = pages_there n cache.0 fresh there_n ∙ ap (replicate pages) (fresh_same (segments_of (M.held before)) m.page_bytes)
       filled_is (Some s) there = ap (λ (xs : List Page). take pages (drop s.1.0 xs)) (pages_kept s.0.0 there.0 there.1)
 
       process_n : process_seen n p ≡ process_seen m p
@@ -243,10 +240,10 @@ module _ {Manager X Chooser : Type 0} (M : GhostsOfMapper X) (G : GhostsOfGmi Ma
         };
         kept = λ k c e. f.kept k c (another k c e) (kept_n k c e);
         used = record {
-          living = omega (arith, f.maps.used.living, ap living_actors taken.next_is);
+          living = omega (arith, f.maps.used.living, ap living_actors taken.next);
           actors = omega (arith, f.maps.used.actors, actors_same);
           caches = omega (arith, f.maps.used.caches, caches_n);
-          regions = omega (arith, f.maps.used.regions, ap (λ (x : Machine). x.regions_made) taken.next_is);
+          regions = omega (arith, f.maps.used.regions, ap (λ (x : Machine). x.regions_made) taken.next);
           pages = omega (arith, f.maps.used.pages, live_n);
         };
         made = omega (arith, f.made, raised_n, source_same source may.source_there, may.room.some);
@@ -293,7 +290,7 @@ module _ {Manager X Chooser : Type 0} (M : GhostsOfMapper X) (G : GhostsOfGmi Ma
           done : IsDone b r (without o cache.0)
           done =
               let gone = is_call M G mix.gmi gmi' now after (vm_commands.Destroy cache) b mix.images.items (length mix.processes.items) (numbered mix.processes.items) spare able destroyed in
-              free_destroyed (segments_of (M.held after)) o (G.forest mix.gmi (M.held now)) cache own.cache own.there own.temporary (not_mapped o (numbered mix.processes.items) spare mix.images.items able.tied cache.0 spared) b r gone.rises gone.is.outcome
+              destroy_done (segments_of (M.held after)) o (G.forest mix.gmi (M.held now)) cache own.cache own.there own.temporary (not_mapped o (numbered mix.processes.items) spare mix.images.items able.tied cache.0 spared) b r gone.rises gone.is.outcome
 
           less : live_pages (without o cache.0) ≤ live_pages o
           less = sum_by_less vm_machine.pages_in o.caches (cache.0 - 1) (Some own.cache) None (numbered_place o.caches cache.0 own.cache own.there).1 (omega arith)
@@ -305,20 +302,20 @@ module _ {Manager X Chooser : Type 0} (M : GhostsOfMapper X) (G : GhostsOfGmi Ma
               put = record { now = f.maps.put.now; processes = f.maps.put.processes; images = f.maps.put.images; actor = f.maps.put.actor; parts_now = f.maps.put.parts_now };
               seen = cleared.seen ∙ f.maps.seen ∙ seen_n;
               lack = lack_still (usage_of m) (usage_to_grow pages) (usage_of n) usage_to_map (record {
-                living = omega (arith, ap living_actors taken.next_is);
+                living = omega (arith, ap living_actors taken.next);
                 actors = omega (arith, actors_same);
                 caches = omega (arith, caches_n);
-                regions = omega (arith, ap (λ (x : Machine). x.regions_made) taken.next_is);
+                regions = omega (arith, ap (λ (x : Machine). x.regions_made) taken.next);
                 pages = omega (arith, live_n);
               }) t f.maps.lack;
             };
-            kept = λ k c e. ap (λ (x : Machine). cache_of x k) done.next_is ∙ kept_other o cache.0 own.cache own.there k (another k c e) ∙ f.kept k c (another k c e) (kept_n k c e);
+            kept = λ k c e. ap (λ (x : Machine). cache_of x k) done.next ∙ kept_other o cache.0 own.cache own.there k (another k c e) ∙ f.kept k c (another k c e) (kept_n k c e);
             used = record {
-              living = omega (arith, f.maps.used.living, ap living_actors taken.next_is, ap living_actors done.next_is);
+              living = omega (arith, f.maps.used.living, ap living_actors taken.next, ap living_actors done.next);
               actors = omega (arith, f.maps.used.actors, actors_same, cleared.alike.actors);
               caches = omega (arith, f.maps.used.caches, caches_n, cleared.alike.caches);
-              regions = omega (arith, f.maps.used.regions, ap (λ (x : Machine). x.regions_made) taken.next_is, cleared.alike.regions);
-              pages = omega (arith, f.maps.used.pages, live_n, ap live_pages done.next_is, less);
+              regions = omega (arith, f.maps.used.regions, ap (λ (x : Machine). x.regions_made) taken.next, cleared.alike.regions);
+              pages = omega (arith, f.maps.used.pages, live_n, ap live_pages done.next, less);
             };
             made = omega (arith, f.made, raised_n, source_same source may.source_there, may.room.some, cleared.made, at_most (may_write area) pages);
             rises = counts_sum f.rises cleared.rises;

@@ -3,10 +3,7 @@ use Rattle.std.proofs.Common.{◌≡◌, ℕ, ◌+◌, Bool, true, false, Option
 use Rattle.std.specs.Prelude.{◌||◌, nat_le, nat_lt}
 use Rattle.std.specs.Bool.{IsTrue}
 use Rattle.std.proofs.lemmas.Bool.Decides.{nat_tests}
-use Rattle.vm_model.specs.Answering.{Answered, refuse, unless, with_some}
-use Rattle.vm_ids.specs.declared.refusal.Refusal.{Refusal}
-use Rattle.vm_model.specs.Machine.{Machine}
-use Rattle.vm_model.specs.declared.limits.TheConstants.{LIVE_PAGES, LIVING_ACTORS, MOST_MADE}
+use Rattle.interface_callers.proofs.Words.{Answered, LIVE_PAGES, LIVING_ACTORS, Machine, MOST_MADE, Refusal, refuse, unless, with_some}
 use Rattle.mix_process.specs.Outcome.{Usage, would_pass}
 
 -- One of five tests

@@ -5,7 +5,7 @@ use Rattle.std.specs.Prelude.{nat_lt}
 use Rattle.std.proofs.lemmas.Bool.Decides.{nat_tests}
 use Rattle.std.proofs.Math.Seq.{take-append_seam, take-length}
 use Rattle.vm_ids.specs.declared.refusal.Refusal.TheVariants as refusals
-use Rattle.vm_model.specs.Machine.{Page}
+use Rattle.interface_callers.proofs.Words.{Page}
 use Rattle.mix_process.specs.Answering.{add_process, imaged, process_from, unless, with_image, with_some}
 use Rattle.mix_process.specs.Plain.{exec_ends}
 use Rattle.mix_process.specs.ProcessMachine.{ProcessMachine, image_of}

@@ -6,8 +6,7 @@ use Rattle.std.specs.FinMap.{get-insert, get-empty}
 use Rattle.std.proofs.lemmas.Cmp.{nat_cmp_total}
 use Rattle.vm_ids.specs.declared.command.MixCommand.{MixCommand}
 use Rattle.vm_ids.specs.declared.command.MixCommand.TheVariants as commands
-use Rattle.vm_model.specs.Answering.{Answer}
-use Rattle.vm_model.specs.Machine.{Page}
+use Rattle.interface_callers.proofs.Words.{Answer, Page}
 use Rattle.mix_process.specs.ProcessMachine.{ProcessMachine, start}
 use Rattle.mix_process.specs.Answering.{Answered, answer_of, exec_of, exit_of, fork_of, grow_of, load_of, store_of, unless, with_ok, with_some}
 use Rattle.mix_process.specs.Rows as rows

@@ -1,45 +1,20 @@
 -- What is pushed to the segment of an image is what it holds.
-use Rattle.std.proofs.Common.{◌≡◌, inl, inr, ℕ, zero, suc, ◌==◌, ◌-◌, Bool, true, false, cond, List, [], ◌∷◌, set, Option, Some, None, refl, sym, ap, ◌∙◌, arith}
+use Rattle.std.proofs.Common.{◌≡◌, inl, inr, ℕ, Bool, cond, List, [], ◌∷◌, set, Option, Some, None, refl, sym, ap, ◌∙◌}
 use Rattle.std.specs.Prelude.{IsSome, option_and_then, slice_get, unwrap_or}
 use Rattle.std.specs.List.{AllByRecursion}
-use Rattle.std.specs.Option.{option_map_or}
 use Rattle.std.specs.FinMap.{FinMap, get, get-insert, insert, nat_cmp-IsAntisymmetric, same_map}
 use Rattle.std.specs.Ordering.{eq_by_cmp, nat_cmp}
 use Rattle.std.specs.Cmp.{nat_cmp_total, unsigned_tied}
 use Rattle.std.proofs.lemmas.Bool.{cases_eq, eq-eqb, ne_eqb}
-use Rattle.std.proofs.lemmas.Bool.Decides.{nat_tests}
-use Rattle.vm_ids.specs.Held.{Held, Segments, put_segment_page, segments_in, segments_of}
-use Rattle.vm_model.specs.Machine.{Cache, Machine, Page, cache_named, cache_of, is_named_by}
-use Rattle.vm_model.specs.Pushing.{MayPush, PushRule, page_named, segments_after}
 use Rattle.vm_model.proofs.Parts.Lists.{is_there}
-use Rattle.vm_model.proofs.Parts.ListParts.{at_some}
+use Rattle.interface_callers.proofs.Words.{Cache, Held, Machine, MayPush, Page, PushRule, Segments, cache_named, cache_of, page_named, put_segment_page, segments_after, segments_in, segments_of}
+use Rattle.interface_callers.proofs.Naming.{after_none, named_cache}
+use Rattle.interface_callers.proofs.Lists.{put_back}
 use Rattle.mix_process.specs.Seen.{cache_pages}
 use Rattle.mix_process.specs.Tying.{AreSynchronised, AreTied}
 use Rattle.mix_process.specs.declared.mix.Image.{Image}
 use Rattle.mix_process.specs.declared.process.Process.{Process}
 use Rattle.mix_process.proofs.Seeing.{pages_there}
-
--- a place gets what it had
-put_back : {A : Type 0} (xs : List A) (i : ℕ) (x : A) → slice_get xs i ≡ Some x → set xs i x ≡ xs
-put_back [] i x e = refl
-put_back (y ∷ xs) zero x e = let same : y ≡ x = cc in ap (λ z. z ∷ xs) (sym same)
-put_back (y ∷ xs) (suc i) x e = ap (λ zs. y ∷ zs) (put_back xs i x e)
-
--- the cache that a segment names stands somewhere
-abbrev IsNamedAt : ℕ → List (Option Cache) → Cache → Type 0
-IsNamedAt seg cs c = (i : ℕ) × (slice_get cs i ≡ Some (Some c)) × (is_named_by seg (Some c) ≡ true)
-
-here_or_behind : (seg : ℕ) (o : Option Cache) (cs : List (Option Cache)) (c : Cache) (b : Bool) → is_named_by seg o ≡ b → cond b o (cache_named cs seg) ≡ Some c → (cache_named cs seg ≡ Some c → IsNamedAt seg cs c) → IsNamedAt seg (o ∷ cs) c
-here_or_behind seg o cs c true named e behind = (0, ap (λ (x : Option Cache). Some x) e, ap (is_named_by seg) (sym e) ∙ named)
-here_or_behind seg o cs c false named e behind = let r = behind e in (suc r.0, r.1, r.2)
-
-named_at : (seg : ℕ) (cs : List (Option Cache)) (c : Cache) → cache_named cs seg ≡ Some c → IsNamedAt seg cs c
-named_at seg [] c e = absurd (cc e)
-named_at seg (o ∷ cs) c e = here_or_behind seg o cs c (is_named_by seg o) refl e (named_at seg cs c)
-
-named_by : (o : Option ℕ) (seg : ℕ) → option_map_or (λ s. s == seg) o false ≡ true → o ≡ Some seg
-named_by None seg e = absurd (cc e)
-named_by (Some s) seg e = let same : s ≡ seg = grind (arith, nat_tests) in ap (λ (n : ℕ). Some n) same
 
 module _ (m : Machine) (processes : ℕ → Option Process) (spare : ℕ → Type 0) (images : List Image) (t : AreTied m processes spare images) where
   -- the segments hold what the images have
@@ -56,16 +31,14 @@ module _ (m : Machine) (processes : ℕ → Option Process) (spare : ℕ → Typ
           let wrong : option_and_then (λ (c : Cache). slice_get c.pages page) None ≡ Some has.0 = sym (ap (option_and_then (λ (c : Cache). slice_get c.pages page)) e) ∙ has.1 in
           absurd (cc wrong)
       at (Some c) e =
-          let place = named_at seg m.caches c e in
-          let named : c.segment ≡ Some seg = named_by c.segment seg place.2 in
-          let there : cache_of m (suc place.0) ≡ Some c = at_some m.caches (suc place.0) (omega arith) ∙ ap (option_and_then (λ x. x)) (ap (slice_get m.caches) (let k : suc place.0 - 1 ≡ place.0 = omega arith in k) ∙ place.1) in
-          let i = t.no_more_images (suc place.0) seg c there named in
+          let n = named_cache m seg c e in
+          let i = t.no_more_images n.0 seg c n.1 n.2 in
           let d = t.images_there i.0 i.1 i.2 in
-          let same : Some d.0 ≡ Some c = sym d.1 ∙ ap (cache_of m) i.3 ∙ there in
+          let same : Some d.0 ≡ Some c = sym d.1 ∙ ap (cache_of m) i.3 ∙ n.1 in
           let is : d.0 ≡ c = cc in
-          let segments : Some i.1.seg.0 ≡ Some seg = sym d.2 ∙ ap (λ (c : Cache). c.segment) is ∙ named in
+          let segments : Some i.1.seg.0 ≡ Some seg = sym d.2 ∙ ap (λ (c : Cache). c.segment) is ∙ n.2 in
           let of_image : i.1.seg.0 ≡ seg = cc in
-          let held : get s.pages seg ≡ Some c.pages = ap (get s.pages) (sym of_image) ∙ sync i.0 i.1 i.2 ∙ ap (λ (k : ℕ). Some (cache_pages m k)) i.3 ∙ ap (λ (pages : List Page). Some pages) (pages_there m (suc place.0) c there) in
+          let held : get s.pages seg ≡ Some c.pages = ap (get s.pages) (sym of_image) ∙ sync i.0 i.1 i.2 ∙ ap (λ (k : ℕ). Some (cache_pages m k)) i.3 ∙ ap (λ (pages : List Page). Some pages) (pages_there m n.0 c n.1) in
           let has = is_there (page_named m seg page) some in
           let had : slice_get c.pages page ≡ Some has.0 = sym (ap (option_and_then (λ (c : Cache). slice_get c.pages page)) e) ∙ has.1 in
           let put : set (unwrap_or (get s.pages seg) []) page (unwrap_or (page_named m seg page) []) ≡ c.pages =
@@ -83,13 +56,9 @@ module _ (m : Machine) (processes : ℕ → Option Process) (spare : ℕ → Typ
   pushed_all (p ∷ ps) before s may sync =
       ap (λ (s : Segments). segments_after m ps (Some s)) (pushed_one s p.0 p.1 may.0.0 sync) ∙ pushed_all ps before s may.1 sync
 
-  after_none : (pushes : List (ℕ × ℕ)) → segments_after m pushes None ≡ None
-  after_none [] = refl
-  after_none (p ∷ ps) = after_none ps
-
   -- What is pushed is what the segments hold, so they stay.
   pub segments_stay : (before : Option Held) (now : Option Segments) (pushes : List (ℕ × ℕ)) → PushRule m (segments_of before) pushes now → AreSynchronised m images before → now ≡ segments_of before
-  segments_stay None now pushes rule sync = rule.pushed ∙ after_none pushes
+  segments_stay None now pushes rule sync = rule.pushed ∙ after_none m pushes
   segments_stay (Some h) now pushes rule sync = rule.pushed ∙ pushed_all pushes (segments_in h) (segments_in h) rule.may sync
 
   synchronised_as : (before now : Option Held) → segments_of now ≡ segments_of before → AreSynchronised m images before → AreSynchronised m images now

@@ -1,17 +1,16 @@
 -- A page of a cache of its own of one process changes.
-use Rattle.std.proofs.Common.{◌≡◌, ◌≢◌, ◌⊎◌, inl, inr, ◌==◌, ℕ, zero, suc, ◌+◌, ◌-◌, ◌<◌, ◌≤◌, Bool, true, false, cond, List, [], ◌∷◌, ◌++◌, length, set, take, map, Option, Some, None, refl, sym, ap, subst, ◌∙◌, arith}
-use Rattle.std.specs.Prelude.{option_and_then, option_map, slice_get}
-use Rattle.std.specs.List.{AllByRecursion}
+use Rattle.std.proofs.Common.{◌≡◌, ◌≢◌, ℕ, zero, suc, ◌+◌, ◌-◌, ◌<◌, ◌≤◌, Bool, true, false, cond, List, [], ◌∷◌, ◌++◌, length, set, take, map, Option, Some, None, refl, sym, ap, subst, ◌∙◌, arith}
+use Rattle.std.specs.Prelude.{option_map, slice_get}
 use Rattle.std.specs.Option.{option_map_or}
-use Rattle.std.proofs.lemmas.Bool.{cases_eq}
-use Rattle.std.proofs.lemmas.Bool.Decides.{nat_tests}
 use Rattle.std.proofs.lemmas.List.{length-set}
 use Rattle.std.proofs.lemmas.Option.{slice_get_within}
-use Rattle.vm_model.specs.Answering.{put_cache, put_page}
-use Rattle.vm_model.specs.Machine.{Cache, Machine, Page, cache_of, numbered}
-use Rattle.vm_model.proofs.Parts.Lists.{get_set_other, get_set_same, numbered_place}
+use Rattle.vm_model.proofs.Parts.Lists.{numbered_place}
+use Rattle.vm_model.proofs.Parts.ListParts.{numbered_set, numbered_set_other}
+use Rattle.interface_callers.proofs.Words.{Cache, Machine, Page, cache_of, numbered, put_cache, put_page}
+use Rattle.interface_callers.proofs.Lists.{all_at, get_append, map_same, number_at}
+use Rattle.interface_callers.proofs.Alike.{HasShape, IsLike, shape_put}
 use Rattle.mix_process.specs.ProcessMachine as model
-use Rattle.mix_process.specs.ProcessMachine.{ProcessMachine, may_write, pages_of, with_pages}
+use Rattle.mix_process.specs.ProcessMachine.{may_write, with_pages}
 use Rattle.mix_process.specs.Answering.{put_process}
 use Rattle.mix_process.specs.Seen.{area_seen, cache_pages, image_seen, pages_in, part_seen, process_seen, processes_seen, same_area, sizes_in}
 use Rattle.mix_process.specs.Tying.{AreTied, IsImageCache, IsOwnPart, IsPart, Owns}
@@ -20,16 +19,11 @@ use Rattle.mix_process.specs.declared.area.Area.TheVariants.{Data, Stack, Text}
 use Rattle.mix_process.specs.declared.mix.Image.{Image}
 use Rattle.mix_process.specs.declared.process.Part.{Part}
 use Rattle.mix_process.specs.declared.process.Process.{Process}
-use Rattle.mix_process.proofs.Lists.{get_append, get_past, number_at}
+use Rattle.mix_process.proofs.Lists.{get_past}
 use Rattle.mix_process.proofs.Looking.{same_self}
 use Rattle.mix_process.proofs.Seeing.{AreParts, all_parts, pages_there, part_length, seen-append, seen_length}
-use Rattle.mix_process.proofs.Shapes.{HasShape, IsLike}
 
 -- Lists
-
-pub map_same : {A B : Type 0} (f g : A → B) (xs : List A) → ((i : ℕ) (x : A) → slice_get xs i ≡ Some x → f x ≡ g x) → map f xs ≡ map g xs
-map_same f g [] h = refl
-map_same f g (x ∷ xs) h = λ j. h 0 x refl j ∷ map_same f g xs (λ i y e. h (suc i) y e) j
 
 pub map_but : {A B : Type 0} (f g : A → B) (xs : List A) (k : ℕ) (x : A) (v : B) → slice_get xs k ≡ Some x → f x ≡ v → ((i : ℕ) (y : A) → slice_get xs i ≡ Some y → i ≢ k → f y ≡ g y) → map f xs ≡ set (map g xs) k v
 map_but f g [] k x v there is h = absurd (cc there)
@@ -56,25 +50,11 @@ take_set (x ∷ xs) zero (suc i) v = refl
 take_set (x ∷ xs) (suc n) zero v = refl
 take_set (x ∷ xs) (suc n) (suc i) v = ap (λ zs. x ∷ zs) (take_set xs n i v)
 
-pub all_at : {A : Type 0} (P : A → Type 0) (xs : List A) (i : ℕ) (x : A) → AllByRecursion P xs → slice_get xs i ≡ Some x → P x
-all_at P [] i x all e = absurd (cc e)
-all_at P (y ∷ xs) zero x all e = let same : y ≡ x = cc in subst P same all.0
-all_at P (y ∷ xs) (suc i) x all e = all_at P xs i x all.1 e
-
 get_middle : {A : Type 0} (xs : List A) (x : A) (ys : List A) → slice_get (xs ++ x ∷ ys) (length xs) ≡ Some x
 get_middle [] x ys = refl
 get_middle (y ∷ xs) x ys = get_middle xs x ys
 
 -- Caches with numbers
-
-other_by : {A : Type 0} (k : ℕ) (zeroth : Bool) (xs : List (Option A)) (n : ℕ) (v : Option A) → (k == 0) ≡ zeroth → 1 ≤ n → k ≢ n → cond zeroth None (option_and_then (λ z. z) (slice_get (set xs (n - 1) v) (k - 1))) ≡ cond zeroth None (option_and_then (λ z. z) (slice_get xs (k - 1)))
-other_by k true xs n v z some apart = refl
-other_by k false xs n v z some apart =
-    let big : 1 ≤ k = grind (arith, nat_tests) in
-    ap (option_and_then (λ z. z)) (get_set_other xs (n - 1) (k - 1) v (λ same. apart (omega arith)))
-
-pub number_other : {A : Type 0} (xs : List (Option A)) (n k : ℕ) (v : Option A) → 1 ≤ n → k ≢ n → numbered (set xs (n - 1) v) k ≡ numbered xs k
-number_other xs n k v some apart = other_by k (k == 0) xs n v refl some apart
 
 -- A cache becomes one like it
 
@@ -86,32 +66,10 @@ module _ (m : Machine) (number : ℕ) (c d : Cache) (there : cache_of m number �
   place = numbered_place m.caches number c there
 
   pub became : cache_of replaced number ≡ Some d
-  became = number_at (set m.caches (number - 1) (Some d)) number (Some d) place.0 (get_set_same m.caches (number - 1) (Some d) (slice_get_within m.caches (number - 1) (Some c) place.1))
+  became = numbered_set m.caches number c (Some d) there
 
   pub stayed : (k : ℕ) → k ≢ number → cache_of replaced k ≡ cache_of m k
-  stayed k other = number_other m.caches number k (Some d) place.0 other
-
-  pub shape_kept : HasShape m replaced
-  shape_kept = record {
-    page = refl;
-    actors = refl;
-    there = λ k e f. go k e f (cases_eq k number);
-    back = λ k e f. back k e f (cases_eq k number);
-  }
-    where
-      go : (k : ℕ) (e : Cache) → cache_of m k ≡ Some e → (k ≡ number) ⊎ (k ≢ number) → (x : Cache) × (cache_of replaced k ≡ Some x) × IsLike e x
-      go k e f (inr other) = (e, stayed k other ∙ f, record { segment = refl; many = refl })
-      go k e f (inl same) =
-          let is : Some e ≡ Some c = sym f ∙ ap (cache_of m) same ∙ there in
-          let it : e ≡ c = cc in
-          (d, ap (cache_of replaced) same ∙ became, subst (λ (x : Cache). IsLike x d) (sym it) like)
-
-      back : (k : ℕ) (e : Cache) → cache_of replaced k ≡ Some e → (k ≡ number) ⊎ (k ≢ number) → (x : Cache) × (cache_of m k ≡ Some x) × IsLike e x
-      back k e f (inr other) = (e, sym (stayed k other) ∙ f, record { segment = refl; many = refl })
-      back k e f (inl same) =
-          let is : Some d ≡ Some e = sym became ∙ ap (cache_of replaced) (sym same) ∙ f in
-          let it : d ≡ e = cc in
-          (c, ap (cache_of m) same ∙ there, subst (λ (x : Cache). IsLike x c) it (record { segment = sym like.segment; many = sym like.many }))
+  stayed k other = numbered_set_other m.caches number k (Some d) place.0 other
 
 -- A page of a cache
 
@@ -129,7 +87,7 @@ module _ (m : Machine) (number : ℕ) (c : Cache) (there : cache_of m number ≡
   put_other k other = stayed m number c (put_page page bytes c) there like_put k other
 
   pub put_shape : HasShape m after
-  put_shape = shape_kept m number c (put_page page bytes c) there like_put
+  put_shape = shape_put m number c (put_page page bytes c) there like_put
 
   pub pages_put : cache_pages after number ≡ set (cache_pages m number) page bytes
   pages_put = pages_there after number (put_page page bytes c) put_there ∙ ap (λ (pages : List Page). set pages page bytes) (sym (pages_there m number c there))

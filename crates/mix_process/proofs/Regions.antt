@@ -3,19 +3,14 @@ use Rattle.std.proofs.Common.{◌≡◌, ◌⊎◌, inl, inr, ◌==◌, ℕ, ◌
 use Rattle.std.specs.Prelude.{Ok, Err, not, nat_le, nat_lt}
 use Rattle.std.specs.List.{list_any}
 use Rattle.std.proofs.lemmas.Bool.Decides.{nat_tests}
-use Rattle.vm_ids.specs.Counting.{MapperCounts}
-use Rattle.vm_ids.specs.Held.{Segments}
 use Rattle.vm_ids.specs.declared.command.Command.TheVariants as vm_commands
-use Rattle.vm_ids.specs.declared.command.Mapping.{Mapping}
 use Rattle.vm_ids.specs.declared.refusal.Refusal.TheVariants as refusals
 use Rattle.vm_ids.specs.declared.reply.Reply.TheVariants as replies
 use Rattle.vm_ids.specs.declared.reply.Trouble.TheVariants as troubles
 use Rattle.vm_model.specs.Answering as vm
-use Rattle.vm_model.specs.Answering.{Answer, add_region, overlaps, passes_end}
-use Rattle.vm_model.specs.Machine.{Actor, Cache, Machine, cache_of, numbered}
-use Rattle.vm_model.specs.Outcome.{IsAlike, Outcome, OutcomeAt, blank}
-use Rattle.vm_model.specs.PageForest.{PageForest}
-use Rattle.vm_model.specs.declared.limits.TheConstants.{MOST_MADE}
+use Rattle.interface_callers.proofs.Words.{Actor, Answer, Cache, IsAlike, Machine, MapperCounts, Mapping, MOST_MADE, Outcome, OutcomeAt, PageForest, Segments, add_region, blank, cache_of, numbered, overlaps, passes_end}
+use Rattle.interface_callers.proofs.Alike.{HasShape, whole_shape}
+use Rattle.interface_callers.proofs.Answers.{still_err}
 use Rattle.mix_process.specs.ProcessMachine.{area_start}
 use Rattle.mix_process.specs.Seen.{mapping_behind, pages_in}
 use Rattle.mix_process.specs.Tying.{IsPart, IsRun}
@@ -25,8 +20,7 @@ use Rattle.mix_process.specs.declared.process.Part.{Part}
 use Rattle.mix_process.specs.declared.process.Process.{Process}
 use Rattle.mix_process.specs.Adding.{most_of}
 use Rattle.mix_process.proofs.Mapping.{none_overlaps}
-use Rattle.mix_process.proofs.Shapes.{HasShape, part_like, run_like, whole_shape}
-use Rattle.mix_process.proofs.Temporary.{alike_many, alike_memory}
+use Rattle.mix_process.proofs.Shapes.{part_like, run_like}
 
 -- It is mapped.
 pub record IsRegionMade (m : Machine) (actor : ℕ) (regions : Actor) (mapping : Mapping) (answer : Answer) (next : Machine) : Type 0 where
@@ -135,8 +129,8 @@ mapped_blank m w next wn actor regions at a b is is_next alike (inl r) = inl (re
 mapped_blank m w next wn actor regions at a b is is_next alike (inr u) = inr (record {
   next_is = is_next ∙ ap blank u.next_is ∙ sym is;
   why = elim u.why [
-    | inl e ↦ inl (alike_memory a b e alike)
-    | inr e ↦ inr (alike_many a b e.0 alike, ap (nat_le MOST_MADE) (sym (regions_whole m w is)) ∙ e.1)
+    | inl e ↦ inl (still_err troubles.Memory a b e alike)
+    | inr e ↦ inr (still_err (troubles.Refused refusals.TooMany) a b e.0 alike, ap (nat_le MOST_MADE) (sym (regions_whole m w is)) ∙ e.1)
   ];
 })
 

@@ -1,7 +1,7 @@
 -- A fact of each answer of a row, from the fact of its refusals and of its end.
 use Rattle.std.proofs.Common.{◌≡◌, Bool, true, false, Option, Some, None, refl}
 use Rattle.std.specs.Prelude.{Result, Ok, Err}
-use Rattle.vm_ids.specs.declared.refusal.Refusal.{Refusal}
+use Rattle.interface_callers.proofs.Words.{Refusal}
 use Rattle.mix_process.specs.ProcessMachine.{ProcessMachine}
 use Rattle.mix_process.specs.Answering.{Answered, refuse, unless, with_some, with_ok}
 

@@ -6,9 +6,7 @@ use Rattle.std.specs.Option.{option_map_or}
 use Rattle.std.proofs.lemmas.Bool.{cases_lt}
 use Rattle.std.proofs.lemmas.Bool.Decides.{nat_tests}
 use Rattle.std.proofs.lemmas.List.{length-append, length-take-le}
-use Rattle.vm_ids.specs.declared.command.Mapping.{Mapping}
-use Rattle.vm_model.specs.Machine.{Actor, Cache, Machine, Page, cache_of}
-use Rattle.vm_model.specs.Place.{region_at}
+use Rattle.interface_callers.proofs.Words.{Actor, Cache, Machine, Mapping, Page, cache_of, region_at}
 use Rattle.mix_process.specs.ProcessMachine.{area_at, area_start, is_within}
 use Rattle.mix_process.specs.Seen.{area_seen, cache_pages, pages_in, part_seen, process_seen, same_area}
 use Rattle.mix_process.specs.Tying.{AreMapped, IsPart, IsSmall}

@@ -1,37 +1,23 @@
 -- Calls of the processes that are one call of the manager each.
-use Rattle.std.proofs.Common.{◌≡◌, ℕ, ◌+◌, ◌≤◌, true, List, length, take, drop, Option, Some, None, refl, sym, ap, subst, ◌∙◌, arith}
-use Rattle.std.specs.Prelude.{Ok, Err, Result, is_some, not, option_map, slice_get}
-use Rattle.vm_ids.specs.Counting.{MapperCounts, no_counts}
-use Rattle.vm_ids.specs.Held.{Held, Segments, segments_of}
-use Rattle.vm_ids.specs.declared.command.Command.{Command}
+use Rattle.std.proofs.Common.{◌≡◌, ℕ, ◌+◌, ◌≤◌, List, length, take, drop, Option, Some, None, refl, sym, ap, subst, ◌∙◌, arith}
+use Rattle.std.specs.Prelude.{Ok, Err, Result, not, option_map, slice_get}
 use Rattle.vm_ids.specs.declared.command.Command.TheVariants as vm_commands
 use Rattle.vm_ids.specs.declared.command.MixCommand.{MixCommand}
 use Rattle.vm_ids.specs.declared.command.MixCommand.TheVariants as commands
-use Rattle.vm_ids.specs.declared.numbers.ProcId.{ProcId}
 use Rattle.vm_ids.specs.declared.reply.FaultAt.TheVariants as faults
 use Rattle.vm_ids.specs.declared.reply.Reply.TheVariants as replies
-use Rattle.vm_ids.specs.declared.refusal.Refusal.{Refusal}
 use Rattle.vm_ids.specs.declared.refusal.Refusal.TheVariants as refusals
 use Rattle.vm_ids.specs.declared.reply.Trouble.TheVariants as troubles
 use Rattle.vm_model.specs.Answering as vm
-use Rattle.vm_model.specs.Answering.{Answer, answer_of}
-use Rattle.vm_model.specs.Asking.{pages_touched}
-use Rattle.vm_model.specs.Machine.{Machine, Page, live_pages, numbered}
-use Rattle.vm_model.specs.Outcome.{Outcome, OutcomeAt, blank}
-use Rattle.vm_model.specs.PageForest.{PageForest, forest_shown}
 use Rattle.vm_model.specs.Run.{CallIs}
 use Rattle.vm_model.specs.Run as vm_run
-use Rattle.vm_model.specs.declared.limits.TheConstants.{LIVE_PAGES}
-use Rattle.vm_model.proofs.Outcomes.Kept.{IsKept, kept}
 use Rattle.vm_model.proofs.Outcomes.Rows.{each_ok}
 use Rattle.vm_model.proofs.Parts.Lists.{numbered-map}
-use Rattle.vm_port.specs.declared.traits.mapper.Mapper.{Ghosts as GhostsOfMapper}
-use Rattle.gmi_calls.specs.Calling.{Fits, MapperCall, RaisesMade}
-use Rattle.gmi_calls.specs.Managing.{meanings_of}
-use Rattle.gmi_calls.specs.Room.{CallWithin}
-use Rattle.gmi_calls.specs.declared.gmi.Gmi.{Ghosts as GhostsOfGmi}
-use Rattle.gmi_calls.proofs.Living.{stays_few}
 use Rattle.gmi_calls.proofs.Rising.{rise_none}
+use Rattle.interface_callers.proofs.Words.{Answer, Command, GhostsOfGmi, GhostsOfMapper, LIVE_PAGES, Machine, MapperCall, MapperCounts, Outcome, OutcomeAt, PageForest, ProcId, RaisesMade, Refusal, Segments, answer_of, blank, forest_shown, live_pages, meanings_of, no_counts, numbered, pages_touched, segments_of}
+use Rattle.interface_callers.proofs.Alike.{HasShape, shape_self, whole_shape}
+use Rattle.interface_callers.proofs.Blanks.{as_untold}
+use Rattle.interface_callers.proofs.Calls as calls
 use Rattle.mix_process.specs.Answering as mix
 use Rattle.mix_process.specs.ProcessMachine as model
 use Rattle.mix_process.specs.ProcessMachine.{ProcessMachine, place_of, process_of}
@@ -40,16 +26,17 @@ use Rattle.mix_process.specs.Stepping.{StepAt}
 use Rattle.mix_process.specs.Outcome as mix_outcome
 use Rattle.mix_process.specs.Outcome.{RaisedBy, Usage, makes_by, usage_of}
 use Rattle.mix_process.specs.Seen.{cache_pages, process_seen, processes_seen, state_of}
-use Rattle.mix_process.specs.Tying.{AreSynchronised, AreTied, CanCall, none_spare}
+use Rattle.mix_process.specs.Tying.{AreTied, CanCall, none_spare}
 use Rattle.mix_process.specs.declared.mix.Image.{Image}
 use Rattle.mix_process.specs.declared.mix.Mix.{Mix}
 use Rattle.mix_process.specs.declared.process.Process.{Process}
+use Rattle.mix_process.proofs.Able.{able_after, sync_after}
 use Rattle.mix_process.proofs.Having.{had}
 use Rattle.mix_process.proofs.Loading.{IsLiving, load_outcome}
-use Rattle.mix_process.proofs.Pushes.{segments_stay, still_synchronised}
-use Rattle.mix_process.proofs.Shapes.{HasShape, run_like, shape_self, tied_like, whole_shape}
+use Rattle.mix_process.proofs.Pushes.{segments_stay}
+use Rattle.mix_process.proofs.Shapes.{run_like, tied_like}
 use Rattle.mix_process.proofs.Storing.{IsPut, store_outcome, store_put}
-use Rattle.mix_process.proofs.Untold.{AreLike, as_untold, blank_after, filled_up, like_filled, like_self, seen_filled, step_blank, step_filled}
+use Rattle.mix_process.proofs.Untold.{AreLike, filled_up, like_filled, like_self, seen_filled, step_blank, step_filled}
 
 -- Commands that leave the machine
 
@@ -72,19 +59,6 @@ outcome_steady c steady m f h (Err troubles.Memory) next rises o = o.0
 pub steady_at : (told : Option Segments) (c : Command) → IsSteady c → (m : Machine) (f : Option PageForest) (a : Answer) (next : Machine) (rises : MapperCounts) → OutcomeAt told m f c a next rises → next ≡ m
 steady_at (Some h) c steady m f a next rises o = outcome_steady c steady m f h a next rises o
 steady_at None c steady m f a next rises o = o.is_next ∙ ap blank (outcome_steady c steady o.whole f o.segments o.whole_answer o.whole_next rises o.outcome) ∙ sym o.is
-
--- Numbers
-
-pub unlimited_still : (before now : Option ℕ) → before ≡ None → is_some now ≡ is_some before → now ≡ None
-unlimited_still before None e h = refl
-unlimited_still before (Some n) e h = absurd (let yes : true ≡ is_some before = h in cc (yes, ap is_some e))
-
-pub fits_still : (told now : Option ℕ) (m next : Machine) → now ≡ told → next.page_bytes ≡ m.page_bytes → Fits told m → Fits now next
-fits_still told now m next same page fits = subst (λ (o : Option ℕ). Fits o next) (sym same) (go told fits)
-  where
-    go : (told : Option ℕ) → Fits told m → Fits told next
-    go None fits = fits
-    go (Some n) fits = fits ∙ sym page
 
 -- a command that touches one page at most, and takes none
 pub raises_little : (m next : Machine) (c : Command) (a : Answer) (before now : ℕ) → pages_touched m c ≤ 1 → live_pages next ≤ LIVE_PAGES → RaisesMade m c a next before now → now ≤ before + call_budget
@@ -111,29 +85,13 @@ module _ {Manager X Chooser : Type 0} (M : GhostsOfMapper X) (G : GhostsOfGmi Ma
   with_manager = record old { gmi = gmi }
 
   abbrev pub call_is : CallIs (M.counts before) (M.counts after) (vm_run.state_of G.machine G.forest old.gmi (M.held before)) c a (vm_run.state_of G.machine G.forest gmi (M.held after))
-  call_is = subst (λ (room : Option ℕ). CallWithin room (M.counts before) (M.counts after) (vm_run.state_of G.machine G.forest old.gmi (M.held before)) c a (vm_run.state_of G.machine G.forest gmi (M.held after))) can.unlimited call.answers
-
-  keeps : IsKept m c a n
-  keeps = kept (segments_of (M.held after)) m n (G.forest old.gmi (M.held before)) c a call_is.rises call_is.is.outcome
-
-  images_like : (told : Option Held) (images : List Image) → ((i : ℕ) (image : Image) → slice_get images i ≡ Some image → cache_pages n image.cache.0 ≡ cache_pages m image.cache.0) → AreSynchronised m images told → AreSynchronised n images told
-  images_like None images alike sync = tt
-  images_like (Some h) images alike sync = λ i image e. sync i image e ∙ ap (λ (pages : List Page). Some pages) (sym (alike i image e))
+  call_is = calls.call_is M G old.gmi gmi before after c a can.unlimited call
 
   -- they can be called again, where the machine has the shape that it had, and the images
   pub can_after : HasShape m n → ((i : ℕ) (image : Image) → slice_get old.images.items i ≡ Some image → cache_pages n image.cache.0 ≡ cache_pages m image.cache.0) → CanCall G with_manager (M.held after) (M.page_bytes after)
-  can_after shape alike = record {
-    valid = call.valid;
-    unlimited = unlimited_still (G.room old.gmi) (G.room gmi) can.unlimited call.room;
-    fits = fits_still (M.page_bytes before) (M.page_bytes after) m n call.page shape.page can.fits;
-    live = keeps.live can.live;
-    living = stays_few (segments_of (M.held after)) m n (G.forest old.gmi (M.held before)) c a call_is.rises call_is.is.outcome can.living;
-    few = omega (arith, can.few, ap length shape.actors);
-    most = omega (arith, can.most, ap length shape.actors);
-    tied = tied_like m n shape (numbered old.processes.items) none_spare old.images.items can.tied;
-    synchronised = images_like (M.held after) old.images.items alike (still_synchronised m (numbered old.processes.items) none_spare old.images.items can.tied (M.held before) (M.held after) call_is.pushes call_is.is.pushed can.synchronised);
-    blank = blank_after (M.held after) m n (G.forest old.gmi (M.held before)) c a call_is.rises call_is.is.outcome;
-  }
+  can_after shape alike = able_after M G old.gmi gmi before after c a old.images.items (length old.processes.items) (numbered old.processes.items) none_spare can call
+      old.images.items (length old.processes.items) (numbered old.processes.items) none_spare (omega (arith, can.few, ap length shape.actors)) (omega (arith, can.most, ap length shape.actors))
+      (tied_like m n shape (numbered old.processes.items) none_spare old.images.items can.tied) (sync_after M G old.gmi gmi before after c a old.images.items (length old.processes.items) (numbered old.processes.items) none_spare can call alike)
 
   abbrev pub table : List (Option Process)
   table = old.processes.items
@@ -151,7 +109,7 @@ module _ {Manager X Chooser : Type 0} (M : GhostsOfMapper X) (G : GhostsOfGmi Ma
       → MixCall M G before old command a after with_manager
   called command one shape alike step = record {
     can = can_after shape alike;
-    made = raises_little m n c a (G.made old.gmi) (G.made gmi) one (keeps.live can.live) call.made;
+    made = raises_little m n c a (G.made old.gmi) (G.made gmi) one ((calls.keeps M G old.gmi gmi before after c a can.unlimited call).live can.live) call.made;
     rises = call_is.rises;
     rose = call_is.rose;
     is = record {

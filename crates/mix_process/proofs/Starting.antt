@@ -2,16 +2,14 @@
 use Rattle.std.proofs.Common.{◌≡◌, ◌≢◌, ◌⊎◌, inl, inr, ℕ, ◌+◌, List, [], ◌∷◌, ◌++◌, length, Option, Some, None, refl, sym, ap, subst, ◌∙◌, arith}
 use Rattle.std.specs.Prelude.{slice_get}
 use Rattle.std.specs.List.{AllByRecursion}
-use Rattle.vm_model.specs.Machine.{Cache, Machine, actor_of, cache_of, numbered}
+use Rattle.interface_callers.proofs.Words.{Cache, Machine, actor_of, cache_of, numbered}
+use Rattle.interface_callers.proofs.Lists.{all_at, get_append, get_last, get_snoc}
 use Rattle.mix_process.specs.Tying.{AreMapped, AreTied, IsPart, IsRun, IsSingle, IsSmall, Owns, none_spare}
 use Rattle.mix_process.specs.Tying.AreMapped.{none}
 use Rattle.mix_process.specs.declared.mix.Image.{Image}
 use Rattle.mix_process.specs.declared.process.Part.{Part}
 use Rattle.mix_process.specs.declared.process.Process.{Process}
 use Rattle.mix_process.proofs.Clearing.{run_kept}
-use Rattle.mix_process.proofs.Destroying.{get_snoc}
-use Rattle.mix_process.proofs.Lists.{get_append, get_last}
-use Rattle.mix_process.proofs.Putting.{all_at}
 use Rattle.mix_process.proofs.Taking.{fresh_numbered, part_cache, segment_in, still_numbered, used, was_or_fresh}
 
 no_front : (before : List Part) (part : Part) (behind : List Part) → [] ≡ before ++ part ∷ behind → ⊥

@@ -3,28 +3,18 @@ use Rattle.std.proofs.Common.{◌≡◌, inl, inr, ℕ, ◌+◌, ◌-◌, ◌<�
 use Rattle.std.specs.Prelude.{Ok, Err, Result, IsOkAnd, not, is_some, slice_get, option_and_then, option_map}
 use Rattle.std.specs.Bool.{IsTrue}
 use Rattle.std.specs.Option.{option_map_or}
-use Rattle.vm_ids.specs.Counting.{MapperCounts}
-use Rattle.vm_ids.specs.Denying.{denies}
-use Rattle.vm_ids.specs.Held.{Segments}
 use Rattle.vm_ids.specs.declared.command.Command.TheVariants as vm_commands
-use Rattle.vm_ids.specs.declared.command.Mapping.{Mapping}
 use Rattle.vm_ids.specs.declared.command.MixCommand.TheVariants as commands
-use Rattle.vm_ids.specs.declared.numbers.PageNo.{PageNo}
-use Rattle.vm_ids.specs.declared.numbers.ProcId.{ProcId}
-use Rattle.vm_ids.specs.declared.refusal.Refusal.{Refusal}
 use Rattle.vm_ids.specs.declared.refusal.Refusal.TheVariants as refusals
-use Rattle.vm_ids.specs.declared.reply.FaultAt.{FaultAt}
 use Rattle.vm_ids.specs.declared.reply.FaultAt.TheVariants as faults
 use Rattle.vm_ids.specs.declared.reply.Reply.TheVariants as replies
 use Rattle.vm_ids.specs.declared.reply.Trouble.TheVariants as troubles
 use Rattle.vm_model.specs.Answering as vm
-use Rattle.vm_model.specs.Answering.{Answer, overwrite, put_cache, put_page}
-use Rattle.vm_model.specs.Machine.{Cache, Machine, Page, cache_of, numbered}
 use Rattle.vm_model.specs.Outcome as vm_outcome
-use Rattle.vm_model.specs.Outcome.{BlankOutcome, IsNotRefused, OutcomeAt, blank, blank_cache}
 use Rattle.std.proofs.lemmas.List.{length-map, length-set}
-use Rattle.vm_model.specs.PageForest.{PageForest}
 use Rattle.vm_model.specs.Place as vm_place
+use Rattle.interface_callers.proofs.Words.{Answer, Cache, FaultAt, IsNotRefused, Machine, MapperCounts, Mapping, OutcomeAt, Page, PageForest, PageNo, ProcId, Refusal, Segments, blank, blank_cache, cache_of, denies, numbered, overwrite, put_cache, put_page}
+use Rattle.interface_callers.proofs.Alike.{HasShape, blank_shape, shape_back, shape_self, shape_then}
 use Rattle.mix_process.specs.ProcessMachine as model
 use Rattle.mix_process.specs.ProcessMachine.{ProcessMachine, may_write, pages_of, with_pages}
 use Rattle.mix_process.specs.Answering as mix
@@ -40,7 +30,7 @@ use Rattle.mix_process.proofs.Loading.{AreSame, IsLiving, IsSame, byte_same, mis
 use Rattle.mix_process.proofs.Loading.AreSame.{crosses, nowhere, same}
 use Rattle.mix_process.proofs.Putting.{images_put, processes_put, put_shape}
 use Rattle.mix_process.proofs.Seeing.{AreParts, all_parts}
-use Rattle.mix_process.proofs.Shapes.{HasShape, blank_pages, blank_shape, shape_back, shape_self, shape_then, tied_like}
+use Rattle.mix_process.proofs.Shapes.{blank_pages, tied_like}
 
 -- The areas that may be written are the process's own.
 

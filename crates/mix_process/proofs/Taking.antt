@@ -1,21 +1,11 @@
 -- A new temporary cache, which is spare until it is mapped.
-use Rattle.std.proofs.Common.{◌≡◌, ◌≢◌, ◌⊎◌, inl, inr, ℕ, ◌+◌, ◌-◌, ◌≤◌, ◌<◌, Bool, true, false, List, [], ◌∷◌, ◌++◌, length, map, replicate, Option, Some, None, refl, sym, ap, subst, ◌∙◌, arith}
-use Rattle.std.specs.Prelude.{◌||◌, Ok, Err, nat_le, nat_lt, option_map, slice_get}
-use Rattle.std.proofs.lemmas.List.{length-map, map-append}
+use Rattle.std.proofs.Common.{◌≡◌, ◌≢◌, ◌⊎◌, inl, inr, ℕ, ◌+◌, ◌-◌, ◌≤◌, ◌<◌, List, [], ◌∷◌, ◌++◌, length, Option, Some, None, refl, sym, ap, ◌∙◌, arith}
+use Rattle.std.specs.Prelude.{slice_get}
 use Rattle.std.proofs.lemmas.Option.{slice_get_within}
-use Rattle.vm_ids.specs.Counting.{MapperCounts}
-use Rattle.vm_ids.specs.Held.{Segments}
-use Rattle.vm_ids.specs.declared.command.Command.TheVariants as vm_commands
-use Rattle.vm_ids.specs.declared.refusal.Refusal.TheVariants as refusals
-use Rattle.vm_ids.specs.declared.reply.Reply.TheVariants as replies
-use Rattle.vm_ids.specs.declared.reply.Trouble.TheVariants as troubles
-use Rattle.vm_model.specs.Answering as vm
-use Rattle.vm_model.specs.Answering.{Answer, temporary}
-use Rattle.vm_model.specs.Machine.{Cache, Machine, cache_of, live_pages, numbered}
-use Rattle.vm_model.specs.Outcome.{IsAlike, Outcome, OutcomeAt, blank, blank_cache}
-use Rattle.vm_model.specs.PageForest.{PageForest}
-use Rattle.vm_model.specs.declared.limits.TheConstants.{LIVE_PAGES, MOST_MADE}
 use Rattle.vm_model.proofs.Parts.Lists.{numbered_place}
+use Rattle.interface_callers.proofs.Words.{Cache, Machine, Segments, cache_of, numbered}
+use Rattle.interface_callers.proofs.Lists.{all_at, get_append, get_last, get_snoc, number_at}
+use Rattle.interface_callers.proofs.Making as making
 use Rattle.mix_process.specs.Adding.{fresh_page}
 use Rattle.mix_process.specs.Tying.{AreTied, IsPart, none_spare}
 use Rattle.mix_process.specs.declared.area.Area.{Area}
@@ -24,89 +14,11 @@ use Rattle.mix_process.specs.declared.mix.Image.{Image}
 use Rattle.mix_process.specs.declared.process.Part.{Part}
 use Rattle.mix_process.specs.declared.process.Process.{Process}
 use Rattle.mix_process.proofs.Clearing.{run_kept}
-use Rattle.mix_process.proofs.Destroying.{get_snoc}
-use Rattle.mix_process.proofs.Lists.{get_append, get_last, number_at}
-use Rattle.mix_process.proofs.Putting.{all_at}
-use Rattle.mix_process.proofs.Shapes.{blank_live, emptied}
-use Rattle.mix_process.proofs.Temporary.{alike_many, alike_memory}
-use Rattle.mix_process.proofs.Untold.{map-replicate}
 
--- The row
-
--- as many caches were made, or pages are live, as may be
-abbrev pub is_full : Machine → ℕ → Bool
-is_full m pages = nat_le MOST_MADE (length m.caches) || nat_lt LIVE_PAGES (live_pages m + pages)
-
--- What a make of a temporary cache comes to: a new cache, or nothing and a reason for it.
-pub record IsTaken (told : Option Segments) (m : Machine) (pages : ℕ) (answer : Answer) (next : Machine) : Type 0 where
-  pub cache : Cache
-  pub answer_is : answer ≡ Ok (replies.Cache (record { 0 = length m.caches + 1 }))
-  pub next_is : next ≡ record m { caches = m.caches ++ Some cache ∷ [] }
-  pub temporary : cache.segment ≡ None
-  pub pages_are : cache.pages ≡ replicate pages (fresh_page told m.page_bytes)
-
-pub record IsLacking (m : Machine) (pages : ℕ) (answer : Answer) (next : Machine) : Type 0 where
-  pub next_is : next ≡ m
-  pub why : (answer ≡ Err troubles.Memory) ⊎ ((answer ≡ Err (troubles.Refused refusals.TooMany)) × (is_full m pages ≡ true))
-
-abbrev pub Takes : Option Segments → Machine → ℕ → Answer → Machine → Type 0
-Takes told m pages answer next = IsTaken told m pages answer next ⊎ IsLacking m pages answer next
-
-module _ (h : Segments) where
-  temp_by : (m : Machine) (pages : ℕ) (a : Answer) (next : Machine) (full : Bool) → is_full m pages ≡ full
-      → vm.unless full refusals.TooMany m (vm.reply (replies.Cache (record { 0 = length m.caches + 1 })) (record m { caches = m.caches ++ Some (temporary m.page_bytes pages) ∷ [] })) ≡ record { answer = a; next = next } → Takes (Some h) m pages a next
-  unfolding vm.unless
-  temp_by m pages a next true full e = inr (record { next_is = sym (ap (λ (x : vm.Answered). x.next) e); why = inr (sym (ap (λ (x : vm.Answered). x.answer) e), full) })
-  temp_by m pages a next false full e = inl (record {
-    cache = temporary m.page_bytes pages;
-    answer_is = sym (ap (λ (x : vm.Answered). x.answer) e);
-    next_is = sym (ap (λ (x : vm.Answered). x.next) e);
-    temporary = refl;
-    pages_are = refl;
-  })
-
-  temp_row : (m : Machine) (pages : ℕ) (a : Answer) (next : Machine) → vm.make_temp_of m pages ≡ record { answer = a; next = next } → Takes (Some h) m pages a next
-  unfolding vm.make_temp_of
-  temp_row m pages a next e = temp_by m pages a next (is_full m pages) refl e
-
-  temp_outcome : (m : Machine) (f : Option PageForest) (pages : ℕ) (a : Answer) (next : Machine) (rises : MapperCounts) → Outcome m f (vm_commands.MakeTemp pages) h a next rises → Takes (Some h) m pages a next
-  temp_outcome m f pages (Ok r) next rises o = temp_row m pages (Ok r) next o
-  temp_outcome m f pages (Err (troubles.Refused r)) next rises o = temp_row m pages (Err (troubles.Refused r)) next o
-  temp_outcome m f pages (Err (troubles.Mapper at)) next rises o = absurd o.2
-  temp_outcome m f pages (Err troubles.Memory) next rises o = inr (record { next_is = o.0; why = inl refl })
-
-cache_alike : (number : ℕ) (b : Answer) → IsAlike (Ok (replies.Cache (record { 0 = number }))) b → b ≡ Ok (replies.Cache (record { 0 = number }))
-cache_alike number b h = sym h
-
-taken_blank : (h : Segments) (m w next wn : Machine) (pages : ℕ) (a b : Answer) → m ≡ blank w → next ≡ blank wn → IsAlike a b → Takes (Some h) w pages a wn → Takes None m pages b next
-taken_blank h m w next wn pages a b is is_next alike (inl t) =
-    let many : length w.caches ≡ length m.caches = sym (length-map w.caches (option_map blank_cache)) ∙ ap (λ (x : Machine). length x.caches) (sym is) in
-    inl (record {
-      cache = blank_cache t.cache;
-      answer_is = cache_alike (length w.caches + 1) b (subst (λ (x : Answer). IsAlike x b) t.answer_is alike) ∙ ap (λ (n : ℕ). let x : Answer = Ok (replies.Cache (record { 0 = n + 1 })) in x) many;
-      next_is = is_next ∙ ap blank t.next_is
-          ∙ (λ i. record (blank w) { caches = map-append (option_map blank_cache) w.caches (Some t.cache ∷ []) i })
-          ∙ ap (λ (x : Machine). let y : Machine = record x { caches = x.caches ++ Some (blank_cache t.cache) ∷ [] } in y) (sym is);
-      temporary = t.temporary;
-      pages_are = ap (map emptied) t.pages_are ∙ map-replicate emptied pages (fresh_page (Some h) w.page_bytes);
-    })
-taken_blank h m w next wn pages a b is is_next alike (inr l) = inr (record {
-  next_is = is_next ∙ ap blank l.next_is ∙ sym is;
-  why = elim l.why [
-    | inl e ↦ inl (alike_memory a b e alike)
-    | inr e ↦ inr (
-      alike_many a b e.0 alike,
-      ap (λ (x : Machine). is_full x pages) is
-          ∙ (λ i. nat_le MOST_MADE (length-map w.caches (option_map blank_cache) i) || nat_lt LIVE_PAGES (blank_live w i + pages))
-          ∙ e.1,
-    )
-  ];
-})
-
--- what a make of a temporary cache comes to
-pub temp_at : (told : Option Segments) (m : Machine) (f : Option PageForest) (pages : ℕ) (a : Answer) (next : Machine) (rises : MapperCounts) → OutcomeAt told m f (vm_commands.MakeTemp pages) a next rises → Takes told m pages a next
-temp_at (Some h) m f pages a next rises o = temp_outcome h m f pages a next rises o
-temp_at None m f pages a next rises o = taken_blank o.segments m o.whole next o.whole_next pages o.whole_answer a o.is o.is_next o.alike (temp_outcome o.segments o.whole f pages o.whole_answer o.whole_next rises o.outcome)
+-- the page of a new cache, in the words of the processes
+pub fresh_same : (told : Option Segments) (page_bytes : ℕ) → making.fresh_page told page_bytes ≡ fresh_page told page_bytes
+fresh_same (Some h) page_bytes = refl
+fresh_same None page_bytes = refl
 
 -- A new cache among the others
 

@@ -1,68 +1,32 @@
 -- Steps of processes where the mapper doesn't tell what it holds.
-use Rattle.std.proofs.Common.{◌≡◌, ℕ, zero, suc, ◌-◌, Bool, true, false, cond, List, [], ◌∷◌, ◌++◌, length, map, take, replicate, Option, Some, None, refl, sym, ap, subst, ◌∙◌}
-use Rattle.std.specs.Prelude.{All, Ok, IfNone, option_map}
-use Rattle.std.specs.FinMap.{empty}
+use Rattle.std.proofs.Common.{◌≡◌, ℕ, ◌-◌, Bool, true, false, cond, List, [], ◌∷◌, ◌++◌, length, map, take, Option, Some, None, refl, sym, ap, subst, ◌∙◌}
+use Rattle.std.specs.Prelude.{All, option_map}
 use Rattle.std.specs.Option.{option_map_or}
 use Rattle.std.proofs.lemmas.List.{length-map, length-replicate, map-append, map-set, take-map}
 use Rattle.std.proofs.lemmas.List.Elements.{All-append, All-map, All-nil, All-take}
-use Rattle.vm_ids.specs.Counting.{MapperCounts}
-use Rattle.vm_ids.specs.Held.{Held, Segments, segments_of}
-use Rattle.vm_ids.specs.declared.command.Command.{Command}
 use Rattle.vm_ids.specs.declared.command.MixCommand.{MixCommand}
-use Rattle.vm_ids.specs.declared.reply.Reply.TheVariants as replies
-use Rattle.vm_model.specs.Answering.{Answer}
-use Rattle.vm_model.specs.Machine.{Cache, Machine, Page, cache_of, numbered, zero_page}
-use Rattle.vm_model.specs.Outcome.{BlankOutcome, HasWholePages, IsAlike, IsWhole, OutcomeAt, blank, blank_cache}
-use Rattle.vm_model.specs.PageForest.{PageForest}
 use Rattle.vm_model.proofs.Machines.Sound.{numbered-all}
 use Rattle.vm_model.proofs.Parts.Lists.{numbered-map}
-use Rattle.gmi_calls.specs.Untold.{UntoldStep}
+use Rattle.interface_callers.proofs.Words.{Answer, BlankOutcome, Cache, Command, HasWholePages, IsWhole, Machine, MapperCounts, Page, PageForest, Segments, UntoldStep, blank, blank_cache, cache_of, numbered, zero_page}
+use Rattle.interface_callers.proofs.Blanks.{blank_live, no_segments}
+use Rattle.interface_callers.proofs.Lists.{mapped_some, some_then, then_same}
+use Rattle.interface_callers.proofs.Answers.{alike_self}
 use Rattle.mix_process.specs.Answering.{put_process}
 use Rattle.mix_process.specs.Outcome.{Usage, usage_of}
 use Rattle.mix_process.specs.ProcessMachine as model
 use Rattle.mix_process.specs.ProcessMachine.{ProcessMachine, pages_of, process_of}
 use Rattle.mix_process.specs.Seen.{area_seen, cache_pages, image_seen, part_seen, process_seen, processes_seen, same_area, sizes_in}
 use Rattle.mix_process.specs.Stepping.{HasAllBytes, State, StepOver, WholeStep, each_in, each_of, each_page, forget, no_bytes}
-use Rattle.mix_process.specs.Tying.{IsUntoldBlank}
 use Rattle.mix_process.specs.declared.area.Area.{Area}
 use Rattle.mix_process.specs.declared.area.Area.TheVariants.{Data, Stack, Text}
 use Rattle.mix_process.specs.declared.mix.Image.{Image}
 use Rattle.mix_process.specs.declared.process.Part.{Part}
 use Rattle.mix_process.specs.declared.process.Process.{Process}
-use Rattle.mix_process.proofs.Shapes.{blank_live, blank_pages, emptied, mapped_some}
+use Rattle.mix_process.proofs.Shapes.{blank_pages}
 
 -- Lists
 
-then_same : {A B C : Type 0} (f : B → C) (g : A → B) (h : A → C) → ((x : A) → f (g x) ≡ h x) → (xs : List A) → map f (map g xs) ≡ map h xs
-then_same f g h e [] = refl
-then_same f g h e (x ∷ xs) = λ i. e x i ∷ then_same f g h e xs i
-
-some_then : {A B C : Type 0} (f : B → C) (g : A → B) (h : A → C) → ((x : A) → f (g x) ≡ h x) → (o : Option A) → option_map f (option_map g o) ≡ option_map h o
-some_then f g h e None = refl
-some_then f g h e (Some x) = ap Some (e x)
-
-pub map-replicate : {A B : Type 0} (f : A → B) (n : ℕ) (x : A) → map f (replicate n x) ≡ replicate n (f x)
-map-replicate f zero x = refl
-map-replicate f (suc n) x = ap (λ xs. f x ∷ xs) (map-replicate f n x)
-
 -- Machines without bytes
-
-blank_twice : (m : Machine) → blank (blank m) ≡ blank m
-blank_twice m = λ i. record m { caches = then_same (option_map blank_cache) (option_map blank_cache) (option_map blank_cache) (some_then blank_cache blank_cache blank_cache (λ c j. record c { pages = then_same emptied emptied emptied (λ p. refl) c.pages j })) m.caches i }
-
--- a machine to which an answer leads has no bytes where nothing is told
-pub blank_after : (told : Option Held) (m n : Machine) (f : Option PageForest) (c : Command) (a : Answer) (rises : MapperCounts) → OutcomeAt (segments_of told) m f c a n rises → IsUntoldBlank told n
-blank_after None m n f c a rises o = o.is_next ∙ sym (blank_twice o.whole_next) ∙ ap blank (sym o.is_next)
-blank_after (Some h) m n f c a rises o = tt
-
-pub blank_bare : (told : Option Held) (m : Machine) → m.caches ≡ [] → IsUntoldBlank told m
-blank_bare (Some h) m bare = tt
-blank_bare None m bare = λ i. record m { caches = (bare ∙ sym (ap (map (option_map blank_cache)) bare)) i }
-
--- nothing is told
-pub as_untold : {P : Type 0} (told : Option Held) → segments_of told ≡ None → IfNone told P → P
-as_untold None e p = p
-as_untold (Some h) e p = absurd (cc e)
 
 -- What is seen of them
 
@@ -175,13 +139,6 @@ forget_filled s = λ i. record s {
 -- where a machine has no bytes, what is seen is what is left of that with zeros
 pub seen_filled : (m : Machine) (table : List (Option Process)) (images : List Image) → m ≡ blank m → processes_seen m table images ≡ each_page no_bytes (filled_up (processes_seen m table images))
 seen_filled m table images is = ap (λ (x : Machine). processes_seen x table images) is ∙ seen_blank m table images ∙ sym (forget_filled (processes_seen m table images))
-
-pub alike_self : (a : Answer) → IsAlike a a
-alike_self (Ok (replies.Bytes bytes)) = refl
-alike_self a = refl
-
-abbrev pub no_segments : Segments
-no_segments = record { pages = empty; denied = [] }
 
 zeros_long : (n : ℕ) → 4096 ≡ n → (pages : List Page) → All (λ (page : Page). length page ≡ n) (map zeros pages)
 zeros_long n is pages = All-map (λ (page : Page). length page ≡ n) zeros pages (λ k d less. length-replicate {A = ℕ} 4096 0 ∙ is)

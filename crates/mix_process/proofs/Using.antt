@@ -4,9 +4,8 @@ use Rattle.std.specs.Prelude.{◌||◌, nat_lt}
 use Rattle.std.specs.Bool.{IsTrue}
 use Rattle.std.proofs.lemmas.Bool.Decides.{nat_tests}
 use Rattle.vm_ids.specs.declared.refusal.Refusal.TheVariants.{TooMany}
-use Rattle.vm_ids.specs.declared.reply.Trouble.{Trouble}
 use Rattle.vm_ids.specs.declared.reply.Trouble.TheVariants.{Memory, Refused}
-use Rattle.vm_model.specs.declared.limits.TheConstants.{LIVE_PAGES, LIVING_ACTORS, MOST_MADE}
+use Rattle.interface_callers.proofs.Words.{LIVE_PAGES, LIVING_ACTORS, MOST_MADE, Trouble}
 use Rattle.mix_process.specs.Outcome.{Usage, would_pass}
 use Rattle.mix_process.specs.Use.{IsLack, IsWithin, usage_sum}
 

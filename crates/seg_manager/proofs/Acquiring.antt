@@ -7,24 +7,15 @@ use Rattle.std.specs.List.{AllByRecursion, list_any, position_from}
 use Rattle.std.proofs.lemmas.Bool.{cases_eq, eq-eqb, ne_eqb}
 use Rattle.std.proofs.lemmas.Bool.Decides.{nat_tests}
 use Rattle.std.proofs.lemmas.Option.{slice_get_within}
-use Rattle.vm_ids.specs.Counting.{MapperCounts, no_counts}
-use Rattle.vm_ids.specs.Held.{Segments, segments_of}
 use Rattle.vm_ids.specs.declared.command.Command.TheVariants.{OpenSegment}
 use Rattle.vm_ids.specs.declared.command.KeepCommand.TheVariants as commands
-use Rattle.vm_ids.specs.declared.numbers.CacheId.{CacheId}
-use Rattle.vm_ids.specs.declared.numbers.SegId.{SegId}
 use Rattle.vm_ids.specs.declared.reply.Reply.TheVariants as replies
-use Rattle.vm_ids.specs.declared.reply.Trouble.{Trouble}
 use Rattle.vm_ids.specs.declared.reply.Trouble.TheVariants as troubles
-use Rattle.vm_model.specs.Answering.{opened}
-use Rattle.vm_model.specs.Machine.{Cache, Machine, Page, cache_of, numbered, segment_of}
-use Rattle.vm_model.specs.Outcome.{blank, blank_cache}
 use Rattle.vm_model.proofs.Parts.ListParts.{numbered_past}
 use Rattle.vm_model.proofs.Parts.Naming.{only_named}
 use Rattle.vm_model.proofs.Parts.Pairs.{each_by}
-use Rattle.vm_port.specs.declared.traits.mapper.Mapper.{Ghosts as GhostsOfMapper}
-use Rattle.gmi_calls.specs.declared.gmi.Gmi.{Ghosts as GhostsOfGmi}
 use Rattle.gmi_calls.proofs.Rising.{rise_none}
+use Rattle.interface_callers.proofs.Words.{Cache, CacheId, GhostsOfGmi, GhostsOfMapper, Machine, MapperCounts, Page, SegId, Segments, Trouble, blank, blank_cache, cache_of, no_counts, numbered, opened, segment_of, segments_of}
 use Rattle.seg_manager.specs.Answering.{open_anew, open_by, open_of, reply_cache}
 use Rattle.seg_manager.specs.Calling.{Acquires, HasNoRoomWithout}
 use Rattle.seg_manager.specs.Inner.{IsOpenedAgain, OpensAgain, first_of}

@@ -5,25 +5,13 @@ use Rattle.std.specs.Global.{Vec}
 use Rattle.std.specs.List.{list_any}
 use Rattle.std.specs.Option.{option_map_or}
 use Rattle.std.proofs.lemmas.Bool.{cases_eq, eq-eqb, ne_eqb}
-use Rattle.vm_ids.specs.Counting.{no_counts}
-use Rattle.vm_ids.specs.Held.{Segments, segments_of}
 use Rattle.vm_ids.specs.declared.command.Command.TheVariants.{Map}
 use Rattle.vm_ids.specs.declared.command.KeepCommand.TheVariants.{Plain}
-use Rattle.vm_ids.specs.declared.command.Mapping.{Mapping}
-use Rattle.vm_ids.specs.declared.numbers.ActorId.{ActorId}
-use Rattle.vm_ids.specs.declared.numbers.RegionId.{RegionId}
 use Rattle.vm_ids.specs.declared.reply.Reply.TheVariants as replies
-use Rattle.vm_ids.specs.declared.reply.Trouble.{Trouble}
 use Rattle.vm_ids.specs.declared.reply.Trouble.TheVariants as troubles
-use Rattle.vm_model.specs.Answering.{Answer, maps_in, region_of}
-use Rattle.vm_model.specs.Machine.{Machine, segment_of}
-use Rattle.vm_model.specs.Outcome.{OutcomeAt}
-use Rattle.vm_port.specs.declared.traits.mapper.Mapper.{Ghosts as GhostsOfMapper}
-use Rattle.gmi_calls.specs.Calling.{CallDone, MapperCall}
-use Rattle.gmi_calls.specs.Managing.{meanings_of}
-use Rattle.gmi_calls.specs.declared.gmi.Gmi.{Ghosts as GhostsOfGmi}
 use Rattle.gmi_calls.proofs.Rising.{rise_none}
 use Rattle.gmi_calls.proofs.Still.{without_mapper}
+use Rattle.interface_callers.proofs.Words.{ActorId, Answer, CallDone, GhostsOfGmi, GhostsOfMapper, Machine, MapperCall, Mapping, OutcomeAt, RegionId, Segments, Trouble, maps_in, meanings_of, no_counts, region_of, segment_of, segments_of}
 use Rattle.seg_manager.specs.Calling.{Serves}
 use Rattle.seg_manager.specs.Inner.{mapping_shown, place_from, shown}
 use Rattle.seg_manager.specs.Seen.{maps, openings_in}

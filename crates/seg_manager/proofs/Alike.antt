@@ -6,10 +6,9 @@ use Rattle.std.specs.List.{list_any}
 use Rattle.std.specs.Option.{option_map_or}
 use Rattle.std.proofs.lemmas.Bool.{cases_eq, eq-eqb, eqb-true, ne_eqb}
 use Rattle.std.proofs.lemmas.Bool.Decides.{nat_tests}
-use Rattle.vm_model.specs.Answering.{is_mapped, maps_in, put_cache}
-use Rattle.vm_model.specs.Machine.{Actor, Cache, Machine, actor_of, cache_of, is_locked_page, is_named_by, locks_any, numbered, segment_of}
 use Rattle.vm_model.proofs.Parts.ListParts.{at_some, at_zero, numbered_set, numbered_set_other, zero_or}
 use Rattle.vm_model.proofs.Parts.Lists.{get_set_other, get_set_same, numbered-map, numbered_place}
+use Rattle.interface_callers.proofs.Words.{Actor, Cache, Machine, actor_of, cache_of, is_locked_page, is_mapped, is_named_by, locks_any, maps_in, numbered, put_cache, segment_of}
 use Rattle.seg_manager.specs.Limits.{IsRenamed, Renaming, renamed_actors, renamed_region, with_pair}
 use Rattle.seg_manager.specs.ReferenceMachine.{ReferenceMachine, goes, let_go, number_in, number_named, stored_from, used_at, with_cache}
 use Rattle.seg_manager.proofs.Entries.{fun_same}

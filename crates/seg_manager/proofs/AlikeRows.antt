@@ -6,30 +6,21 @@ use Rattle.std.specs.List.{list_any, range_with_len}
 use Rattle.std.specs.Option.{option_map_or}
 use Rattle.std.proofs.lemmas.Bool.{eqb-true}
 use Rattle.std.proofs.lemmas.List.{length-map, map-append, map-set}
-use Rattle.vm_ids.specs.Denying.{denies}
-use Rattle.vm_ids.specs.Held.{Segments}
 use Rattle.vm_ids.specs.declared.command.Command.TheVariants as plain_commands
 use Rattle.vm_ids.specs.declared.command.KeepCommand.{KeepCommand}
 use Rattle.vm_ids.specs.declared.command.KeepCommand.TheVariants as commands
-use Rattle.vm_ids.specs.declared.command.Mapping.{Mapping}
-use Rattle.vm_ids.specs.declared.command.Span.{Span}
-use Rattle.vm_ids.specs.declared.refusal.Refusal.{Refusal}
 use Rattle.vm_ids.specs.declared.refusal.Refusal.TheVariants as refusals
-use Rattle.vm_ids.specs.declared.reply.Reply.{Reply}
 use Rattle.vm_ids.specs.declared.reply.Reply.TheVariants as replies
-use Rattle.vm_model.specs.declared.limits.TheConstants.{LIVING_ACTORS, MOST_MADE}
 use Rattle.vm_model.specs.Answering as plain
-use Rattle.vm_model.specs.Answering.{Answer, bytes_at, insert_region, is_any_denied, is_any_locked, is_denied_page, maps_in, opened, overlaps, overlaps_itself, overwrite, page_at, put_cache, put_page, put_pages, put_span, region_of, shares, temporary, unless, with_ok, with_some, without_region, write_at}
-use Rattle.vm_model.specs.Machine.{Actor, Cache, Machine, Page, Region, actor_of, cache_of, is_locked_page, living_actors, segment_of}
-use Rattle.vm_model.specs.Place.{Place, place, place_of_actor}
 use Rattle.vm_model.specs.Regions.{region_with}
 use Rattle.vm_model.proofs.Parts.Lists.{numbered_place}
+use Rattle.interface_callers.proofs.Words.{Actor, Answer, Cache, LIVING_ACTORS, Machine, Mapping, MOST_MADE, Page, Place, Refusal, Region, Reply, Segments, Span, actor_of, cache_of, denies, insert_region, is_denied_page, is_locked_page, living_actors, maps_in, opened, overlaps, overwrite, page_at, place, place_of_actor, put_cache, put_page, put_pages, put_span, region_of, segment_of, shares, temporary, unless, with_ok, with_some, without_region, write_at}
+use Rattle.interface_callers.proofs.Lists.{any_at}
 use Rattle.seg_manager.specs.Answering.{Answered, MayHave, answer_of, close_of, leaving_by, make_temp_of, open_anew, open_by, open_of, refuse, reply, with_memory, within}
 use Rattle.seg_manager.specs.Limits.{NameTheSame, Renaming, renamed, renamed_actors, renamed_answer, renamed_mapping, renamed_region, renamed_span, renaming_behind, with_pair}
 use Rattle.seg_manager.specs.ReferenceMachine.{ReferenceMachine, Stored, add_cache, close_one, is_open, let_go, number_named, open_one, take_stored, with_cache}
 use Rattle.seg_manager.proofs.Alike.{Match, Matches, actor, both_let_go, locked, nowhere, number_same, same, segment, with_actors, with_new, with_put}
 use Rattle.seg_manager.proofs.Entries.{fun_same}
-use Rattle.seg_manager.proofs.Lifting.{any_at}
 use Rattle.seg_manager.proofs.Renaming.{any_change, any_insert, any_map, any_push, any_set, living_renamed, without_maps, insert_renamed, ok_map, pair_again, pair_at, place_renamed, placed_by, with_renamed, without_renamed}
 use Rattle.seg_manager.proofs.Reopening.{past}
 

@@ -1,5 +1,5 @@
 -- A segment without a cache is opened: what is seen, and what is noted.
-use Rattle.std.proofs.Common.{◌≡◌, ◌≢◌, ◌==◌, ◌⊎◌, ℕ, zero, suc, ◌+◌, ◌-◌, ◌<◌, ◌≤◌, Bool, true, false, cond, List, [], ◌∷◌, ◌++◌, length, map, Option, Some, None, refl, sym, ap, ◌∙◌, arith, inl, inr}
+use Rattle.std.proofs.Common.{◌≡◌, ◌≢◌, ◌==◌, ◌⊎◌, ℕ, suc, ◌+◌, ◌-◌, ◌<◌, ◌≤◌, Bool, true, false, cond, List, [], ◌∷◌, ◌++◌, length, map, Option, Some, None, refl, sym, ap, ◌∙◌, arith, inl, inr}
 use Rattle.std.specs.Prelude.{◌||◌, IfSome, is_some, nat_le, nat_lt, not, option_and_then, option_map, replicate, slice_get, slice_set}
 use Rattle.std.specs.FinMap.{get}
 use Rattle.std.specs.List.{AllByRecursion, position_from}
@@ -7,14 +7,11 @@ use Rattle.std.specs.Option.{option_map_or}
 use Rattle.std.proofs.lemmas.Bool.{cases_eq, eq-eqb, eqb-true, ne_eqb}
 use Rattle.std.proofs.lemmas.Bool.Decides.{nat_tests}
 use Rattle.std.proofs.lemmas.List.{append-nil, length-append, map-append}
-use Rattle.vm_ids.specs.Held.{Segments}
-use Rattle.vm_ids.specs.declared.numbers.SegId.{SegId}
-use Rattle.vm_model.specs.Answering.{is_mapped, opened}
-use Rattle.vm_model.specs.Machine.{Cache, Machine, Page, cache_named, cache_of, is_named_by, segment_of}
-use Rattle.vm_model.specs.Outcome.{blank, blank_cache}
 use Rattle.vm_model.proofs.Parts.ListParts.{at_some, numbered_past, numbered_push, numbered_pushed}
 use Rattle.vm_model.proofs.Parts.Pairs.{each_by}
-use Rattle.gmi_calls.specs.Backing.{AreBacked}
+use Rattle.interface_callers.proofs.Words.{AreBacked, Cache, Machine, Page, SegId, Segments, blank, blank_cache, cache_named, cache_of, is_mapped, is_named_by, opened, segment_of}
+use Rattle.interface_callers.proofs.Naming.{has_number}
+use Rattle.interface_callers.proofs.Lists.{get_append, get_last, get_snoc}
 use Rattle.seg_manager.specs.Inner.{first_of, named_with}
 use Rattle.seg_manager.specs.ReferenceMachine.{ReferenceMachine, add_cache, goes, open_one, stored_from, take_stored, used, with_cache}
 use Rattle.seg_manager.specs.Seen.{is_kept, openings_in, references_seen, whole_of}
@@ -28,27 +25,10 @@ use Rattle.seg_manager.proofs.Entries.{fun_same}
 use Rattle.seg_manager.proofs.Going.{Caches, length_used, push_used}
 use Rattle.seg_manager.proofs.Naming.{append_named}
 use Rattle.seg_manager.proofs.Opened.{appended, number_next}
-use Rattle.seg_manager.proofs.Pushed.{Follow, has_number}
+use Rattle.seg_manager.proofs.Pushed.{Follow}
 use Rattle.seg_manager.proofs.Steps.{blank_used}
 use Rattle.seg_manager.proofs.Storing.{apart_by, named_self, stored_free, stored_one}
 use Rattle.seg_manager.proofs.Unused.{entry_there, named_openings, ones_of}
-
--- Lists
-
-get_front : {A : Type 0} (xs ys : List A) (i : ℕ) (x : A) → slice_get xs i ≡ Some x → slice_get (xs ++ ys) i ≡ Some x
-get_front [] ys i x e = absurd (cc e)
-get_front (y ∷ xs) ys zero x e = e
-get_front (y ∷ xs) ys (suc i) x e = get_front xs ys i x e
-
-get_last : {A : Type 0} (xs : List A) (y : A) → slice_get (xs ++ y ∷ []) (length xs) ≡ Some y
-get_last [] y = refl
-get_last (x ∷ xs) y = get_last xs y
-
-get_either : {A : Type 0} (xs : List A) (y : A) (i : ℕ) (x : A) → slice_get (xs ++ y ∷ []) i ≡ Some x → (slice_get xs i ≡ Some x) ⊎ ((i ≡ length xs) × (x ≡ y))
-get_either [] y zero x e = inr (refl, (let s : y ≡ x = cc e in sym s))
-get_either [] y (suc i) x e = absurd (cc e)
-get_either (z ∷ xs) y zero x e = inl e
-get_either (z ∷ xs) y (suc i) x e = elim (get_either xs y i x e) [ inl f ↦ inl f | inr f ↦ inr (ap suc f.0, f.1) ]
 
 pub namings_push : (k : ℕ) (cs : Caches) (c : Cache) → namings k (cs ++ Some c ∷ []) ≡ namings k cs ++ naming_at (k + length cs) (Some c)
 namings_push k [] c = append-nil (naming_at k (Some c)) ∙ ap (λ (n : ℕ). naming_at n (Some c)) (let e : k ≡ k + 0 = omega arith in e)
@@ -259,7 +239,7 @@ module _ (m : Machine) (told : Option Segments) (cs : List Named) (ks : List Kep
       named_now = append_named seg.0 m.caches (Some c ∷ []) unnamed ∙ ap (λ (b : Bool). cond b (Some c) None) (eq-eqb seg.0 seg.0 refl)
 
       only_last : (j : ℕ) (e : Cache) → slice_get n.caches j ≡ Some (Some e) → is_named_by seg.0 (Some e) ≡ true → j ≡ length m.caches
-      only_last j e h named = elim (get_either m.caches (Some c) j (Some e) h) [
+      only_last j e h named = elim (get_snoc m.caches (Some c) j (Some e) h) [
         | inr last ↦ last.0
         | inl front ↦ absurd (nobody (1 + j) (ap (option_and_then (λ (c : Cache). c.segment)) (cache_at j e front) ∙ of_name e.segment named))
       ]
@@ -269,7 +249,7 @@ module _ (m : Machine) (told : Option Segments) (cs : List Named) (ks : List Kep
           of_name (Some s) e = ap (λ (k : ℕ). Some k) (eqb-true s seg.0 e)
 
       only_front : (x : ℕ) → x ≢ seg.0 → (j : ℕ) (e : Cache) → slice_get m.caches j ≡ Some (Some e) → is_named_by x (Some e) ≡ true → (i : ℕ) (y : Cache) → slice_get n.caches i ≡ Some (Some y) → is_named_by x (Some y) ≡ true → i ≡ j
-      only_front x other j e there named i y h g = elim (get_either m.caches (Some c) i (Some y) h) [
+      only_front x other j e there named i y h g = elim (get_snoc m.caches (Some c) i (Some y) h) [
         | inl front ↦ apart_by m t.apart i j x y e front there g named
         | inr last ↦ absurd (let is : y ≡ c = (let both : Some y ≡ Some c = last.1 in cc both) in
             let wrong : x ≡ seg.0 = sym (eqb-true seg.0 x (ap (λ (z : Cache). is_named_by x (Some z)) (sym is) ∙ g)) in other wrong)
@@ -292,7 +272,7 @@ module _ (m : Machine) (told : Option Segments) (cs : List Named) (ks : List Kep
       at_other x other (Some e) is =
           let at = has_number x m.caches e is in
           let named = named_self x e at.named in
-          stored_one V' x 1 n.caches at.place e (get_front m.caches (Some c ∷ []) at.place (Some e) at.there) named (only_front x other at.place e at.there named)
+          stored_one V' x 1 n.caches at.place e (get_append m.caches (Some c ∷ []) at.place (Some e) at.there) named (only_front x other at.place e at.there named)
           ∙ (λ i. cond (alike at.place e at.there i) (Some e.pages) (cond (is_some (append_front x m.caches (Some c ∷ []) e is i)) None (get u.pages x)))
           ∙ sym (ap (λ (o : Option Cache). cond (goes W' (1 + at.place) e) (Some e.pages) (cond (is_some o) None (get s.pages x))) is)
           ∙ sym (stored_one W' x 1 m.caches at.place e at.there named (λ i y h g. apart_by m t.apart i at.place x y e h at.there g named))

@@ -3,28 +3,15 @@ use Rattle.std.proofs.Common.{◌≡◌, ◌==◌, inl, inr, ℕ, ◌+◌, ◌^�
 use Rattle.std.specs.Prelude.{IfSome, Ok, Err, option_map}
 use Rattle.std.specs.List.{list_any, position_from}
 use Rattle.std.proofs.lemmas.List.{drop-map, length-append, length-map}
-use Rattle.vm_ids.specs.Counting.{MapperCounts, counts_sum, no_counts}
-use Rattle.vm_ids.specs.Held.{Segments, segments_of}
 use Rattle.vm_ids.specs.declared.command.Command.TheVariants.{Destroy, OpenSegment}
 use Rattle.vm_ids.specs.declared.command.KeepCommand.TheVariants as commands
-use Rattle.vm_ids.specs.declared.numbers.CacheId.{CacheId}
-use Rattle.vm_ids.specs.declared.numbers.SegId.{SegId}
 use Rattle.vm_ids.specs.declared.refusal.Refusal.TheVariants as refusals
-use Rattle.vm_ids.specs.declared.reply.FaultAt.{FaultAt}
 use Rattle.vm_ids.specs.declared.reply.FaultAt.TheVariants as faults
 use Rattle.vm_ids.specs.declared.reply.Reply.TheVariants as replies
-use Rattle.vm_ids.specs.declared.reply.Trouble.{Trouble}
 use Rattle.vm_ids.specs.declared.reply.Trouble.TheVariants as troubles
-use Rattle.vm_model.specs.Answering.{opened}
-use Rattle.vm_model.specs.Machine.{Machine}
-use Rattle.vm_model.specs.Outcome.{OutcomeAt}
 use Rattle.vm_model.proofs.Parts.ListParts.{numbered_past}
-use Rattle.vm_port.specs.declared.traits.mapper.Mapper.{Ghosts as GhostsOfMapper}
-use Rattle.gmi_calls.specs.Backing.{AreBacked}
-use Rattle.gmi_calls.specs.Calling.{MapperCall}
-use Rattle.gmi_calls.specs.Managing.{meanings_of}
-use Rattle.gmi_calls.specs.declared.gmi.Gmi.{Ghosts as GhostsOfGmi}
 use Rattle.gmi_calls.proofs.Rising.{rise_none, rise_then}
+use Rattle.interface_callers.proofs.Words.{AreBacked, CacheId, FaultAt, GhostsOfGmi, GhostsOfMapper, Machine, MapperCall, MapperCounts, OutcomeAt, SegId, Segments, Trouble, counts_sum, meanings_of, no_counts, opened, segments_of}
 use Rattle.seg_manager.specs.Answering.{Answered, reply_cache}
 use Rattle.seg_manager.specs.Calling.{Acquires, FailsBelow, HasNoRoomWithout, SegmentCall}
 use Rattle.seg_manager.specs.Inner.{first_of}

@@ -1,71 +1,18 @@
 -- After a call of the manager below its caller can call it again.
-use Rattle.std.proofs.Common.{◌≡◌, ℕ, ◌+◌, ◌*◌, ◌≤◌, true, List, [], ◌∷◌, length, map, Option, Some, None, refl, sym, ap, subst, ◌∙◌, arith}
-use Rattle.std.specs.Prelude.{is_some, option_map, IfSome, Ok, Err}
-use Rattle.vm_ids.specs.Counting.{MapperCounts}
-use Rattle.vm_ids.specs.Held.{Held, Segments, segments_of}
-use Rattle.vm_ids.specs.declared.command.Command.{Command}
-use Rattle.vm_ids.specs.declared.reply.Trouble.TheVariants as troubles
-use Rattle.vm_model.specs.Answering.{Answer}
-use Rattle.vm_model.specs.Machine.{Cache, Machine, Page, live_pages}
-use Rattle.vm_model.specs.Outcome.{OutcomeAt, blank, blank_cache}
-use Rattle.vm_model.specs.PageForest.{PageForest}
+use Rattle.std.proofs.Common.{◌≡◌, ℕ, ◌+◌, ◌*◌, ◌≤◌, List, length, Option, Some, None, refl, sym, ap, subst, ◌∙◌}
+use Rattle.std.specs.Prelude.{option_map, IfSome}
 use Rattle.vm_model.specs.Run.{CallIs}
 use Rattle.vm_model.specs.Run as vm_run
-use Rattle.vm_model.specs.declared.limits.TheConstants.{LIVE_PAGES, MOST_MADE}
-use Rattle.vm_model.proofs.Outcomes.Kept.{IsKept, kept}
-use Rattle.vm_port.specs.declared.traits.mapper.Mapper.{Ghosts as GhostsOfMapper}
-use Rattle.gmi_calls.specs.Backing.{AreBacked}
-use Rattle.gmi_calls.specs.Calling.{Fits, MapperCall, RaisesMade}
-use Rattle.gmi_calls.specs.Managing.{meanings_of}
-use Rattle.gmi_calls.specs.Room.{CallWithin}
-use Rattle.gmi_calls.specs.declared.gmi.Gmi.{Ghosts as GhostsOfGmi}
 use Rattle.gmi_calls.proofs.Backing.{backed_after}
+use Rattle.interface_callers.proofs.Words.{Answer, AreBacked, Command, GhostsOfGmi, GhostsOfMapper, LIVE_PAGES, Machine, MapperCall, MapperCounts, MOST_MADE, OutcomeAt, PageForest, Segments, meanings_of, segments_of}
+use Rattle.interface_callers.proofs.Calls as calls
 use Rattle.seg_manager.specs.Seen.{references_seen}
-use Rattle.seg_manager.specs.Tying.{AreTied, CanCall, IsUntoldBlank}
+use Rattle.seg_manager.specs.Tying.{AreTied, CanCall}
 use Rattle.seg_manager.specs.Thinning.{denied_by}
 use Rattle.seg_manager.specs.declared.manager.SegManager.{SegManager}
 use Rattle.seg_manager.specs.declared.tables.Named.{Named}
 use Rattle.seg_manager.proofs.Destroyed.{seen_pushed}
 use Rattle.seg_manager.proofs.Pushed.{Told, told_pushed}
-
-unlimited_still : (before now : Option ℕ) → before ≡ None → is_some now ≡ is_some before → now ≡ None
-unlimited_still before None e h = refl
-unlimited_still before (Some n) e h = absurd (let yes : true ≡ is_some before = h in cc (yes, ap is_some e))
-
-fits_still : (told now : Option ℕ) (m next : Machine) → now ≡ told → next.page_bytes ≡ m.page_bytes → Fits told m → Fits now next
-fits_still told now m next same page fits = subst (λ (o : Option ℕ). Fits o next) (sym same) (go told fits)
-  where
-    go : (told : Option ℕ) → Fits told m → Fits told next
-    go None fits = fits
-    go (Some n) fits = fits ∙ sym page
-
-raised : (m n : Machine) (c : Command) (a : Answer) (before now : ℕ) → live_pages m ≤ LIVE_PAGES → IsKept m c a n → RaisesMade m c a n before now → now ≤ before + 32 * LIVE_PAGES + 8
-raised m n c (Ok r) before now few k made = omega (arith, made, k.touched few tt, k.live few)
-raised m n c (Err (troubles.Refused r)) before now few k made = omega (arith, made)
-raised m n c (Err (troubles.Mapper at)) before now few k made = omega (arith, made, k.touched few tt, k.live few)
-raised m n c (Err troubles.Memory) before now few k made = omega (arith, made, k.touched few tt, k.live few)
-
--- Machines without bytes
-
-blank_pages : (ps : List Page) → map (λ (p : Page). let e : Page = [] in e) (map (λ (p : Page). let e : Page = [] in e) ps) ≡ map (λ (p : Page). let e : Page = [] in e) ps
-blank_pages [] = refl
-blank_pages (p ∷ ps) = λ i. [] ∷ blank_pages ps i
-
-twice : (o : Option Cache) → option_map blank_cache (option_map blank_cache o) ≡ option_map blank_cache o
-twice None = refl
-twice (Some c) = λ i. Some (record c { pages = blank_pages c.pages i })
-
-all_twice : (cs : List (Option Cache)) → map (option_map blank_cache) (map (option_map blank_cache) cs) ≡ map (option_map blank_cache) cs
-all_twice [] = refl
-all_twice (c ∷ cs) = λ i. twice c i ∷ all_twice cs i
-
-pub blank_twice : (m : Machine) → blank (blank m) ≡ blank m
-blank_twice m = λ i. record m { caches = all_twice m.caches i }
-
--- a machine to which an answer leads has no bytes where nothing is told
-pub blank_after : (told : Option Held) (m n : Machine) (f : Option PageForest) (c : Command) (a : Answer) (rises : MapperCounts) → OutcomeAt (segments_of told) m f c a n rises → IsUntoldBlank told n
-blank_after None m n f c a rises o = o.is_next ∙ sym (blank_twice o.whole_next) ∙ ap blank (sym o.is_next)
-blank_after (Some h) m n f c a rises o = tt
 
 -- The segments back the caches then.
 backed_then : (m n : Machine) (f : Option PageForest) (c : Command) (a : Answer) (rises : MapperCounts) (before now : Option Segments) → Told m before now → IfSome before (λ s. AreBacked m.caches s) → OutcomeAt now m f c a n rises
@@ -96,13 +43,10 @@ module _ {Manager X Chooser : Type 0} (M : GhostsOfMapper X) (G : GhostsOfGmi Ma
   forest = G.forest manager.gmi (M.held before)
 
   abbrev pub call_is : CallIs (M.counts before) (M.counts after) (vm_run.state_of G.machine G.forest manager.gmi (M.held before)) c a (vm_run.state_of G.machine G.forest gmi (M.held after))
-  call_is = subst (λ (room : Option ℕ). CallWithin room (M.counts before) (M.counts after) (vm_run.state_of G.machine G.forest manager.gmi (M.held before)) c a (vm_run.state_of G.machine G.forest gmi (M.held after))) can.unlimited call.answers
-
-  pub keeps : IsKept m c a n
-  keeps = kept (segments_of (M.held after)) m n forest c a call_is.rises call_is.is.outcome
+  call_is = calls.call_is M G manager.gmi gmi before after c a can.unlimited call
 
   pub made_after : G.made gmi ≤ G.made manager.gmi + 32 * LIVE_PAGES + 8
-  made_after = raised m n c a (G.made manager.gmi) (G.made gmi) can.live keeps call.made
+  made_after = calls.made_after M G manager.gmi gmi before after c a can.unlimited call can.live
 
   pub told_after : Told m (segments_of (M.held before)) (segments_of (M.held after))
   told_after = told_pushed m (segments_of (M.held before)) (segments_of (M.held after)) call_is.pushes call_is.is.pushed can.tied.backed
@@ -129,10 +73,10 @@ module _ {Manager X Chooser : Type 0} (M : GhostsOfMapper X) (G : GhostsOfGmi Ma
       → CanCall G (record later { gmi = gmi }) (M.held after) (M.page_bytes after)
   able_after later few tied = record {
     valid = call.valid;
-    unlimited = unlimited_still (G.room manager.gmi) (G.room gmi) can.unlimited call.room;
-    fits = fits_still (M.page_bytes before) (M.page_bytes after) m n call.page keeps.page can.fits;
-    live = keeps.live can.live;
+    unlimited = calls.unlimited_after M G manager.gmi gmi before after c a can.unlimited call;
+    fits = calls.fits_after M G manager.gmi gmi before after c a can.unlimited call can.fits;
+    live = (calls.keeps M G manager.gmi gmi before after c a can.unlimited call).live can.live;
     few = few;
     tied = tied;
-    blank = blank_after (M.held after) m n forest c a call_is.rises call_is.is.outcome;
+    blank = calls.blank_then M G manager.gmi gmi before after c a can.unlimited call;
   }

@@ -1,5 +1,5 @@
 -- An opening is taken back.
-use Rattle.std.proofs.Common.{◌≡◌, ◌≢◌, ◌==◌, ℕ, zero, suc, ◌+◌, ◌-◌, ◌≤◌, Bool, true, false, cond, List, [], ◌∷◌, ◌++◌, length, set, map, Option, Some, None, refl, sym, ap, subst, ◌∙◌, arith, inl, inr}
+use Rattle.std.proofs.Common.{◌≡◌, ◌≢◌, ◌==◌, ℕ, zero, suc, ◌+◌, ◌-◌, ◌≤◌, Bool, true, false, cond, List, [], ◌∷◌, ◌++◌, length, set, map, Option, Some, None, refl, sym, ap, ◌∙◌, arith, inl, inr}
 use Rattle.std.specs.Prelude.{◌||◌, nat_lt, not, option_and_then, slice_get}
 use Rattle.std.specs.List.{AllByRecursion, IsDistinct, position_from}
 use Rattle.std.specs.Set.{is_member}
@@ -10,11 +10,8 @@ use Rattle.std.proofs.lemmas.Cmp.{nat_eq_equiv}
 use Rattle.std.proofs.lemmas.List.{length-map, length-set}
 use Rattle.std.proofs.lemmas.Map.Made.{length-le_from_is_member}
 use Rattle.std.specs.Prelude.{nat_eq}
-use Rattle.vm_ids.specs.Held.{Segments}
-use Rattle.vm_ids.specs.declared.numbers.CacheId.{CacheId}
-use Rattle.vm_ids.specs.declared.numbers.SegId.{SegId}
-use Rattle.vm_model.specs.Answering.{is_mapped}
-use Rattle.vm_model.specs.Machine.{Cache, Machine, cache_of, segment_of}
+use Rattle.interface_callers.proofs.Words.{Cache, CacheId, Machine, SegId, Segments, cache_of, is_mapped, segment_of}
+use Rattle.interface_callers.proofs.Lists.{all_at}
 use Rattle.seg_manager.specs.Inner.{Closes, first_of, named_with, unused_in}
 use Rattle.seg_manager.specs.ReferenceMachine.{ReferenceMachine, close_one, goes}
 use Rattle.seg_manager.specs.Seen.{is_kept, openings_in, references_seen, whole_of}
@@ -100,11 +97,6 @@ pub naming_set : (n : ℕ) (cs : List Named) (i : ℕ) (d : Named) → slice_get
 naming_set n [] i d there = refl
 naming_set n (c ∷ cs) zero d there = let is : c ≡ d = cc there in λ j. naming_of (sym is j) ∷ map naming_of cs
 naming_set n (c ∷ cs) (suc i) d there = ap (λ xs. naming_of c ∷ xs) (naming_set n cs i d there)
-
-pub all_at : {A : Type 0} (P : A → Type 0) (xs : List A) (i : ℕ) (x : A) → AllByRecursion P xs → slice_get xs i ≡ Some x → P x
-all_at P [] i x h e = absurd (cc e)
-all_at P (y ∷ xs) zero x h e = let is : y ≡ x = cc e in subst P is h.0
-all_at P (y ∷ xs) (suc i) x h e = all_at P xs i x h.1 e
 
 -- How many are kept
 

@@ -3,11 +3,11 @@ use Rattle.std.proofs.Common.{◌≡◌, ◌≢◌, ◌==◌, ℕ, zero, suc, �
 use Rattle.std.specs.Prelude.{slice_get}
 use Rattle.std.specs.Option.{option_map_or}
 use Rattle.std.proofs.lemmas.Bool.{cases_eq, eq-eqb, eqb-true, ne_eqb}
-use Rattle.vm_model.specs.Machine.{Cache, cache_named, is_named_by}
+use Rattle.interface_callers.proofs.Words.{Cache, cache_named, is_named_by}
+use Rattle.interface_callers.proofs.Naming.{has_number}
 use Rattle.seg_manager.specs.ReferenceMachine.{ReferenceMachine, Stored, goes, stored_from, used, used_at}
 use Rattle.seg_manager.proofs.Entries.{fun_same}
 use Rattle.seg_manager.proofs.Going.{Caches}
-use Rattle.seg_manager.proofs.Pushed.{has_number}
 use Rattle.seg_manager.proofs.Storing.{AreApart, named_self, stored_free, stored_one}
 
 -- What goes is the same but for one place.

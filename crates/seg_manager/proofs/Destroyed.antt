@@ -6,15 +6,13 @@ use Rattle.std.specs.List.{AllByRecursion}
 use Rattle.std.specs.Option.{option_map_or}
 use Rattle.std.proofs.lemmas.Bool.{cases_eq, eq-eqb, eqb-true, ne_eqb}
 use Rattle.std.proofs.lemmas.Bool.Decides.{nat_tests}
-use Rattle.vm_ids.specs.Held.{Segments}
-use Rattle.vm_model.specs.Answering.{is_mapped}
-use Rattle.vm_model.specs.Machine.{Cache, Machine, Page, cache_named, cache_of, is_named_by, segment_of}
 use Rattle.vm_model.proofs.Parts.Lists.{numbered_place}
 use Rattle.vm_model.proofs.Parts.ListParts.{at_some, numbered_set, numbered_set_other}
 use Rattle.vm_model.proofs.Parts.Naming.{segment_cache}
 use Rattle.vm_model.proofs.Parts.Pairs.{each_by}
-use Rattle.gmi_calls.specs.Backing.{AreBacked}
 use Rattle.gmi_calls.proofs.BackedCaches.{named_is}
+use Rattle.interface_callers.proofs.Words.{AreBacked, Cache, Machine, Page, Segments, cache_named, cache_of, is_mapped, is_named_by, segment_of}
+use Rattle.interface_callers.proofs.Blanks.{without}
 use Rattle.seg_manager.specs.ReferenceMachine.{ReferenceMachine, goes, is_open, let_go, stored_from, used}
 use Rattle.seg_manager.specs.Keeping.{without as but_without}
 use Rattle.seg_manager.specs.Seen.{is_kept, openings_in, references_seen, stored_beside, whole_of}
@@ -27,9 +25,7 @@ use Rattle.seg_manager.proofs.Going.{Caches, gone_used, goes_same, stored_set, u
 use Rattle.seg_manager.proofs.Lesser.{gone_one}
 use Rattle.seg_manager.proofs.Naming.{gone_stored, has_named, none_goes, set_named}
 use Rattle.seg_manager.proofs.Pushed.{Follow, Told}
-
-abbrev pub without : Machine → ℕ → Machine
-without m cache = record m { caches = set m.caches (cache - 1) None }
+use Rattle.seg_manager.proofs.Storing.{named_self}
 
 -- what is told is stored for the segments without caches, before and after some pushes
 pub beside_told : (m : Machine) (s t : Segments) → Follow m s t → stored_beside m (Some t) ≡ stored_beside m (Some s)
@@ -80,9 +76,6 @@ neither false false e = (refl, refl)
 
 no_opening : (n : ℕ) → nat_lt 0 n ≡ false → n ≡ 0
 no_opening n e = grind (arith, nat_tests)
-
-named_self : (seg : ℕ) (c : Cache) → c.segment ≡ Some seg → is_named_by seg (Some c) ≡ true
-named_self seg c e = ap (λ (o : Option ℕ). option_map_or (λ s. s == seg) o false) e ∙ eq-eqb seg seg refl
 
 named_not : (seg s : ℕ) (c : Cache) → c.segment ≡ Some s → seg ≢ s → is_named_by seg (Some c) ≡ false
 named_not seg s c e apart = ap (λ (o : Option ℕ). option_map_or (λ s. s == seg) o false) e ∙ ne_eqb s seg (λ same. apart (sym same))

@@ -7,10 +7,7 @@ use Rattle.std.specs.Option.{option_map_or}
 use Rattle.std.proofs.lemmas.Bool.{eq-eqb, ne_eqb}
 use Rattle.std.proofs.lemmas.List.{append-nil, append_assoc, length-append, map-append}
 use Rattle.std.proofs.lemmas.List.Folds.{list_any-append}
-use Rattle.vm_ids.specs.Held.{Segments}
-use Rattle.vm_ids.specs.declared.numbers.CacheId.{CacheId}
-use Rattle.vm_model.specs.Machine.{Actor, Machine, segment_of}
-use Rattle.gmi_calls.specs.Backing.{AreBacked}
+use Rattle.interface_callers.proofs.Words.{Actor, AreBacked, CacheId, Machine, Segments, segment_of}
 use Rattle.seg_manager.specs.Inner.{kept_by, leaves, named_with, staying, unused_after, unused_in, unused_then}
 use Rattle.seg_manager.specs.Keeping.{left_by, left_one}
 use Rattle.seg_manager.specs.ReferenceMachine.{ReferenceMachine}

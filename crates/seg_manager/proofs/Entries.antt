@@ -4,9 +4,9 @@ use Rattle.std.specs.Prelude.{not, option_and_then, slice_get}
 use Rattle.std.specs.List.{AllByRecursion}
 use Rattle.std.specs.Option.{option_map_or}
 use Rattle.std.proofs.lemmas.Bool.{cases_eq, eq-eqb, eqb-true, ne_eqb}
-use Rattle.vm_model.specs.Machine.{Cache, Machine, cache_of, segment_of}
 use Rattle.vm_model.proofs.Parts.Pairs.{each_append, each_by}
 use Rattle.vm_model.proofs.Parts.ListParts.{at_some}
+use Rattle.interface_callers.proofs.Words.{Cache, Machine, cache_of, segment_of}
 use Rattle.seg_manager.specs.Seen.{openings_in}
 use Rattle.seg_manager.specs.Tying.{Naming, naming_at, naming_of, namings}
 use Rattle.seg_manager.specs.declared.tables.Named.{Named}

@@ -1,33 +1,25 @@
 -- Where a cache to which nothing refers couldn't be destroyed to make room: the machine of which
 -- that is seen, and its fault.
-use Rattle.std.proofs.Common.{◌≡◌, ℕ, ◌+◌, Bool, true, false, cond, List, [], ◌∷◌, length, map, Option, Some, None, refl, sym, ap, subst, ◌∙◌, arith}
-use Rattle.std.specs.Prelude.{◌||◌, ◌++◌, Err, Ok, nat_le, nat_lt, option_map, sum_by}
+use Rattle.std.proofs.Common.{◌≡◌, ℕ, ◌+◌, Bool, true, false, cond, List, [], ◌∷◌, length, map, Option, Some, None, refl, sym, ap, subst, ◌∙◌}
+use Rattle.std.specs.Prelude.{◌||◌, ◌++◌, Err, Ok, nat_le, nat_lt, option_map}
 use Rattle.std.specs.FinMap.{get}
 use Rattle.std.specs.List.{position_from}
 use Rattle.std.specs.Option.{option_map_or}
 use Rattle.std.proofs.lemmas.List.{length-map}
-use Rattle.std.proofs.lemmas.List.Sums.{sum_by-cons}
-use Rattle.vm_ids.specs.Counting.{MapperCounts}
-use Rattle.vm_ids.specs.Held.{Segments}
 use Rattle.vm_ids.specs.declared.command.Command.TheVariants.{Destroy, MakeTemp, OpenSegment}
 use Rattle.vm_ids.specs.declared.command.KeepCommand.{KeepCommand}
 use Rattle.vm_ids.specs.declared.command.KeepCommand.TheVariants as commands
-use Rattle.vm_ids.specs.declared.numbers.CacheId.{CacheId}
-use Rattle.vm_ids.specs.declared.numbers.SegId.{SegId}
-use Rattle.vm_ids.specs.declared.refusal.Refusal.{Refusal}
 use Rattle.vm_ids.specs.declared.refusal.Refusal.TheVariants.{NoSegment, TooMany}
-use Rattle.vm_ids.specs.declared.reply.FaultAt.{FaultAt}
 use Rattle.vm_ids.specs.declared.reply.FaultAt.TheVariants as faults
 use Rattle.vm_ids.specs.declared.reply.Reply.TheVariants.{Cache as MadeCache}
 use Rattle.vm_ids.specs.declared.reply.Trouble.TheVariants.{Mapper, Refused}
 use Rattle.vm_model.specs.Answering as plain
-use Rattle.vm_model.specs.Answering.{Answer, make_temp_of, open_of, opened, unless, with_some}
-use Rattle.vm_model.specs.Machine.{Cache, Machine, Page, cache_of, is_named_by, live_pages, pages_in}
 use Rattle.vm_model.specs.Outcome as plain_outcome
-use Rattle.vm_model.specs.Outcome.{OutcomeAt, blank, blank_cache}
-use Rattle.vm_model.specs.PageForest.{PageForest}
-use Rattle.vm_model.specs.declared.limits.TheConstants.{LIVE_PAGES, MOST_MADE}
 use Rattle.vm_model.proofs.Parts.Lists.{numbered-map}
+use Rattle.interface_callers.proofs.Words.{Answer, Cache, CacheId, FaultAt, LIVE_PAGES, Machine, MapperCounts, MOST_MADE, OutcomeAt, Page, PageForest, Refusal, SegId, Segments, blank, blank_cache, cache_of, is_named_by, live_pages, make_temp_of, open_of, opened, unless, with_some}
+use Rattle.interface_callers.proofs.Answers.{alike_err}
+use Rattle.interface_callers.proofs.Naming.{named_blank}
+use Rattle.interface_callers.proofs.Blanks.{blank_live}
 use Rattle.seg_manager.specs.Inner.{first_of}
 use Rattle.seg_manager.specs.Outcome.{FailsToMakeRoom, LacksRoom, MayFault}
 use Rattle.seg_manager.specs.ReferenceMachine.{ReferenceMachine, Stored, goes, is_unreferenced, let_go, number_in}
@@ -40,18 +32,9 @@ use Rattle.seg_manager.specs.declared.tables.Named.{Named}
 use Rattle.seg_manager.proofs.Anew.{unnamed}
 use Rattle.seg_manager.proofs.Destroyed.{unreferenced}
 use Rattle.seg_manager.proofs.Going.{Caches, used_same}
-use Rattle.seg_manager.proofs.Opened.{named_blank}
-use Rattle.seg_manager.proofs.Steps.{AreSeen, alike_err, blank_used}
+use Rattle.seg_manager.proofs.Steps.{AreSeen, blank_used}
 
 -- Whether there is room depends on sizes alone.
-
-same_size : (o : Option Cache) → pages_in (option_map blank_cache o) ≡ pages_in o
-same_size None = refl
-same_size (Some c) = length-map c.pages (λ _. [])
-
-same_sum : (cs : Caches) → sum_by pages_in (map (option_map blank_cache) cs) ≡ sum_by pages_in cs
-same_sum [] = refl
-same_sum (c ∷ cs) = omega (arith, sum_by-cons pages_in (option_map blank_cache c) (map (option_map blank_cache) cs), sum_by-cons pages_in c cs, same_size c, same_sum cs)
 
 as_many : (w : Machine) → length (blank w).caches ≡ length w.caches
 as_many w = length-map w.caches (option_map blank_cache)
@@ -68,7 +51,7 @@ temp_alike : (w : Machine) (pages : ℕ) → (make_temp_of (blank w) pages).answ
 unfolding make_temp_of
 temp_alike w pages =
     both_unless (nat_le MOST_MADE (length w.caches) || nat_lt LIVE_PAGES (live_pages w + pages)) (nat_le MOST_MADE (length (blank w).caches) || nat_lt LIVE_PAGES (live_pages (blank w) + pages)) TooMany w (blank w) _ _
-    (λ i. nat_le MOST_MADE (as_many w i) || nat_lt LIVE_PAGES (same_sum w.caches i + pages)) (tells_next w)
+    (λ i. nat_le MOST_MADE (as_many w i) || nat_lt LIVE_PAGES (blank_live w i + pages)) (tells_next w)
 
 -- what an opening comes to where there is such a segment
 abbrev Made : Machine → ℕ → List Page → plain.Answered
@@ -81,7 +64,7 @@ unfolding with_some
 held_alike w seg None = refl
 held_alike w seg (Some pages) =
     both_unless (nat_lt LIVE_PAGES (live_pages w + length pages)) (nat_lt LIVE_PAGES (live_pages (blank w) + length pages)) TooMany w (blank w) _ _
-    (λ i. nat_lt LIVE_PAGES (same_sum w.caches i + length pages)) (tells_next w)
+    (λ i. nat_lt LIVE_PAGES (blank_live w i + length pages)) (tells_next w)
 
 open_alike : (w : Machine) (seg : ℕ) (held : Option (List Page)) → (open_of (blank w) seg held).answer ≡ (open_of w seg held).answer
 unfolding open_of

@@ -3,7 +3,7 @@ use Rattle.std.proofs.Common.{◌≡◌, ◌==◌, ℕ, suc, ◌+◌, ◌-◌, �
 use Rattle.std.specs.Prelude.{slice_get, slice_index_or, slice_set}
 use Rattle.std.specs.List.{position_from}
 use Rattle.std.proofs.lemmas.Option.{slice_get-get_or}
-use Rattle.vm_ids.specs.declared.numbers.SegId.{SegId}
+use Rattle.interface_callers.proofs.Words.{SegId}
 use Rattle.seg_manager.specs.Inner.{Closes, first_of}
 use Rattle.seg_manager.specs.Seen.{openings_in}
 use Rattle.seg_manager.specs.declared.tables.Named.{Named}

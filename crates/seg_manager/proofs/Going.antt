@@ -3,9 +3,8 @@ use Rattle.std.proofs.Common.{◌≡◌, ◌==◌, ℕ, zero, suc, ◌+◌, ◌-
 use Rattle.std.specs.Prelude.{◌||◌, nat_lt, not, option_and_then, option_map, slice_get}
 use Rattle.std.specs.List.{list_any}
 use Rattle.std.specs.Option.{option_map_or}
-use Rattle.vm_model.specs.Answering.{maps_in}
-use Rattle.vm_model.specs.Machine.{Cache, Page, is_named_by, numbered}
 use Rattle.vm_model.proofs.Parts.ListParts.{at_some, at_zero, zero_or}
+use Rattle.interface_callers.proofs.Words.{Cache, Page, is_named_by, maps_in, numbered}
 use Rattle.seg_manager.specs.ReferenceMachine.{ReferenceMachine, Stored, goes, put_stored, stored_at, stored_from, used, used_at}
 use Rattle.seg_manager.proofs.Naming.{put_other}
 

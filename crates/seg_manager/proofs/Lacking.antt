@@ -5,21 +5,16 @@ use Rattle.std.specs.Prelude.{Err, option_and_then, slice_get}
 use Rattle.std.specs.FinMap.{get}
 use Rattle.std.specs.List.{position_from}
 use Rattle.std.specs.Option.{option_map_or}
-use Rattle.vm_ids.specs.Counting.{MapperCounts}
-use Rattle.vm_ids.specs.Held.{Segments}
 use Rattle.vm_ids.specs.declared.command.Command.TheVariants.{MakeTemp, OpenSegment}
 use Rattle.vm_ids.specs.declared.command.KeepCommand.{KeepCommand}
 use Rattle.vm_ids.specs.declared.command.KeepCommand.TheVariants as commands
-use Rattle.vm_ids.specs.declared.numbers.SegId.{SegId}
 use Rattle.vm_ids.specs.declared.refusal.Refusal.TheVariants.{TooMany}
 use Rattle.vm_ids.specs.declared.reply.Trouble.TheVariants.{Refused}
 use Rattle.vm_model.specs.Answering as plain
-use Rattle.vm_model.specs.Answering.{Answer, make_temp_of, open_of}
-use Rattle.vm_model.specs.Machine.{Cache, Machine, Page, cache_of}
 use Rattle.vm_model.specs.Outcome as plain_outcome
-use Rattle.vm_model.specs.Outcome.{OutcomeAt, blank}
-use Rattle.vm_model.specs.PageForest.{PageForest}
 use Rattle.vm_model.proofs.Parts.ListParts.{at_some}
+use Rattle.interface_callers.proofs.Words.{Answer, Cache, Machine, MapperCounts, OutcomeAt, Page, PageForest, SegId, Segments, blank, cache_of, make_temp_of, open_of}
+use Rattle.interface_callers.proofs.Answers.{alike_err}
 use Rattle.seg_manager.specs.Keeps.{is_kept}
 use Rattle.seg_manager.specs.Inner.{first_of}
 use Rattle.seg_manager.specs.Outcome.{LacksRoom}
@@ -32,7 +27,7 @@ use Rattle.seg_manager.specs.declared.tables.Mapped.{Mapped}
 use Rattle.seg_manager.specs.declared.tables.Named.{Named}
 use Rattle.seg_manager.proofs.Going.{Caches}
 use Rattle.seg_manager.proofs.Pushed.{Told}
-use Rattle.seg_manager.proofs.Steps.{AreSeen, alike_err}
+use Rattle.seg_manager.proofs.Steps.{AreSeen}
 use Rattle.seg_manager.proofs.Unopened.{stored_as}
 
 -- none of these goes

@@ -4,12 +4,7 @@ use Rattle.std.specs.Prelude.{◌||◌, not, nat_lt, option_map}
 use Rattle.std.specs.List.{list_any}
 use Rattle.std.specs.Option.{option_map_or}
 use Rattle.std.proofs.lemmas.List.{length-map}
-use Rattle.vm_ids.specs.Held.{Segments, segments_of}
-use Rattle.vm_model.specs.Answering.{maps_in}
-use Rattle.vm_model.specs.Machine.{Cache, Machine, cache_of, segment_of}
-use Rattle.vm_model.specs.declared.limits.TheConstants.{LIVE_PAGES, MOST_MADE}
-use Rattle.vm_port.specs.declared.traits.mapper.Mapper.{Ghosts as GhostsOfMapper}
-use Rattle.gmi_calls.specs.declared.gmi.Gmi.{Ghosts as GhostsOfGmi}
+use Rattle.interface_callers.proofs.Words.{Cache, GhostsOfGmi, GhostsOfMapper, LIVE_PAGES, Machine, MOST_MADE, Segments, cache_of, maps_in, segment_of, segments_of}
 use Rattle.seg_manager.specs.Calling.{below}
 use Rattle.seg_manager.specs.Keeping.{left_one, referred}
 use Rattle.seg_manager.specs.ReferenceMachine.{ReferenceMachine}

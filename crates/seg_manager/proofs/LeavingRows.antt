@@ -1,23 +1,15 @@
 -- What an actor's end, or a region that is taken away, is by the rows of both machines.
 use Rattle.std.proofs.Common.{◌≡◌, ◌⊎◌, ℕ, ◌-◌, Bool, true, false, cond, List, map, Option, Some, None, refl, sym, ap, subst, ◌∙◌, inl, inr}
 use Rattle.std.specs.Prelude.{Result, Ok, Err, option_map, slice_set}
-use Rattle.vm_ids.specs.Counting.{MapperCounts}
-use Rattle.vm_ids.specs.Held.{Segments}
-use Rattle.vm_ids.specs.declared.command.Command.{Command}
 use Rattle.vm_ids.specs.declared.command.Command.TheVariants.{ExitActor, Unmap}
 use Rattle.vm_ids.specs.declared.command.KeepCommand.TheVariants as commands
-use Rattle.vm_ids.specs.declared.refusal.Refusal.{Refusal}
 use Rattle.vm_ids.specs.declared.refusal.Refusal.TheVariants as refusals
-use Rattle.vm_ids.specs.declared.reply.FaultAt.{FaultAt}
 use Rattle.vm_ids.specs.declared.reply.Reply.TheVariants as replies
 use Rattle.vm_ids.specs.declared.reply.Trouble.TheVariants as troubles
 use Rattle.vm_model.specs.Answering as plain
-use Rattle.vm_model.specs.Answering.{Answer, without_region}
-use Rattle.vm_model.specs.Machine.{Actor, Machine, Region, numbered}
 use Rattle.vm_model.specs.Outcome as plain_outcome
-use Rattle.vm_model.specs.Outcome.{IsAlike, MayLackMemory, OutcomeAt, blank}
-use Rattle.vm_model.specs.PageForest.{PageForest, forest_shown}
 use Rattle.vm_model.specs.Regions.{region_with}
+use Rattle.interface_callers.proofs.Words.{Actor, Answer, Command, FaultAt, IsAlike, Machine, MapperCounts, MayLackMemory, OutcomeAt, PageForest, Refusal, Region, Segments, blank, forest_shown, numbered, without_region}
 use Rattle.seg_manager.specs.Answering.{MayHave, leaving_by, plain_of}
 use Rattle.seg_manager.specs.Keeping.{mapped_in, mapped_under}
 use Rattle.seg_manager.specs.ReferenceMachine.{ReferenceMachine}

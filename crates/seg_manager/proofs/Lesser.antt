@@ -5,7 +5,7 @@ use Rattle.std.specs.List.{list_any}
 use Rattle.std.specs.Option.{option_map_or}
 use Rattle.std.proofs.lemmas.Bool.{cases_eq, eq-eqb, ne_eqb}
 use Rattle.std.proofs.lemmas.List.Folds.{list_any-append}
-use Rattle.vm_model.specs.Machine.{Cache, Machine, is_named_by}
+use Rattle.interface_callers.proofs.Words.{Cache, Machine, is_named_by}
 use Rattle.seg_manager.specs.Keeping.{but_for, is_of_any, without}
 use Rattle.seg_manager.proofs.Going.{Caches}
 

@@ -11,7 +11,6 @@ pub mod Pushed
 pub mod Entries
 pub mod Lesser
 pub mod Destroyed
-pub mod Answered
 pub mod Calls
 pub mod Pushing
 pub mod Thinned

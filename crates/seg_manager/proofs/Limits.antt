@@ -1,19 +1,13 @@
 -- From one start two runs go on alike, whatever numbers new caches get.
 use Rattle.std.proofs.Common.{◌≡◌, ◌⊎◌, inl, inr, ℕ, Bool, true, false, cond, List, [], ◌∷◌, Option, Some, None, refl, sym, ap, subst, ◌∙◌}
 use Rattle.std.specs.Prelude.{IfOk, not, Ok, Err}
-use Rattle.vm_ids.specs.Counting.{MapperCounts}
-use Rattle.vm_ids.specs.Held.{Segments}
 use Rattle.vm_ids.specs.declared.command.Command.TheVariants as plain_commands
 use Rattle.vm_ids.specs.declared.command.KeepCommand.{KeepCommand}
 use Rattle.vm_ids.specs.declared.command.KeepCommand.TheVariants as commands
-use Rattle.vm_ids.specs.declared.numbers.CacheId.{CacheId}
 use Rattle.vm_ids.specs.declared.refusal.Refusal.TheVariants as refusals
-use Rattle.vm_ids.specs.declared.reply.Reply.{Reply}
 use Rattle.vm_ids.specs.declared.reply.Reply.TheVariants as replies
 use Rattle.vm_ids.specs.declared.reply.Trouble.TheVariants as troubles
-use Rattle.vm_model.specs.Answering.{Answer}
-use Rattle.vm_model.specs.Machine.{Page}
-use Rattle.vm_model.specs.PageForest.{PageForest}
+use Rattle.interface_callers.proofs.Words.{Answer, CacheId, MapperCounts, Page, PageForest, Reply, Segments}
 use Rattle.seg_manager.specs.Answering.{Answered, MayHave, answer_of, make_temp_of, open_anew, open_by, open_of}
 use Rattle.seg_manager.specs.Laws.{Chain, Step}
 use Rattle.seg_manager.specs.Limits.{AreAlike, AreEqualSteps, AreSameSteps, EndAlike, EqualRunsAnswerEqually, Renaming, RunsAreAlike, TellTheSame, answers_of, behind, decided, is_decided, makes_cache, renamed, renamed_answer, renaming_behind, same_numbers, with_pair}

@@ -4,7 +4,7 @@ use Rattle.std.specs.Prelude.{filter, not, option_map, option_and_then}
 use Rattle.std.specs.List.{AllByRecursion}
 use Rattle.std.specs.Option.{option_map_or}
 use Rattle.std.proofs.lemmas.Bool.{cases_eq, eq-eqb, ne_eqb}
-use Rattle.vm_ids.specs.declared.numbers.CacheId.{CacheId}
+use Rattle.interface_callers.proofs.Words.{CacheId}
 use Rattle.seg_manager.specs.Inner.{is_of}
 use Rattle.seg_manager.specs.Keeps.{AreOnce, is_kept}
 use Rattle.seg_manager.specs.Linked.{Linked, link_of}

@@ -2,11 +2,7 @@
 use Rattle.std.proofs.Common.{◌+◌, ◌≤◌, ℕ, Bool, true, false, cond, List, [], ◌∷◌, Option, Some, None, arith}
 use Rattle.std.specs.Prelude.{sum_by}
 use Rattle.std.proofs.lemmas.List.Sums.{sum_by-cons}
-use Rattle.vm_ids.specs.Held.{Segments, segments_of}
-use Rattle.vm_model.specs.Machine.{Cache, Machine, live_pages, pages_in}
-use Rattle.vm_model.specs.declared.limits.TheConstants.{LIVE_PAGES}
-use Rattle.vm_port.specs.declared.traits.mapper.Mapper.{Ghosts as GhostsOfMapper}
-use Rattle.gmi_calls.specs.declared.gmi.Gmi.{Ghosts as GhostsOfGmi}
+use Rattle.interface_callers.proofs.Words.{Cache, GhostsOfGmi, GhostsOfMapper, LIVE_PAGES, Machine, Segments, live_pages, pages_in, segments_of}
 use Rattle.seg_manager.specs.ReferenceMachine.{ReferenceMachine, goes, used, used_at}
 use Rattle.seg_manager.specs.Seen.{references_seen, whole_of}
 use Rattle.seg_manager.specs.Thinning.{seen_with}

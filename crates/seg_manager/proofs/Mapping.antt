@@ -1,39 +1,28 @@
 -- A region is mapped: how the machine below answers that, and what is seen of it then.
 use Rattle.std.proofs.Common.{◌≡◌, inl, inr, ◌==◌, ℕ, zero, suc, ◌+◌, ◌-◌, ◌≤◌, Bool, true, false, cond, List, [], ◌∷◌, set, Option, Some, None, refl, sym, ap, subst, ◌∙◌, arith}
-use Rattle.std.specs.Prelude.{◌*◌, ◌%◌, ◌^◌, ◌||◌, Ok, Err, nat_le, nat_lt, not, option_and_then, slice_get}
+use Rattle.std.specs.Prelude.{◌||◌, Ok, Err, nat_lt, not, option_and_then, slice_get}
 use Rattle.std.specs.List.{list_any}
 use Rattle.std.specs.Option.{option_map_or}
 use Rattle.std.proofs.lemmas.Bool.{cases_eq, eq-eqb, ne_eqb}
-use Rattle.vm_ids.specs.Counting.{MapperCounts}
-use Rattle.vm_ids.specs.Held.{Segments}
 use Rattle.vm_ids.specs.declared.command.Command.TheVariants.{Map}
-use Rattle.vm_ids.specs.declared.command.Mapping.{Mapping}
-use Rattle.vm_ids.specs.declared.numbers.ActorId.{ActorId}
-use Rattle.vm_ids.specs.declared.refusal.Refusal.{Refusal}
-use Rattle.vm_ids.specs.declared.refusal.Refusal.TheVariants as refusals
-use Rattle.vm_ids.specs.declared.reply.Reply.{Reply}
 use Rattle.vm_ids.specs.declared.reply.Reply.TheVariants as replies
-use Rattle.vm_ids.specs.declared.reply.Trouble.{Trouble}
 use Rattle.vm_ids.specs.declared.reply.Trouble.TheVariants as troubles
 use Rattle.vm_model.specs.Answering as plain
-use Rattle.vm_model.specs.Answering.{Answer, add_region, insert_region, is_mapped, maps_in, region_of}
-use Rattle.vm_model.specs.Machine.{Actor, Cache, Machine, Region, actor_of, cache_of}
 use Rattle.vm_model.specs.Outcome as plain_outcome
-use Rattle.vm_model.specs.Outcome.{IsAlike, OutcomeAt}
-use Rattle.vm_model.specs.PageForest.{PageForest}
-use Rattle.vm_model.specs.declared.limits.TheConstants.{MOST_MADE}
-use Rattle.vm_model.proofs.Outcomes.Rows.{each_some, each_unless}
 use Rattle.vm_model.proofs.Parts.ListParts.{at_some}
 use Rattle.vm_model.proofs.Parts.Lists.{numbered_place}
+use Rattle.interface_callers.proofs.Words.{Actor, ActorId, Answer, Cache, IsAlike, Machine, MapperCounts, Mapping, OutcomeAt, PageForest, Refusal, Region, Reply, Segments, Trouble, add_region, cache_of, insert_region, is_mapped, maps_in, region_of}
+use Rattle.interface_callers.proofs.Answers.{alike_err}
+use Rattle.interface_callers.proofs.Hiding.{map_lifts}
+use Rattle.interface_callers.proofs.Rows.{map_row}
 use Rattle.seg_manager.specs.Inner.{mapping_shown}
-use Rattle.seg_manager.specs.ReferenceMachine.{goes}
+use Rattle.seg_manager.specs.ReferenceMachine.{goes, used}
 use Rattle.seg_manager.specs.Seen.{is_kept}
 use Rattle.seg_manager.specs.declared.tables.Kept.{Kept}
 use Rattle.seg_manager.proofs.Coming.{GoAlike, used_all}
-use Rattle.seg_manager.proofs.Lifting.{hidden_cache, is_hidden, lift, lift_some, lift_then, mapped_stays, references, seen, seen_cache}
+use Rattle.seg_manager.proofs.Lifting.{is_hidden, mapped_stays, references, view}
 use Rattle.seg_manager.proofs.Passed.{IsAnswered, IsHiding, IsQuiet, quiet_self, resumed, shown_visible, storing}
 use Rattle.seg_manager.proofs.Shapes.{stored_alike}
-use Rattle.seg_manager.proofs.Steps.{alike_err}
 
 -- What is mapped then
 
@@ -93,62 +82,20 @@ module _ (openings : ℕ → ℕ) (x : Machine) where
           stays_there : k ≡ 1 + j → goes (references openings x) (1 + j) d ≡ false
           stays_there is = sym (ap (λ (o : Option Cache). option_map_or (goes (references openings x) (1 + j)) o false) at) ∙ ap (is_hidden openings x) (sym is) ∙ stays
 
-      seen_then : seen openings y ≡ add_region (seen openings x) actor rs p
-      seen_then = λ i. record y { caches = used_all (references openings x) (references openings y) 1 x.caches alike i }
+      pub adds : used (references openings y) 1 x.caches ≡ used (references openings x) 1 x.caches
+      adds = used_all (references openings x) (references openings y) 1 x.caches alike
 
       pub quiet_then : IsQuiet openings x y
       quiet_then = record { segments = refl; stored = λ st. stored_alike (storing openings x st) (storing openings y st) 1 x.caches refl alike }
 
-    -- what a mapping comes to where the cache is found
-    abbrev rest : Machine → Mapping → Actor → Cache → plain.Answered
-    rest m q rs cache =
-        plain.unless (not (q.address % m.page_bytes == 0)) refusals.Unaligned m
-        (plain.unless (nat_lt (2 ^ 48) (q.address + m.page_bytes * q.extent.pages)) refusals.BadAddress m
-        (plain.unless (plain.passes_end cache q.extent.first.0 q.extent.pages) refusals.OutOfCache m
-        (plain.unless (list_any (plain.overlaps m.page_bytes q.address q.extent.pages) rs) refusals.Overlap m
-        (plain.unless (nat_le MOST_MADE m.regions_made) refusals.TooMany m
-        (plain.reply (replies.Region (record { 0 = m.regions_made + 1 })) (add_region m actor rs q))))))
-
-    rest_lifts : (rs : Actor) (cache : Cache) → actor_of x actor ≡ Some rs → lift openings (rest x p rs cache) ≡ rest (seen openings x) p rs cache
-    rest_lifts rs cache e = lift_then openings _ _ x _ _ (lift_then openings _ _ x _ _ (lift_then openings _ _ x _ _ (lift_then openings _ _ x _ _ (lift_then openings _ _ x _ _
-        (ap (plain.reply (replies.Region (record { 0 = x.regions_made + 1 }))) (seen_then rs (numbered_place x.actors actor rs e).1))))))
-
-    -- a cache that is seen is mapped
-    map_visible : lift openings (plain.map_of x actor p) ≡ plain.map_of (seen openings x) actor p
-    unfolding plain.map_of
-    map_visible = lift_some openings (actor_of x actor) refusals.NoActor x _ _ (λ rs e.
-        lift_some openings (cache_of x k) refusals.NoCache x (rest x p rs) (rest (seen openings x) p rs) (λ c f. rest_lifts rs c e)
-        ∙ ap (λ (o : Option Cache). plain.with_some o refusals.NoCache (seen openings x) (rest (seen openings x) p rs)) (sym (seen_cache openings x k stays)))
-
     map_quiet : IsQuiet openings x (plain.map_of x actor p).next
-    unfolding plain.map_of
-    map_quiet = each_some Quiet (actor_of x actor) _ x _ (quiet_self openings x) (λ rs here. each_some Quiet (cache_of x k) _ x _ (quiet_self openings x) (λ c there.
-        each_unless Quiet _ _ x _ (quiet_self openings x) (λ a. each_unless Quiet _ _ x _ (quiet_self openings x) (λ b. each_unless Quiet _ _ x _ (quiet_self openings x) (λ d.
-        each_unless Quiet _ _ x _ (quiet_self openings x) (λ e. each_unless Quiet _ _ x _ (quiet_self openings x) (λ g. quiet_then rs (numbered_place x.actors actor rs here).1)))))))
-      where
-        Quiet : plain.Answered → Type 0
-        Quiet a = IsQuiet openings x a.next
-
-  -- a hidden cache isn't found, nor is the one with the number 0
-  abbrev mapping_at : Bool → Mapping → Mapping
-  mapping_at b p = record p { extent = record p.extent { cache = cond b (record { 0 = 0 }) p.extent.cache } }
-
-  map_hidden : (b : Bool) (actor : ℕ) (p : Mapping) → is_hidden openings x p.extent.cache.0 ≡ b → plain.map_of (seen openings x) actor (mapping_at b p) ≡ plain.map_of (seen openings x) actor p
-  unfolding plain.map_of plain.with_some
-  map_hidden false actor p e = refl
-  map_hidden true actor p e = ap (plain.with_some (actor_of x actor) refusals.NoActor (seen openings x)) (λ i rs.
-      plain.with_some (sym (hidden_cache openings x p.extent.cache.0 e) i) refusals.NoCache (seen openings x) (λ cache.
-      plain.unless (not (p.address % x.page_bytes == 0)) refusals.Unaligned (seen openings x)
-      (plain.unless (nat_lt (2 ^ 48) (p.address + x.page_bytes * p.extent.pages)) refusals.BadAddress (seen openings x)
-      (plain.unless (plain.passes_end cache p.extent.first.0 p.extent.pages) refusals.OutOfCache (seen openings x)
-      (plain.unless (list_any (plain.overlaps x.page_bytes p.address p.extent.pages) rs) refusals.Overlap (seen openings x)
-      (plain.unless (nat_le MOST_MADE x.regions_made) refusals.TooMany (seen openings x)
-      (plain.reply (replies.Region (record { 0 = x.regions_made + 1 })) (add_region (seen openings x) actor rs p))))))))
+    map_quiet = map_row (λ (a : plain.Answered). IsQuiet openings x a.next) x (λ r. quiet_self openings x) actor p (λ rs c here there. quiet_then rs (numbered_place x.actors actor rs here).1)
 
   pub map_answered : (ks : List Kept) → IsHiding openings x ks → (actor : ActorId) (p : Mapping) → IsAnswered openings x (Map actor (mapping_shown ks p)) (Map actor p)
   map_answered ks hiding actor p = record {
     answers = λ f h st. ap (resumed openings st)
-        (map_visible actor.0 (mapping_shown ks p) (shown_visible openings x ks hiding p.extent.cache) ∙ map_hidden (is_kept ks p.extent.cache.0) actor.0 p (sym (hiding p.extent.cache.0)));
+        (map_lifts (view openings) (is_kept ks p.extent.cache.0) x actor.0 p (sym (hiding p.extent.cache.0)) (shown_visible openings x ks hiding p.extent.cache)
+        (λ rs here. adds actor.0 (mapping_shown ks p) (shown_visible openings x ks hiding p.extent.cache) rs here));
     quiet = λ f h. map_quiet actor.0 (mapping_shown ks p) (shown_visible openings x ks hiding p.extent.cache);
     faults = λ f h at rises st may. absurd may;
     lacks = λ may. may;
@@ -169,18 +116,15 @@ pub record IsAdded (x y : Machine) (actor : ℕ) (p : Mapping) (r : Reply) : Typ
   pub reply : r ≡ replies.Region (record { 0 = number })
 
 added_row : (x : Machine) (actor : ℕ) (p : Mapping) (r : Reply) (y : Machine) → plain.map_of x actor p ≡ record { answer = Ok r; next = y } → IsAdded x y actor p r
-unfolding plain.map_of
 added_row x actor p r y =
-    each_some Adds (actor_of x actor) _ x _ (refused _) (λ rs here. each_some Adds (cache_of x p.extent.cache.0) _ x _ (refused _) (λ c there.
-    each_unless Adds _ _ x _ (refused _) (λ a. each_unless Adds _ _ x _ (refused _) (λ b. each_unless Adds _ _ x _ (refused _) (λ d.
-    each_unless Adds _ _ x _ (refused _) (λ e. each_unless Adds _ _ x _ (refused _) (λ g is. record {
+    map_row Adds x refused actor p (λ rs c here there is. record {
       regions = rs;
       number = x.regions_made + 1;
       some = (numbered_place x.actors actor rs here).0;
       here = (numbered_place x.actors actor rs here).1;
       actors = ap (λ (a : plain.Answered). a.next.actors) (sym is);
       reply = (let both : Ok r ≡ Ok (replies.Region (record { 0 = x.regions_made + 1 })) = sym (ap (λ (a : plain.Answered). a.answer) is) in cc both);
-    })))))))
+    })
   where
     Adds : plain.Answered → Type 0
     Adds a = a ≡ record { answer = Ok r; next = y } → IsAdded x y actor p r
@@ -209,12 +153,9 @@ map_added None x y f actor p r rises o =
 
 -- or all are as they were
 same_row : (x : Machine) (actor : ℕ) (p : Mapping) (t : Trouble) (y : Machine) → plain.map_of x actor p ≡ record { answer = Err t; next = y } → y.actors ≡ x.actors
-unfolding plain.map_of
 same_row x actor p t y =
-    each_some Same (actor_of x actor) _ x _ (refused _) (λ rs here. each_some Same (cache_of x p.extent.cache.0) _ x _ (refused _) (λ c there.
-    each_unless Same _ _ x _ (refused _) (λ a. each_unless Same _ _ x _ (refused _) (λ b. each_unless Same _ _ x _ (refused _) (λ d.
-    each_unless Same _ _ x _ (refused _) (λ e. each_unless Same _ _ x _ (refused _) (λ g is.
-    absurd (let wrong : Ok (replies.Region (record { 0 = x.regions_made + 1 })) ≡ Err t = ap (λ (a : plain.Answered). a.answer) is in cc wrong))))))))
+    map_row Same x refused actor p (λ rs c here there is.
+    absurd (let wrong : Ok (replies.Region (record { 0 = x.regions_made + 1 })) ≡ Err t = ap (λ (a : plain.Answered). a.answer) is in cc wrong))
   where
     Same : plain.Answered → Type 0
     Same a = a ≡ record { answer = Err t; next = y } → y.actors ≡ x.actors

@@ -5,10 +5,7 @@ use Rattle.std.specs.List.{AllByRecursion, position_from, remove}
 use Rattle.std.specs.Option.{option_map_or}
 use Rattle.std.proofs.lemmas.Bool.{cases_eq, eq-eqb, ne_eqb}
 use Rattle.std.proofs.lemmas.Option.{get_or_from_slice_get, slice_get-get_or}
-use Rattle.vm_ids.specs.Held.{Segments}
-use Rattle.vm_ids.specs.declared.numbers.CacheId.{CacheId}
-use Rattle.vm_ids.specs.declared.numbers.SegId.{SegId}
-use Rattle.vm_model.specs.Machine.{Cache, Machine, segment_of}
+use Rattle.interface_callers.proofs.Words.{Cache, CacheId, Machine, SegId, Segments, segment_of}
 use Rattle.seg_manager.specs.Inner.{first_of, first_with, named_with}
 use Rattle.seg_manager.specs.Names.{AreNamed, cache_in}
 use Rattle.seg_manager.specs.Tying.{AreTied, Naming, naming_of, namings}

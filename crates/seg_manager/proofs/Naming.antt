@@ -2,10 +2,11 @@
 use Rattle.std.proofs.Common.{◌≡◌, ◌==◌, ℕ, zero, suc, ◌+◌, ◌-◌, ◌<◌, ◌≤◌, Bool, true, false, cond, List, [], ◌∷◌, ◌++◌, length, Option, Some, None, refl, sym, ap, ◌∙◌, arith}
 use Rattle.std.specs.Prelude.{is_some, nat_le, option_and_then, replicate, slice_get, slice_set}
 use Rattle.std.specs.Option.{option_map_or}
-use Rattle.std.proofs.lemmas.Bool.{eq-eqb, eqb-true}
+use Rattle.std.proofs.lemmas.Bool.{eq-eqb}
 use Rattle.std.proofs.lemmas.Bool.Decides.{nat_tests}
-use Rattle.vm_model.specs.Machine.{Cache, Page, cache_named, is_named_by, numbered}
 use Rattle.vm_model.proofs.Parts.ListParts.{at_some}
+use Rattle.interface_callers.proofs.Words.{Cache, Page, cache_named, is_named_by, numbered}
+use Rattle.interface_callers.proofs.Naming.{named_by}
 use Rattle.seg_manager.specs.ReferenceMachine.{ReferenceMachine, Stored, goes, put_stored, stored_at, stored_from, used, used_at, with_cache}
 
 -- a segment names one of these caches
@@ -107,13 +108,9 @@ module _ (seg : ℕ) where
 
   -- What is stored
 
-  named_seg : (o : Option ℕ) → option_map_or (λ s. s == seg) o false ≡ true → o ≡ Some seg
-  named_seg None e = absurd (cc e)
-  named_seg (Some s) e = ap (λ (n : ℕ). Some n) (eqb-true s seg e)
-
   pub put_own : (o : Option ℕ) (pages : List Page) (stored : Stored) → option_map_or (λ s. s == seg) o false ≡ true → put_stored o pages stored seg ≡ Some pages
   put_own o pages stored e =
-      ap (λ (x : Option ℕ). put_stored x pages stored seg) (named_seg o e)
+      ap (λ (x : Option ℕ). put_stored x pages stored seg) (named_by o seg e)
       ∙ ap (λ (b : Bool). cond b (Some pages) (stored seg)) (eq-eqb seg seg refl)
 
   pub put_other : (o : Option ℕ) (pages : List Page) (stored : Stored) → option_map_or (λ s. s == seg) o false ≡ false → put_stored o pages stored seg ≡ stored seg

@@ -3,8 +3,7 @@ use Rattle.std.proofs.Common.{◌≡◌, ◌==◌, ℕ, zero, suc, ◌+◌, ◌<
 use Rattle.std.specs.Prelude.{◌||◌, ◌&&◌, insert, nat_lt, slice_get}
 use Rattle.std.proofs.lemmas.Bool.{eq-eqb, ne_eqb}
 use Rattle.std.proofs.lemmas.Bool.Decides.{nat_tests}
-use Rattle.vm_model.specs.Answering.{insert_region}
-use Rattle.vm_model.specs.Machine.{Actor, Region}
+use Rattle.interface_callers.proofs.Words.{Actor, Region, insert_region}
 use Rattle.seg_manager.specs.Inner.{comes_before, place_from}
 use Rattle.seg_manager.specs.Tying.{Noted, noted_at, noted_of, noted_region, noted_regions}
 use Rattle.seg_manager.specs.declared.tables.Mapped.{Mapped}

@@ -1,24 +1,17 @@
 -- What the manager below may answer where a segment is opened that has no cache.
-use Rattle.std.proofs.Common.{◌≡◌, ℕ, ◌+◌, ◌<◌, Bool, true, false, cond, List, [], ◌∷◌, ◌++◌, length, map, Option, Some, None, refl, sym, ap, subst, ◌∙◌, arith}
+use Rattle.std.proofs.Common.{◌≡◌, ℕ, ◌+◌, ◌<◌, Bool, true, false, List, [], ◌∷◌, ◌++◌, length, map, Option, Some, None, refl, sym, ap, subst, ◌∙◌, arith}
 use Rattle.std.specs.Prelude.{IfSome, Ok, Err, is_some, nat_le, nat_lt, option_map}
 use Rattle.std.specs.FinMap.{get}
 use Rattle.std.proofs.lemmas.Bool.Decides.{nat_tests}
 use Rattle.std.proofs.lemmas.List.{length-map, map-append}
-use Rattle.vm_ids.specs.Counting.{MapperCounts}
-use Rattle.vm_ids.specs.Held.{Segments}
 use Rattle.vm_ids.specs.declared.command.Command.TheVariants as commands
-use Rattle.vm_ids.specs.declared.numbers.SegId.{SegId}
 use Rattle.vm_ids.specs.declared.refusal.Refusal.TheVariants as refusals
-use Rattle.vm_ids.specs.declared.reply.FaultAt.{FaultAt}
 use Rattle.vm_ids.specs.declared.reply.FaultAt.TheVariants as faults
 use Rattle.vm_ids.specs.declared.reply.Reply.TheVariants as replies
-use Rattle.vm_ids.specs.declared.reply.Trouble.{Trouble}
 use Rattle.vm_ids.specs.declared.reply.Trouble.TheVariants as troubles
-use Rattle.vm_model.specs.Answering.{Answer, Answered, open_of, opened, refuse, reply, unless, with_some}
-use Rattle.vm_model.specs.Machine.{Cache, Machine, Page, cache_named, is_named_by, live_pages}
-use Rattle.vm_model.specs.Outcome.{IsAlike, MayFault, Outcome, OutcomeAt, blank, blank_cache}
-use Rattle.vm_model.specs.PageForest.{PageForest}
-use Rattle.vm_model.specs.declared.limits.TheConstants.{LIVE_PAGES, MOST_MADE}
+use Rattle.interface_callers.proofs.Words.{Answer, Answered, Cache, FaultAt, IsAlike, LIVE_PAGES, Machine, MapperCounts, MayFault, MOST_MADE, Outcome, OutcomeAt, Page, PageForest, SegId, Segments, blank, blank_cache, cache_named, live_pages, open_of, opened, refuse, reply, unless, with_some}
+use Rattle.interface_callers.proofs.Naming.{named_blank}
+use Rattle.interface_callers.proofs.Answers.{still_err}
 
 -- one cache more
 abbrev pub appended : Machine → Cache → Machine
@@ -105,19 +98,6 @@ by_outcome m f h seg (Err troubles.Memory) n rises free o = lacks refl o.0
 
 -- without bytes
 
-pub named_blank : (seg : ℕ) (cs : List (Option Cache)) → is_some (cache_named (map (option_map blank_cache) cs) seg) ≡ is_some (cache_named cs seg)
-named_blank seg [] = refl
-named_blank seg (None ∷ cs) = named_blank seg cs
-named_blank seg (Some c ∷ cs) = by (is_named_by seg (Some c)) (named_blank seg cs)
-  where
-    by : (b : Bool) → is_some (cache_named (map (option_map blank_cache) cs) seg) ≡ is_some (cache_named cs seg)
-        → is_some (cond b (Some (blank_cache c)) (cache_named (map (option_map blank_cache) cs) seg)) ≡ is_some (cond b (Some c) (cache_named cs seg))
-    by true e = refl
-    by false e = e
-
-alike_err : (t : Trouble) (a b : Answer) → a ≡ Err t → IsAlike a b → b ≡ Err t
-alike_err t a b e h = sym (subst (λ (a : Answer). IsAlike a b) e h)
-
 alike_cache : (k : ℕ) (a b : Answer) → a ≡ Ok (replies.Cache (record { 0 = k })) → IsAlike a b → b ≡ Ok (replies.Cache (record { 0 = k }))
 alike_cache k a b e h = sym (subst (λ (a : Answer). IsAlike a b) e h)
 
@@ -147,7 +127,7 @@ open_ends None m f seg a n rises free o = by (by_outcome w f o.segments seg o.wh
       few = omega (arith, p.few, many_whole);
       held = tt;
     })
-    by (many e s) = many (alike_err (troubles.Refused refusals.TooMany) o.whole_answer a e o.alike) (stays s)
-    by (nowhere e s h) = nowhere (alike_err (troubles.Refused refusals.NoSegment) o.whole_answer a e o.alike) (stays s) tt
-    by (failed e s h few) = failed (alike_err (troubles.Mapper faults.Opening) o.whole_answer a e o.alike) (stays s) h (omega (arith, few, many_whole))
-    by (lacks e s) = lacks (alike_err troubles.Memory o.whole_answer a e o.alike) (stays s)
+    by (many e s) = many (still_err (troubles.Refused refusals.TooMany) o.whole_answer a e o.alike) (stays s)
+    by (nowhere e s h) = nowhere (still_err (troubles.Refused refusals.NoSegment) o.whole_answer a e o.alike) (stays s) tt
+    by (failed e s h few) = failed (still_err (troubles.Mapper faults.Opening) o.whole_answer a e o.alike) (stays s) h (omega (arith, few, many_whole))
+    by (lacks e s) = lacks (still_err troubles.Memory o.whole_answer a e o.alike) (stays s)

@@ -1,18 +1,16 @@
 -- A segment that has a cache is opened once more.
 use Rattle.std.proofs.Common.{◌≡◌, ◌≢◌, ◌==◌, ℕ, suc, ◌+◌, ◌-◌, ◌≤◌, Bool, true, false, cond, List, [], ◌∷◌, length, set, map, filter, Option, Some, None, refl, sym, ap, ◌∙◌, arith, inl, inr}
 use Rattle.std.specs.Prelude.{◌||◌, nat_lt, not, option_and_then, option_map, slice_get}
-use Rattle.std.specs.List.{AllByRecursion, position_from}
+use Rattle.std.specs.List.{position_from}
 use Rattle.std.specs.Option.{option_map_or}
 use Rattle.std.proofs.lemmas.Bool.{cases_eq, eq-eqb, eqb-true, ne_eqb}
 use Rattle.std.proofs.lemmas.Bool.Decides.{nat_tests}
 use Rattle.std.proofs.lemmas.List.{length-set}
-use Rattle.vm_ids.specs.Held.{Segments}
-use Rattle.vm_ids.specs.declared.numbers.SegId.{SegId}
-use Rattle.vm_model.specs.Answering.{is_mapped}
-use Rattle.vm_model.specs.Machine.{Cache, Machine, cache_of, is_named_by, segment_of}
 use Rattle.vm_model.proofs.Parts.Lists.{numbered_place}
 use Rattle.vm_model.proofs.Parts.ListParts.{at_some}
 use Rattle.vm_model.proofs.Parts.Naming.{segment_cache}
+use Rattle.interface_callers.proofs.Words.{Cache, Machine, SegId, Segments, cache_of, is_mapped, is_named_by, segment_of}
+use Rattle.interface_callers.proofs.Lists.{all_at}
 use Rattle.seg_manager.specs.Inner.{first_of, is_of}
 use Rattle.seg_manager.specs.ReferenceMachine.{ReferenceMachine, goes, let_go, number_in, stored_from, used, used_at}
 use Rattle.seg_manager.specs.Seen.{is_kept, openings_in, whole_of}
@@ -20,9 +18,9 @@ use Rattle.seg_manager.specs.Tying.{AreOnce, AreTied, is_unreferenced, naming_of
 use Rattle.seg_manager.specs.declared.tables.Kept.{Kept}
 use Rattle.seg_manager.specs.declared.tables.Mapped.{Mapped}
 use Rattle.seg_manager.specs.declared.tables.Named.{Named}
-use Rattle.seg_manager.proofs.Closing.{Reopened, all_at, naming_set, reopened}
+use Rattle.seg_manager.proofs.Closing.{Reopened, naming_set, reopened}
 use Rattle.seg_manager.proofs.Coming.{GoAlike, GoAlikeBut}
-use Rattle.seg_manager.proofs.Entries.{fun_same, named_entries}
+use Rattle.seg_manager.proofs.Entries.{fun_same, named_entries, still_all}
 use Rattle.seg_manager.proofs.Going.{Caches, get_used, numbered_used}
 use Rattle.seg_manager.proofs.Releasing.{number_found}
 use Rattle.seg_manager.proofs.Storing.{apart_by, named_self, stored_one}
@@ -53,14 +51,6 @@ kept_other n q (k ∷ ks) apart = by (k.cache.0 == n) refl (kept_other n q ks ap
         let is : k.cache.0 ≡ n = eqb-true k.cache.0 n e in
         rest ∙ sym (ap (λ (b : Bool). b || is_kept ks q) (ne_eqb k.cache.0 q (λ s. apart (sym s ∙ is))))
     by false e rest = ap (λ (b : Bool). (k.cache.0 == q) || b) rest
-
-pub all_filter : {A : Type 0} (P : A → Type 0) (p : A → Bool) (xs : List A) → AllByRecursion P xs → AllByRecursion P (filter p xs)
-all_filter P p [] h = tt
-all_filter {A} P p (x ∷ xs) h = by (p x) (all_filter P p xs h.1)
-  where
-    by : (b : Bool) → AllByRecursion P (filter p xs) → AllByRecursion P (cond b (x ∷ filter p xs) (filter p xs))
-    by true rest = (h.0, rest)
-    by false rest = rest
 
 still_free : (p : Kept → Bool) (ks : List Kept) (q : ℕ) → is_kept ks q ≡ false → is_kept (filter p ks) q ≡ false
 still_free p [] q e = refl
@@ -189,7 +179,7 @@ module _ (m : Machine) (told : Option Segments) (cs : List Named) (ks : List Kep
       | inl e ↦ ap (is_kept (others_kept n ks)) e ∙ kept_gone n ks ∙ sym now_used ∙ ap (is_unreferenced V) (sym e)
       | inr apart ↦ kept_other n q ks apart ∙ t.kept q ∙ sym (others q apart)
     ];
-    named = all_filter (λ (k : Kept). segment_of m k.cache.0 ≡ Some k.seg.0) (λ k. not (is_of n k)) ks t.named;
+    named = still_all (λ (k : Kept). segment_of m k.cache.0 ≡ Some k.seg.0) (λ k. not (is_of n k)) ks t.named;
     once = once_filter (λ k. not (is_of n k)) ks t.once;
     fits = omega (arith, t.fits, ap length is, length-set cs place (record named { openings = named.openings + 1 }));
     backed = t.backed;

@@ -5,24 +5,13 @@ use Rattle.std.specs.List.{list_any}
 use Rattle.std.specs.Option.{option_map_or}
 use Rattle.std.proofs.lemmas.List.{map-append}
 use Rattle.std.proofs.lemmas.List.Folds.{list_any-append}
-use Rattle.vm_ids.specs.Counting.{no_counts}
-use Rattle.vm_ids.specs.Held.{Segments, segments_of}
 use Rattle.vm_ids.specs.declared.command.KeepCommand.TheVariants as commands
-use Rattle.vm_ids.specs.declared.refusal.Refusal.{Refusal}
 use Rattle.vm_ids.specs.declared.refusal.Refusal.TheVariants as refusals
 use Rattle.vm_ids.specs.declared.reply.Reply.TheVariants as replies
-use Rattle.vm_ids.specs.declared.reply.Trouble.{Trouble}
 use Rattle.vm_ids.specs.declared.reply.Trouble.TheVariants as troubles
-use Rattle.vm_model.specs.Answering.{Answer, is_mapped}
-use Rattle.vm_model.specs.Machine.{Actor, Machine, segment_of}
-use Rattle.vm_model.specs.Outcome.{blank}
-use Rattle.vm_model.specs.declared.limits.TheConstants.{LIVE_PAGES}
-use Rattle.vm_port.specs.declared.traits.mapper.Mapper.{Ghosts as GhostsOfMapper}
-use Rattle.gmi_calls.specs.Calling.{CallDone, MapperCall}
-use Rattle.gmi_calls.specs.Managing.{meanings_of}
-use Rattle.gmi_calls.specs.declared.gmi.Gmi.{Ghosts as GhostsOfGmi}
 use Rattle.gmi_calls.proofs.Rising.{rise_none}
 use Rattle.gmi_calls.proofs.Still.{without_mapper}
+use Rattle.interface_callers.proofs.Words.{Actor, Answer, CallDone, GhostsOfGmi, GhostsOfMapper, LIVE_PAGES, Machine, MapperCall, Refusal, Segments, Trouble, blank, is_mapped, meanings_of, no_counts, segment_of, segments_of}
 use Rattle.seg_manager.specs.Answering.{leaving_by, plain_of, with_memory}
 use Rattle.seg_manager.specs.Calling.{KeepsLastBy, SegmentCall, Serves, below}
 use Rattle.seg_manager.specs.Inner.{leaves, staying, unused_then}

@@ -1,33 +1,18 @@
 -- Commands that are passed on: the machine below answers them as that of segments does.
-use Rattle.std.proofs.Common.{◌≡◌, inr, ℕ, ◌+◌, ◌-◌, Bool, true, false, cond, List, [], ◌∷◌, ◌++◌, length, take, drop, Option, Some, None, refl, sym, ap, subst, ◌∙◌, arith}
-use Rattle.std.specs.Bool.{IsTrue}
-use Rattle.std.specs.Prelude.{◌||◌, Result, Ok, Err, is_some, nat_lt, not, slice_get}
+use Rattle.std.proofs.Common.{◌≡◌, inr, ℕ, ◌+◌, ◌-◌, Bool, true, false, List, [], ◌∷◌, ◌++◌, length, take, drop, Option, Some, refl, sym, ap, subst, ◌∙◌, arith}
+use Rattle.std.specs.Prelude.{◌||◌, Ok, Err, nat_lt, not, slice_get}
 use Rattle.std.specs.Option.{option_map_or}
-use Rattle.std.specs.Result.{IsOkAnd}
-use Rattle.vm_ids.specs.Counting.{MapperCounts}
-use Rattle.vm_ids.specs.Held.{Segments}
-use Rattle.vm_ids.specs.declared.command.Command.{Command}
 use Rattle.vm_ids.specs.declared.command.Command.TheVariants.{Copy, Load, MakeActor, PageOut, Store}
 use Rattle.vm_ids.specs.declared.command.KeepCommand.TheVariants.{Plain}
-use Rattle.vm_ids.specs.declared.command.Span.{Span}
-use Rattle.vm_ids.specs.declared.numbers.ActorId.{ActorId}
-use Rattle.vm_ids.specs.declared.numbers.CacheId.{CacheId}
-use Rattle.vm_ids.specs.declared.refusal.Refusal.{Refusal}
 use Rattle.vm_ids.specs.declared.refusal.Refusal.TheVariants as refusals
-use Rattle.vm_ids.specs.declared.reply.FaultAt.{FaultAt}
-use Rattle.vm_ids.specs.declared.reply.FaultAt.TheVariants as faults
-use Rattle.vm_ids.specs.declared.reply.Reply.{Reply}
 use Rattle.vm_ids.specs.declared.reply.Reply.TheVariants as replies
 use Rattle.vm_ids.specs.declared.reply.Trouble.TheVariants as troubles
 use Rattle.vm_model.specs.Answering as plain
-use Rattle.vm_model.specs.Answering.{Answer, is_denied_page, overwrite, page_at, put_cache, put_page, put_pages, write_at}
-use Rattle.vm_model.specs.Machine.{Actor, Cache, Machine, cache_of}
 use Rattle.vm_model.specs.Outcome as plain_outcome
-use Rattle.vm_model.specs.Outcome.{IsFirstAsked, IsNamed, IsNotRefused, MayLackMemory, NotRefusedButFor}
-use Rattle.vm_model.specs.PageForest.{PageForest, forest_shown}
-use Rattle.vm_model.specs.Place.{Place, place}
-use Rattle.vm_model.proofs.Outcomes.Rows.{each_ok, each_some, each_unless}
 use Rattle.vm_model.proofs.Parts.Lists.{numbered_place}
+use Rattle.interface_callers.proofs.Words.{Actor, ActorId, Answer, Cache, CacheId, Command, FaultAt, IsNotRefused, Machine, MapperCounts, MayLackMemory, NotRefusedButFor, PageForest, Refusal, Reply, Segments, Span, cache_of, forest_shown, overwrite, page_at, put_cache, put_page, put_pages}
+use Rattle.interface_callers.proofs.Hiding.{actor_lifts, actor_mapped, copy_faults, copy_lifts, lift, load_faults, load_lifts, page_out_faults, shown_at, store_faults, store_lifts, visible}
+use Rattle.interface_callers.proofs.Rows.{actor_row, copy_row, load_row, store_row}
 use Rattle.seg_manager.specs.Answering.{Answered, answer_of}
 use Rattle.seg_manager.specs.Calling.{IsPassed}
 use Rattle.seg_manager.specs.Inner.{shown, span_shown}
@@ -37,7 +22,7 @@ use Rattle.seg_manager.specs.ReferenceMachine.{ReferenceMachine, Stored, goes, s
 use Rattle.seg_manager.specs.Seen.{is_kept}
 use Rattle.seg_manager.specs.Tying.{noted_at, noted_regions}
 use Rattle.seg_manager.specs.declared.tables.Kept.{Kept}
-use Rattle.seg_manager.proofs.Lifting.{actor_lifts, actor_mapped, copy_rest, copy_visible, denied_same, hidden_cache, is_hidden, lift, load_lifts, references, seen, seen_cache, store_lifts, visible}
+use Rattle.seg_manager.proofs.Lifting.{is_hidden, references, seen, view}
 use Rattle.seg_manager.proofs.Shapes.{segments_in, segments_set, stored_alike, stored_put}
 
 -- an actor without regions has none to note
@@ -72,7 +57,7 @@ module _ (openings : ℕ → ℕ) where
 
   -- A command of segments is answered as another is by the machine.
   pub record IsAnswered (x : Machine) (passed command : Command) : Type 0 where
-    pub answers : (f : PageForest) (h : Segments) (st : Stored) → resumed st (lift openings (plain.answer_of x f passed h)) ≡ answer_of (over x st) (Plain command) h 0
+    pub answers : (f : PageForest) (h : Segments) (st : Stored) → resumed st (lift (view openings) (plain.answer_of x f passed h)) ≡ answer_of (over x st) (Plain command) h 0
     pub quiet : (f : PageForest) (h : Segments) → IsQuiet x (plain.answer_of x f passed h).next
     pub faults : (f : Option PageForest) (h : Segments) (at : FaultAt) (rises : MapperCounts) (st : Stored) → plain_outcome.MayFault x f passed h at rises → MayFault (over x st) f (Plain command) h at rises
     pub lacks : MayLackMemory passed → MayLack (Plain command)
@@ -83,9 +68,9 @@ module _ (openings : ℕ → ℕ) where
   -- so it has the outcome of the machine of segments
   pub outcome_answered : (x y : Machine) (passed command : Command) (f : Option PageForest) (h : Segments) (a : Answer) (rises : MapperCounts) (st : Stored) → IsAnswered x passed command
       → plain_outcome.Outcome x f passed h a y rises → Outcome (over x st) f (Plain command) h 0 a (over y st) rises
-  outcome_answered x y passed command f h (Ok r) rises st p o = (p.may_have st, sym (p.answers (forest_shown f x) h st) ∙ ap (λ (b : plain.Answered). resumed st (lift openings b)) o)
+  outcome_answered x y passed command f h (Ok r) rises st p o = (p.may_have st, sym (p.answers (forest_shown f x) h st) ∙ ap (λ (b : plain.Answered). resumed st (lift (view openings) b)) o)
   outcome_answered x y passed command f h (Err (troubles.Refused r)) rises st p o =
-      refused_is (over x st) f command h r (over y st) rises (sym (p.answers (forest_shown f x) h st) ∙ ap (λ (b : plain.Answered). resumed st (lift openings b)) o)
+      refused_is (over x st) f command h r (over y st) rises (sym (p.answers (forest_shown f x) h st) ∙ ap (λ (b : plain.Answered). resumed st (lift (view openings) b)) o)
   outcome_answered x y passed command f h (Err (troubles.Mapper at)) rises st p o = (
     ap (λ (z : Machine). over z st) o.0,
     o.1,
@@ -97,14 +82,6 @@ module _ (openings : ℕ → ℕ) where
     p.lacks o.1,
     p.wanted (answer_of (over x st) (Plain command) h 0).answer (subst (λ (b : Answered). IsNotRefused b.answer) (p.answers (forest_shown f x) h st) o.2),
   )
-
-  -- What holds of the machine, and of the next one by the table, holds of the next one.
-  pub outcome_next : (P : Machine → Type 0) (x y : Machine) (passed : Command) (f : Option PageForest) (h : Segments) (a : Answer) (rises : MapperCounts) → P x → P (plain.answer_of x (forest_shown f x) passed h).next
-      → plain_outcome.Outcome x f passed h a y rises → P y
-  outcome_next P x y passed f h (Ok r) rises p q o = subst (λ (b : plain.Answered). P b.next) o q
-  outcome_next P x y passed f h (Err (troubles.Refused r)) rises p q o = subst (λ (b : plain.Answered). P b.next) o q
-  outcome_next P x y passed f h (Err (troubles.Mapper at)) rises p q o = subst P (sym o.0) p
-  outcome_next P x y passed f h (Err troubles.Memory) rises p q o = subst P (sym o.0) p
 
   -- The rows
 
@@ -122,8 +99,7 @@ module _ (openings : ℕ → ℕ) where
     calm_self r = record { quiet = quiet_self x; regions = refl }
 
     actor_calm : IsCalm (plain.make_actor_of x)
-    unfolding plain.make_actor_of
-    actor_calm = each_unless IsCalm _ _ x _ (calm_self _) (λ room. record {
+    actor_calm = actor_row IsCalm x calm_self (record {
       quiet = record {
         segments = refl;
         stored = λ st. stored_alike (storing x st) (storing (record x { actors = x.actors ++ Some [] ∷ [] }) st) 1 x.caches refl
@@ -133,8 +109,7 @@ module _ (openings : ℕ → ℕ) where
     })
 
     load_calm : (actor address length : ℕ) → IsCalm (plain.load_of x actor address length)
-    unfolding plain.load_of
-    load_calm actor address length = each_ok IsCalm _ x _ calm_self (λ p e. record { quiet = quiet_self x; regions = refl })
+    load_calm actor address length = load_row IsCalm x calm_self actor address length (λ r. record { quiet = quiet_self x; regions = refl })
 
     -- a cache that is seen has other pages
     put_calm : (r : Reply) (k : ℕ) (c d : Cache) → cache_of x k ≡ Some c → d.segment ≡ c.segment → is_hidden openings x k ≡ false → IsCalm (plain.reply r (put_cache x k d))
@@ -158,55 +133,18 @@ module _ (openings : ℕ → ℕ) where
         there_too : goes (references openings x) k d ≡ false
         there_too = ap (λ (s : Option ℕ). option_map_or (λ seg. not (nat_lt 0 (openings seg) || plain.is_mapped x k)) s false) same ∙ here
 
-    write_calm : (p : Place) (bytes : List ℕ) → is_hidden openings x p.region.cache ≡ false → IsCalm (plain.reply replies.Done (write_at x p bytes))
-    write_calm p bytes stays = by (cache_of x p.region.cache) refl
-      where
-        by : (o : Option Cache) → cache_of x p.region.cache ≡ o
-            → IsCalm (plain.reply replies.Done (option_map_or (λ (c : Cache). put_cache x p.region.cache (put_page p.page (overwrite p.byte bytes (page_at x p)) c)) o x))
-        by None e = record { quiet = quiet_self x; regions = refl }
-        by (Some c) e = put_calm replies.Done p.region.cache c (put_page p.page (overwrite p.byte bytes (page_at x p)) c) e refl stays
-
     store_calm : (actor address : ℕ) (bytes : List ℕ) (h : Segments) → IsCalm (plain.store_of x actor address bytes h)
-    unfolding plain.store_of
-    store_calm actor address bytes h = each_ok IsCalm (place x actor address (length bytes)) x _ calm_self (λ p e.
-        each_unless IsCalm _ _ x _ (calm_self _) (λ writes. each_unless IsCalm _ _ x _ (calm_self _) (λ granted.
-        write_calm p bytes (visible openings x actor address (length bytes) p e))))
+    store_calm actor address bytes h = store_row IsCalm x calm_self actor address bytes h (record { quiet = quiet_self x; regions = refl })
+        (λ p e c there. put_calm replies.Done p.region.cache c (put_page p.page (overwrite p.byte bytes (page_at x p)) c) there refl (visible (view openings) x tt actor address (length bytes) p e))
 
     copy_calm : (s : Span) (h : Segments) → is_hidden openings x s.to.0 ≡ false → IsCalm (plain.copy_of x s h)
-    unfolding plain.copy_of
-    copy_calm s h stays = each_some IsCalm (cache_of x s.from.0) _ x _ (calm_self _) (λ source here. each_some IsCalm (cache_of x s.to.0) _ x _ (calm_self _) (λ destination there.
-        each_unless IsCalm _ _ x _ (calm_self _) (λ a. each_unless IsCalm _ _ x _ (calm_self _) (λ b. each_unless IsCalm _ _ x _ (calm_self _) (λ c. each_unless IsCalm _ _ x _ (calm_self _) (λ d.
-        put_calm replies.Done s.to.0 destination (put_pages s.to_page.0 (take s.pages (drop s.from_page.0 source.pages)) destination) there refl stays))))))
+    copy_calm s h stays = copy_row IsCalm x calm_self s h (λ source destination here there. put_calm replies.Done s.to.0 destination (put_pages s.to_page.0 (take s.pages (drop s.from_page.0 source.pages)) destination) there refl stays)
 
-    -- Faults
-
-    load_faults : (actor : ActorId) (address length : ℕ) (f : Option PageForest) (h : Segments) (at : FaultAt) (rises : MapperCounts) (st : Stored)
-        → plain_outcome.MayFault x f (Load actor address length) h at rises → MayFault (over x st) f (Plain (Load actor address length)) h at rises
-    load_faults actor address length f h (faults.Page page) rises st may = may
-    load_faults actor address length f h faults.Victim rises st may = may
-    load_faults actor address length f h at rises st may = absurd may
-
-    named_seen : (k : ℕ) → is_hidden openings x k ≡ false → IsNamed x k → IsNamed (seen openings x) k
-    named_seen k stays named = subst (λ (o : Option Cache). IsTrue (option_map_or (λ (c : Cache). is_some c.segment) o false)) (sym (seen_cache openings x k stays)) named
-
-    access_seen : (o : Result Place Refusal) → ((p : Place) → o ≡ Ok p → is_hidden openings x p.region.cache ≡ false) → IsOkAnd o (λ (at : Place). IsNamed x at.region.cache) → IsOkAnd o (λ (at : Place). IsNamed (seen openings x) at.region.cache)
-    access_seen (Ok at) stays named = named_seen at.region.cache (stays at refl) named
-    access_seen (Err r) stays named = named
-
-    store_faults : (actor : ActorId) (address : ℕ) (bytes : List ℕ) (f : Option PageForest) (h : Segments) (at : FaultAt) (rises : MapperCounts) (st : Stored)
-        → plain_outcome.MayFault x f (Store actor address bytes) h at rises → MayFault (over x st) f (Plain (Store actor address bytes)) h at rises
-    store_faults actor address bytes f h (faults.Access page) rises st may = (may.0, access_seen (place x actor.0 address (length bytes)) (λ p e. visible openings x actor.0 address (length bytes) p e) may.1)
-    store_faults actor address bytes f h (faults.Page page) rises st may = may
-    store_faults actor address bytes f h faults.Victim rises st may = may
-    store_faults actor address bytes f h at rises st may = absurd may
-
-    page_out_faults : (count : ℕ) (f : Option PageForest) (h : Segments) (at : FaultAt) (rises : MapperCounts) (st : Stored) → plain_outcome.MayFault x f (PageOut count) h at rises → MayFault (over x st) f (Plain (PageOut count)) h at rises
-    page_out_faults count f h faults.Victim rises st may = may
-    page_out_faults count f h at rises st may = absurd may
+    -- The commands
 
     actor_answered : IsAnswered x MakeActor MakeActor
     actor_answered = record {
-      answers = λ f h st. ap (resumed st) (actor_lifts openings x);
+      answers = λ f h st. ap (resumed st) (actor_lifts (view openings) x);
       quiet = λ f h. actor_calm.quiet;
       faults = λ f h at rises st may. absurd may;
       lacks = λ may. may;
@@ -217,9 +155,9 @@ module _ (openings : ℕ → ℕ) where
 
     load_answered : (actor : ActorId) (address length : ℕ) → IsAnswered x (Load actor address length) (Load actor address length)
     load_answered actor address length = record {
-      answers = λ f h st. ap (resumed st) (load_lifts openings x actor.0 address length);
+      answers = λ f h st. ap (resumed st) (load_lifts (view openings) x tt actor.0 address length);
       quiet = λ f h. (load_calm actor.0 address length).quiet;
-      faults = load_faults actor address length;
+      faults = λ f h at rises st may. load_faults (view openings) x f f actor address length h at rises may;
       lacks = λ may. may;
       may_have = λ st. tt;
       goes_on = λ at a g. g;
@@ -228,9 +166,9 @@ module _ (openings : ℕ → ℕ) where
 
     store_answered : (actor : ActorId) (address : ℕ) (bytes : List ℕ) → IsAnswered x (Store actor address bytes) (Store actor address bytes)
     store_answered actor address bytes = record {
-      answers = λ f h st. ap (resumed st) (store_lifts openings x actor.0 address bytes h);
+      answers = λ f h st. ap (resumed st) (store_lifts (view openings) x tt actor.0 address bytes h);
       quiet = λ f h. (store_calm actor.0 address bytes h).quiet;
-      faults = store_faults actor address bytes;
+      faults = λ f h at rises st may. store_faults (view openings) x tt f f actor address bytes h at rises may;
       lacks = λ may. may;
       may_have = λ st. tt;
       goes_on = λ at a g. g;
@@ -241,7 +179,7 @@ module _ (openings : ℕ → ℕ) where
     page_out_answered count = record {
       answers = λ f h st. refl;
       quiet = λ f h. quiet_self x;
-      faults = page_out_faults count;
+      faults = λ f h at rises st may. page_out_faults (view openings) x f f count h at rises may;
       lacks = λ may. may;
       may_have = λ st. tt;
       goes_on = λ at a g. g;
@@ -268,9 +206,6 @@ module _ (openings : ℕ → ℕ) where
     abbrev pub IsHiding : List Kept → Type 0
     IsHiding ks = (n : ℕ) → is_kept ks n ≡ is_hidden openings x n
 
-    abbrev shown_at : Bool → CacheId → CacheId
-    shown_at b cache = cond b (record { 0 = 0 }) cache
-
     pub shown_visible : (ks : List Kept) → IsHiding ks → (cache : CacheId) → is_hidden openings x (shown ks cache).0 ≡ false
     shown_visible ks hiding cache = by (is_kept ks cache.0) refl
       where
@@ -278,35 +213,12 @@ module _ (openings : ℕ → ℕ) where
         by true e = refl
         by false e = sym (hiding cache.0) ∙ e
 
-    abbrev span_at : Bool → Bool → Span → Span
-    span_at a b s = record s { from = shown_at a s.from; to = shown_at b s.to }
-
-    copy_hidden : (a b : Bool) (s : Span) (h : Segments) → is_hidden openings x s.from.0 ≡ a → is_hidden openings x s.to.0 ≡ b → plain.copy_of (seen openings x) (span_at a b s) h ≡ plain.copy_of (seen openings x) s h
-    unfolding plain.copy_of plain.with_some
-    copy_hidden false false s h e f = refl
-    copy_hidden true b s h e f = λ i. plain.with_some (sym (hidden_cache openings x s.from.0 e) i) refusals.NoCache (seen openings x) (λ source.
-        plain.with_some (cache_of (seen openings x) s.to.0) refusals.NoCache (seen openings x) (copy_rest openings (seen openings x) s h source))
-    copy_hidden false true s h e f = ap (plain.with_some (cache_of (seen openings x) s.from.0) refusals.NoCache (seen openings x)) (λ i source.
-        plain.with_some (sym (hidden_cache openings x s.to.0 f) i) refusals.NoCache (seen openings x) (copy_rest openings (seen openings x) s h source))
-
-    asked_seen : (h : Segments) (s : Span) (p : ℕ) → is_hidden openings x s.to.0 ≡ false → IsFirstAsked x h s p → IsFirstAsked (seen openings x) h s p
-    asked_seen h s p stays asked = (asked.0, asked.1, λ q from below. sym (denied_same openings x h s.to.0 q stays) ∙ asked.2 q from below)
-
-    copy_faults : (a b : Bool) (s : Span) → is_hidden openings x s.to.0 ≡ b → (f : Option PageForest) (h : Segments) (at : FaultAt) (rises : MapperCounts) (st : Stored)
-        → plain_outcome.MayFault x f (Copy (span_at a b s)) h at rises → MayFault (over x st) f (Plain (Copy s)) h at rises
-    copy_faults a true s e f h (faults.Access p) rises st may = absurd (let wrong : false ≡ true = may.0 in cc wrong)
-    copy_faults a true s e f h (faults.Save done) rises st may = absurd (let wrong : false ≡ true = may.0 in cc wrong)
-    copy_faults a false s e f h (faults.Access p) rises st may = (named_seen s.to.0 e may.0, asked_seen h s p.0 e may.1)
-    copy_faults a false s e f h (faults.Save done) rises st may = (named_seen s.to.0 e may.0, may.1)
-    copy_faults a b s e f h at rises st may = absurd may
-
     module _ (ks : List Kept) (hiding : IsHiding ks) (s : Span) where
       pub copy_answered : IsAnswered x (Copy (span_shown ks s)) (Copy s)
       copy_answered = record {
-        answers = λ f h st. ap (resumed st) (copy_visible openings x (span_shown ks s) h (shown_visible ks hiding s.from) (shown_visible ks hiding s.to)
-            ∙ copy_hidden (is_kept ks s.from.0) (is_kept ks s.to.0) s h (sym (hiding s.from.0)) (sym (hiding s.to.0)));
+        answers = λ f h st. ap (resumed st) (copy_lifts (view openings) (is_kept ks s.from.0) (is_kept ks s.to.0) x s h (sym (hiding s.from.0)) (sym (hiding s.to.0)) (shown_visible ks hiding s.from) (shown_visible ks hiding s.to));
         quiet = λ f h. (copy_calm (span_shown ks s) h (shown_visible ks hiding s.to)).quiet;
-        faults = copy_faults (is_kept ks s.from.0) (is_kept ks s.to.0) s (sym (hiding s.to.0));
+        faults = λ f h at rises st may. copy_faults (view openings) (is_kept ks s.from.0) (is_kept ks s.to.0) x f s (sym (hiding s.to.0)) h at rises may;
         lacks = λ may. may;
         may_have = λ st. tt;
         goes_on = λ at a g. g;

@@ -9,7 +9,7 @@ use Rattle.std.proofs.lemmas.Bool.{cases_eq, cond-true, cond-false, eq-eqb, ne_e
 use Rattle.std.proofs.lemmas.List.{length-append, length-set}
 use Rattle.std.proofs.lemmas.Option.{slice_get-get_or, slice_get_within}
 use Rattle.vm_model.proofs.Parts.Lists.{get_set_other, get_set_same}
-use Rattle.vm_ids.specs.declared.numbers.CacheId.{CacheId}
+use Rattle.interface_callers.proofs.Words.{CacheId}
 use Rattle.seg_manager.specs.Linked.{ArePlaced, changed_at, link_at}
 use Rattle.seg_manager.specs.declared.links.Link.{Link}
 

@@ -1,44 +1,16 @@
 -- What the segments hold after some pages were pushed to them.
-use Rattle.std.proofs.Common.{◌≡◌, ◌==◌, ℕ, suc, ◌-◌, Bool, true, false, cond, List, [], ◌∷◌, set, Option, Some, None, refl, sym, ap, subst, ◌∙◌, arith, inl, inr}
+use Rattle.std.proofs.Common.{◌≡◌, ℕ, Bool, true, false, cond, List, [], ◌∷◌, set, Option, Some, None, refl, sym, ap, subst, ◌∙◌, arith, inl, inr}
 use Rattle.std.specs.Prelude.{IfSome, IsSome, is_some, option_and_then, slice_get, unwrap_or}
 use Rattle.std.specs.List.{AllByRecursion}
 use Rattle.std.specs.FinMap.{get, get-insert}
-use Rattle.std.specs.Option.{option_map_or}
 use Rattle.std.specs.Cmp.{nat_cmp_total, unsigned_tied}
 use Rattle.std.proofs.lemmas.Bool.{cases_eq, ne_eqb}
-use Rattle.std.proofs.lemmas.Bool.Decides.{nat_tests}
-use Rattle.vm_ids.specs.Denying.{denies}
-use Rattle.vm_ids.specs.Held.{Segments, put_segment_page}
-use Rattle.vm_model.specs.Machine.{Cache, Machine, Page, cache_named, cache_of, is_named_by, pages_in, segment_of}
-use Rattle.vm_model.specs.Pushing.{MayPush, PushRule, page_named, segments_after}
 use Rattle.vm_model.specs.Synchronised.{ArePushed}
 use Rattle.vm_model.proofs.Parts.Lists.{is_there}
-use Rattle.vm_model.proofs.Parts.ListParts.{at_some}
-use Rattle.gmi_calls.specs.Backing.{AreBacked, Backs}
 use Rattle.gmi_calls.proofs.Opening.{same_list}
 use Rattle.gmi_calls.proofs.Pushing.{IsNamedPage, still_backed}
-
--- The cache that a segment names has a number.
-pub record HasNumber (seg : ℕ) (cs : List (Option Cache)) (c : Cache) : Type 0 where
-  pub place : ℕ
-  pub there : slice_get cs place ≡ Some (Some c)
-  pub named : c.segment ≡ Some seg
-
-named_by : (o : Option ℕ) (seg : ℕ) → option_map_or (λ s. s == seg) o false ≡ true → o ≡ Some seg
-named_by None seg e = absurd (cc e)
-named_by (Some s) seg e = let same : s ≡ seg = grind (arith, nat_tests) in ap (λ (n : ℕ). Some n) same
-
-here_or_behind : (seg : ℕ) (o : Option Cache) (cs : List (Option Cache)) (c : Cache) (b : Bool) → is_named_by seg o ≡ b → cond b o (cache_named cs seg) ≡ Some c → (cache_named cs seg ≡ Some c → HasNumber seg cs c) → HasNumber seg (o ∷ cs) c
-here_or_behind seg o cs c true named e behind = record {
-  place = 0;
-  there = ap (λ (x : Option Cache). Some x) e;
-  named = named_by c.segment seg (ap (is_named_by seg) (sym e) ∙ named);
-}
-here_or_behind seg o cs c false named e behind = let r = behind e in record { place = suc r.place; there = r.there; named = r.named }
-
-pub has_number : (seg : ℕ) (cs : List (Option Cache)) (c : Cache) → cache_named cs seg ≡ Some c → HasNumber seg cs c
-has_number seg [] c e = absurd (cc e)
-has_number seg (o ∷ cs) c e = here_or_behind seg o cs c (is_named_by seg o) refl e (has_number seg cs c)
+use Rattle.interface_callers.proofs.Words.{AreBacked, Backs, Cache, Machine, MayPush, Page, PushRule, Segments, cache_named, cache_of, denies, page_named, pages_in, put_segment_page, segment_of, segments_after}
+use Rattle.interface_callers.proofs.Naming.{after_none, named_cache}
 
 -- After some pushes the segments back the caches, and those without a cache are as before.
 pub record Follow (m : Machine) (s t : Segments) : Type 0 where
@@ -51,11 +23,7 @@ named_there m seg q page e = by (cache_named m.caches seg) refl e
   where
     by : (o : Option Cache) → cache_named m.caches seg ≡ o → option_and_then (λ (c : Cache). slice_get c.pages q) o ≡ Some page → (n : ℕ) × (N : IsNamedPage m n seg q) × (N.page ≡ page)
     by None is e = absurd (cc e)
-    by (Some c) is e =
-        let at = has_number seg m.caches c is in
-        let there : cache_of m (suc at.place) ≡ Some c = at_some m.caches (suc at.place) (omega arith) ∙ ap (option_and_then (λ (x : Option Cache). x)) (ap (slice_get m.caches) (let k : suc at.place - 1 ≡ at.place = omega arith in k) ∙ at.there) in
-        let N : IsNamedPage m (suc at.place) seg q = record { cache = c; there = there; named = at.named; page = page; at = e } in
-        (suc at.place, N, refl)
+    by (Some c) is e = let at = named_cache m seg c is in let N : IsNamedPage m at.0 seg q = record { cache = c; there = at.1; named = at.2; page = page; at = e } in (at.0, N, refl)
 
 module _ (m : Machine) (s : Segments) (p : ℕ × ℕ) (B : AreBacked m.caches s) (some : IsSome (page_named m p.0 p.1)) (allowed : MayPush m (Some s) p) where
   abbrev one : Segments
@@ -103,10 +71,6 @@ pushes_follow m (p ∷ ps) before s may same B =
 pub record Told (m : Machine) (before now : Option Segments) : Type 0 where
   pub none : before ≡ None → now ≡ None
   pub some : (s : Segments) → before ≡ Some s → (t : Segments) × (now ≡ Some t) × Follow m s t
-
-after_none : (m : Machine) (pushes : List (ℕ × ℕ)) → segments_after m pushes None ≡ None
-after_none m [] = refl
-after_none m (p ∷ ps) = after_none m ps
 
 pub told_pushed : (m : Machine) (before now : Option Segments) (pushes : List (ℕ × ℕ)) → PushRule m before pushes now → IfSome before (λ s. AreBacked m.caches s) → Told m before now
 told_pushed m None now pushes rule B = record { none = λ e. rule.pushed ∙ after_none m pushes; some = λ s e. absurd (cc e) }

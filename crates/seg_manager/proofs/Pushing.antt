@@ -3,19 +3,10 @@ use Rattle.std.proofs.Common.{◌≡◌, ◌==◌, ℕ, ◌≤◌, Bool, true, f
 use Rattle.std.specs.Prelude.{IfSome, IsSome, option_and_then, option_map, slice_get, unwrap_or}
 use Rattle.std.specs.List.{AllByRecursion, list_any}
 use Rattle.std.specs.Option.{option_map_or}
-use Rattle.std.proofs.lemmas.Bool.{eqb-true}
 use Rattle.std.proofs.lemmas.List.{length-append}
-use Rattle.vm_ids.specs.Counting.{MapperCounts, counts_sum}
-use Rattle.vm_ids.specs.Denying.{denies}
-use Rattle.vm_ids.specs.Held.{Segments, put_segment_page, segments_of}
-use Rattle.vm_ids.specs.declared.command.Command.{Command}
-use Rattle.vm_model.specs.Answering.{Answer}
-use Rattle.vm_model.specs.Machine.{Cache, Machine, Page, cache_named, is_named_by}
-use Rattle.vm_model.specs.Pushing.{MayPush, PushRule, page_named, segments_after}
-use Rattle.vm_port.specs.declared.traits.mapper.Mapper.{Ghosts as GhostsOfMapper}
-use Rattle.gmi_calls.specs.Calling.{MapperCall}
-use Rattle.gmi_calls.specs.Managing.{meanings_of}
-use Rattle.gmi_calls.specs.declared.gmi.Gmi.{Ghosts as GhostsOfGmi}
+use Rattle.vm_model.proofs.Parts.Pairs.{each_append}
+use Rattle.interface_callers.proofs.Words.{Answer, Cache, Command, GhostsOfGmi, GhostsOfMapper, Machine, MapperCall, MapperCounts, MayPush, Page, PushRule, Segments, cache_named, counts_sum, denies, is_named_by, meanings_of, page_named, put_segment_page, segments_after, segments_of}
+use Rattle.interface_callers.proofs.Naming.{after_none, named_by}
 use Rattle.seg_manager.specs.Keeping.{but_for, is_of_any, without}
 use Rattle.seg_manager.specs.Seen.{references_seen, whole_of}
 use Rattle.seg_manager.specs.Stepping.{Pushed, State}
@@ -33,10 +24,6 @@ HasPages m n = (seg page : ℕ) → IsSome (page_named n seg page) → page_name
 
 pub same_pages : (m : Machine) → HasPages m m
 same_pages m seg page some = refl
-
-named_seg : (seg : ℕ) (o : Option ℕ) → option_map_or (λ s. s == seg) o false ≡ true → o ≡ Some seg
-named_seg seg None e = absurd (cc e)
-named_seg seg (Some s) e = ap (λ (n : ℕ). Some n) (eqb-true s seg e)
 
 left_named : (segs : List ℕ) (seg : ℕ) (cs : Caches) → cache_named (map (but_for segs) cs) seg ≡ cond (list_any (λ s. s == seg) segs) None (cache_named cs seg)
 left_named segs seg [] = by (list_any (λ s. s == seg) segs)
@@ -60,7 +47,7 @@ left_named segs seg (Some c ∷ cs) = at (is_named_by seg (Some c)) refl (left_n
 
     at : (b : Bool) → is_named_by seg (Some c) ≡ b → cache_named (map (but_for segs) cs) seg ≡ cond gone None (cache_named cs seg) → cache_named (map (but_for segs) (Some c ∷ cs)) seg ≡ cond gone None (cache_named (Some c ∷ cs) seg)
     at true named rest =
-        let of : is_of_any segs c ≡ gone = ap (λ (o : Option ℕ). option_map_or (λ x. list_any (λ s. s == x) segs) o false) (named_seg seg c.segment named) in
+        let of : is_of_any segs c ≡ gone = ap (λ (o : Option ℕ). option_map_or (λ x. list_any (λ s. s == x) segs) o false) (named_by c.segment seg named) in
         ap (λ (x : Bool). cache_named (cond x None (Some c) ∷ map (but_for segs) cs) seg) of
         ∙ mine gone rest refl named
         ∙ sym (ap (λ (x : Bool). cond gone None (cond x (Some c) (cache_named cs seg))) named)
@@ -83,10 +70,6 @@ pages_left segs m seg page some = by (list_any (λ s. s == seg) segs) refl
 
 -- Pushes one after the other
 
-after_none : (m : Machine) (ps : List (ℕ × ℕ)) → segments_after m ps None ≡ None
-after_none m [] = refl
-after_none m (p ∷ ps) = after_none m ps
-
 after_some : (m : Machine) (ps : List (ℕ × ℕ)) (s : Segments) → (t : Segments) × (segments_after m ps (Some s) ≡ Some t) × (t.denied ≡ s.denied)
 after_some m [] s = (s, refl, refl)
 after_some m (p ∷ ps) s = after_some m ps (put_segment_page p.0 p.1 (unwrap_or (page_named m p.0 p.1) []) s)
@@ -94,10 +77,6 @@ after_some m (p ∷ ps) s = after_some m ps (put_segment_page p.0 p.1 (unwrap_or
 after_both : (m : Machine) (ps qs : List (ℕ × ℕ)) (s : Option Segments) → segments_after m (ps ++ qs) s ≡ segments_after m qs (segments_after m ps s)
 after_both m [] qs s = refl
 after_both m (p ∷ ps) qs s = after_both m ps qs (option_map (put_segment_page p.0 p.1 (unwrap_or (page_named m p.0 p.1) [])) s)
-
-all_both : {A : Type 0} (P : A → Type 0) (xs ys : List A) → AllByRecursion P xs → AllByRecursion P ys → AllByRecursion P (xs ++ ys)
-all_both P [] ys h k = k
-all_both P (x ∷ xs) ys h k = (h.0, all_both P xs ys h.1 k)
 
 module _ (m n : Machine) (has : HasPages m n) where
   may_still : (s t : Segments) → t.denied ≡ s.denied → (ps : List (ℕ × ℕ)) → AllByRecursion (MayPush n (Some t)) ps → AllByRecursion (MayPush m (Some s)) ps
@@ -129,7 +108,7 @@ module _ (m n : Machine) (has : HasPages m n) where
       let is : was ≡ Some t.0 = f.pushed ∙ t.1 in
       let may = subst (λ (o : Option Segments). AllByRecursion (MayPush n o) qs) is g.may in
       record {
-        may = all_both (MayPush m (Some s)) ps qs f.may (may_still s t.0 t.2 qs may);
+        may = each_append (MayPush m (Some s)) ps qs f.may (may_still s t.0 t.2 qs may);
         pushed = g.pushed ∙ after_still t.0 qs was may ∙ ap (segments_after m qs) f.pushed ∙ sym (after_both m ps qs (Some s));
       }
 

@@ -5,11 +5,10 @@ use Rattle.std.specs.List.{AllByRecursion}
 use Rattle.std.proofs.lemmas.Bool.{eq-eqb, ne_eqb}
 use Rattle.std.proofs.lemmas.List.{map-append}
 use Rattle.vm_ids.specs.declared.refusal.Refusal.TheVariants as refusals
-use Rattle.vm_model.specs.Answering.{without_region}
-use Rattle.vm_model.specs.Machine.{Actor, Machine, Region, numbered}
 use Rattle.vm_model.specs.Regions.{region_with}
 use Rattle.vm_model.proofs.Parts.Lists.{numbered_place}
 use Rattle.vm_model.proofs.Parts.Pairs.{each_append}
+use Rattle.interface_callers.proofs.Words.{Actor, Machine, Region, numbered, without_region}
 use Rattle.seg_manager.specs.Inner.{leaves, staying}
 use Rattle.seg_manager.specs.Keeping.{mapped_at, mapped_by}
 use Rattle.seg_manager.specs.Tying.{Noted, noted_at, noted_of, noted_region, noted_regions}

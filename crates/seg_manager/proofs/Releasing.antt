@@ -3,24 +3,16 @@ use Rattle.std.proofs.Common.{◌≡◌, ℕ, zero, suc, ◌+◌, ◌-◌, ◌^�
 use Rattle.std.specs.Prelude.{IfNone, nat_lt, Ok, Err, slice_get}
 use Rattle.std.specs.Option.{option_map_or}
 use Rattle.std.proofs.lemmas.List.{append-nil, length-append, map-append}
-use Rattle.vm_ids.specs.Counting.{no_counts}
-use Rattle.vm_ids.specs.Held.{Held, Segments, segments_of}
 use Rattle.vm_ids.specs.declared.command.KeepCommand.TheVariants as commands
-use Rattle.vm_ids.specs.declared.numbers.CacheId.{CacheId}
-use Rattle.vm_ids.specs.declared.numbers.SegId.{SegId}
 use Rattle.vm_ids.specs.declared.refusal.Refusal.TheVariants as refusals
 use Rattle.vm_ids.specs.declared.reply.Reply.TheVariants as replies
 use Rattle.vm_ids.specs.declared.reply.Trouble.TheVariants as troubles
-use Rattle.vm_model.specs.Machine.{Cache, Machine, is_named_by, segment_of}
-use Rattle.vm_model.specs.Outcome.{blank}
 use Rattle.vm_model.proofs.Parts.Lists.{numbered_place}
 use Rattle.vm_model.proofs.Parts.Naming.{segment_cache}
-use Rattle.vm_port.specs.declared.traits.mapper.Mapper.{Ghosts as GhostsOfMapper}
-use Rattle.gmi_calls.specs.declared.gmi.Gmi.{Ghosts as GhostsOfGmi}
 use Rattle.gmi_calls.proofs.Rising.{rise_none}
+use Rattle.interface_callers.proofs.Words.{Cache, CacheId, GhostsOfGmi, GhostsOfMapper, Held, Machine, Refusal, SegId, Segments, blank, is_named_by, no_counts, segment_of, segments_of}
 use Rattle.seg_manager.specs.Answering.{close_of, refuse, reply}
 use Rattle.seg_manager.specs.Calling.{Releases, below}
-use Rattle.vm_ids.specs.declared.refusal.Refusal.{Refusal}
 use Rattle.seg_manager.specs.Inner.{Closes, IsClosed, unused_in}
 use Rattle.seg_manager.specs.Keeping.{AreLast, cache_for, left_by, left_one, referred}
 use Rattle.seg_manager.specs.ReferenceMachine.{ReferenceMachine, close_one, is_open, let_go, number_in}

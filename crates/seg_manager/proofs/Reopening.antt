@@ -5,25 +5,17 @@ use Rattle.std.specs.List.{AllByRecursion}
 use Rattle.std.specs.Option.{option_map_or}
 use Rattle.std.proofs.lemmas.Bool.{eq-eqb, eqb-true}
 use Rattle.std.proofs.lemmas.Bool.Decides.{nat_tests}
-use Rattle.vm_ids.specs.Counting.{MapperCounts}
-use Rattle.vm_ids.specs.Held.{Segments}
 use Rattle.vm_ids.specs.declared.command.Command.TheVariants as plain_commands
 use Rattle.vm_ids.specs.declared.command.KeepCommand.{KeepCommand}
 use Rattle.vm_ids.specs.declared.command.KeepCommand.TheVariants as commands
-use Rattle.vm_ids.specs.declared.command.Mapping.{Mapping}
-use Rattle.vm_ids.specs.declared.command.Span.{Span}
 use Rattle.vm_ids.specs.declared.refusal.Refusal.TheVariants as refusals
-use Rattle.vm_ids.specs.declared.reply.Reply.{Reply}
 use Rattle.vm_ids.specs.declared.reply.Reply.TheVariants as replies
-use Rattle.vm_ids.specs.declared.numbers.SegId.{SegId}
 use Rattle.vm_ids.specs.declared.reply.Trouble.TheVariants as troubles
 use Rattle.vm_model.specs.Answering as plain
-use Rattle.vm_model.specs.Answering.{Answer, opened, overwrite, page_at, put_cache, put_page, temporary}
-use Rattle.vm_model.specs.Machine.{Cache, Machine, Page, cache_named, cache_of, is_named_by, numbered}
-use Rattle.vm_model.specs.PageForest.{PageForest}
 use Rattle.vm_model.proofs.Outcomes.Rows.{each_ok, each_some, each_unless}
 use Rattle.vm_model.proofs.Parts.ListParts.{at_some}
 use Rattle.vm_model.proofs.Parts.Lists.{at_number}
+use Rattle.interface_callers.proofs.Words.{Answer, Cache, Machine, MapperCounts, Mapping, Page, PageForest, Reply, SegId, Segments, Span, cache_named, cache_of, is_named_by, numbered, opened, overwrite, page_at, put_cache, put_page, temporary}
 use Rattle.seg_manager.specs.Answering.{Answered, MayHave, answer_of, close_of, leaving, make_temp_of, open_anew, open_by, open_of, refuse, reply}
 use Rattle.seg_manager.specs.Laws.{Chain, ReopensAsItWas, Step, cache_for, opens}
 use Rattle.seg_manager.specs.Outcome.{Outcome}

@@ -2,7 +2,7 @@
 use Rattle.std.proofs.Common.{◌≡◌, ◌≢◌, ◌==◌, ℕ, Bool, true, false, cond, Option, Some, None, refl, sym, ap, ◌∙◌}
 use Rattle.std.specs.Prelude.{is_some, option_map, option_and_then}
 use Rattle.std.proofs.lemmas.Bool.{eq-eqb, ne_eqb}
-use Rattle.vm_ids.specs.declared.numbers.CacheId.{CacheId}
+use Rattle.interface_callers.proofs.Words.{CacheId}
 use Rattle.seg_manager.specs.Linked.{Linked, changed_at, end_set, link_of, with_after, with_before}
 use Rattle.seg_manager.specs.Ring.{after_of, before_of, kept_of}
 use Rattle.seg_manager.specs.declared.links.Link.{Link}

@@ -3,7 +3,7 @@ use Rattle.std.proofs.Common.{◌≡◌, ◌≢◌, ◌==◌, ◌||◌, ◌+◌,
 use Rattle.std.specs.Prelude.{drop, filter, not, is_some, option_map, option_and_then}
 use Rattle.std.proofs.lemmas.Bool.{cases_eq, eq-eqb, ne_eqb}
 use Rattle.std.proofs.lemmas.List.{length-append}
-use Rattle.vm_ids.specs.declared.numbers.CacheId.{CacheId}
+use Rattle.interface_callers.proofs.Words.{CacheId}
 use Rattle.seg_manager.specs.Inner.{is_of}
 use Rattle.seg_manager.specs.Keeps.{AreOnce, is_kept}
 use Rattle.seg_manager.specs.Linked.{Linked, changed_at, end_set, link_of, with_after, with_before}

@@ -5,22 +5,12 @@ use Rattle.std.specs.FinMap.{get}
 use Rattle.std.specs.Option.{option_map_or}
 use Rattle.std.proofs.lemmas.List.{length-map}
 use Rattle.std.proofs.lemmas.List.Elements.{All-cons, All-head, All-tail}
-use Rattle.vm_ids.specs.Counting.{MapperCounts}
-use Rattle.vm_ids.specs.Held.{Segments, segments_of}
-use Rattle.vm_ids.specs.declared.command.Command.{Command}
 use Rattle.vm_ids.specs.declared.command.Command.TheVariants.{Copy, Load, MakeActor, PageOut, Store}
 use Rattle.vm_ids.specs.declared.command.KeepCommand.TheVariants.{Plain}
-use Rattle.vm_ids.specs.declared.command.Span.{Span}
 use Rattle.vm_model.specs.Answering as plain
-use Rattle.vm_model.specs.Answering.{Answer}
-use Rattle.vm_model.specs.Machine.{Cache, Machine, cache_of}
-use Rattle.vm_model.specs.Outcome.{HasWholePages, IsWhole, OutcomeAt, blank, blank_cache}
-use Rattle.vm_model.specs.PageForest.{PageForest, forest_shown}
 use Rattle.vm_model.proofs.Parts.Lists.{numbered-map}
-use Rattle.vm_port.specs.declared.traits.mapper.Mapper.{Ghosts as GhostsOfMapper}
-use Rattle.gmi_calls.specs.Calling.{MapperCall}
-use Rattle.gmi_calls.specs.Managing.{meanings_of}
-use Rattle.gmi_calls.specs.declared.gmi.Gmi.{Ghosts as GhostsOfGmi}
+use Rattle.interface_callers.proofs.Words.{Answer, Cache, Command, GhostsOfGmi, GhostsOfMapper, HasWholePages, IsWhole, Machine, MapperCall, MapperCounts, OutcomeAt, PageForest, Segments, Span, blank, blank_cache, cache_of, forest_shown, meanings_of, segments_of}
+use Rattle.interface_callers.proofs.Rows.{outcome_next}
 use Rattle.seg_manager.specs.Calling.{AnswersKept, IsPassed, SegmentCall, Serves}
 use Rattle.seg_manager.specs.Inner.{span_shown}
 use Rattle.seg_manager.specs.Outcome.{Outcome}
@@ -37,7 +27,7 @@ use Rattle.seg_manager.proofs.Entries.{fun_same}
 use Rattle.seg_manager.proofs.Live.{live_seen}
 use Rattle.seg_manager.proofs.Going.{used_same}
 use Rattle.seg_manager.proofs.Lifting.{is_hidden, references}
-use Rattle.seg_manager.proofs.Passed.{IsAnswered, IsHiding, IsQuiet, SameRegions, copy_answered, copy_regions, outcome_answered, outcome_next, over, passed_answered, passed_regions, quiet_self, storing}
+use Rattle.seg_manager.proofs.Passed.{IsAnswered, IsHiding, IsQuiet, SameRegions, copy_answered, copy_regions, outcome_answered, over, passed_answered, passed_regions, quiet_self, storing}
 use Rattle.seg_manager.proofs.Pushed.{Follow, Told}
 use Rattle.seg_manager.proofs.Pushing.{pushed_by}
 use Rattle.seg_manager.proofs.Shapes.{has_same, segments_blank, segments_in, tied_alike}
@@ -119,7 +109,7 @@ module _ (cs : List Named) where
         let v = told.some s refl in
         let same : v.0 ≡ u = (let r : Some u ≡ Some v.0 = v.1 in let is : u ≡ v.0 = cc r in sym is) in
         let it = answered x hiding in
-        let quiet : IsQuiet openings x y = outcome_next openings (IsQuiet openings x) x y c f u a rises (quiet_self openings x) (it.quiet (forest_shown f x) u) o in (
+        let quiet : IsQuiet openings x y = outcome_next (IsQuiet openings x) x y c f u a rises (quiet_self openings x) (it.quiet (forest_shown f x) u) o in (
           0,
           f,
           subst (λ (r : ReferenceMachine). Outcome r f (Plain command) u 0 a then.references rises) (sym (e ∙ seen_told x s))
@@ -131,21 +121,21 @@ module _ (cs : List Named) where
     -- the caches have their segments then
     pub segments_then : (now : Option Segments) (x y : Machine) (f : Option PageForest) (a : Answer) (rises : MapperCounts) → IsHiding openings x ks → OutcomeAt now x f c a y rises → segments_in y.caches ≡ segments_in x.caches
     segments_then (Some u) x y f a rises hiding o =
-        (outcome_next openings (IsQuiet openings x) x y c f u a rises (quiet_self openings x) ((answered x hiding).quiet (forest_shown f x) u) o).segments
+        (outcome_next (IsQuiet openings x) x y c f u a rises (quiet_self openings x) ((answered x hiding).quiet (forest_shown f x) u) o).segments
     segments_then None x y f a rises hiding o =
         let w : Machine = o.whole in
-        let quiet : IsQuiet openings w o.whole_next = outcome_next openings (IsQuiet openings w) w o.whole_next c f o.segments o.whole_answer rises (quiet_self openings w)
+        let quiet : IsQuiet openings w o.whole_next = outcome_next (IsQuiet openings w) w o.whole_next c f o.segments o.whole_answer rises (quiet_self openings w)
         ((answered w (hiding_whole ks x w o.is hiding)).quiet (forest_shown f w) o.segments) o.outcome in
         ap (λ (z : Machine). segments_in z.caches) o.is_next ∙ segments_blank o.whole_next.caches ∙ quiet.segments ∙ sym (segments_blank w.caches) ∙ sym (ap (λ (z : Machine). segments_in z.caches) o.is)
 
     -- and the regions are the same, where they are with bytes
     pub regions_then : ((x : Machine) → IsHiding openings x ks → (f : PageForest) (h : Segments) → SameRegions openings x (plain.answer_of x f c h).next)
         → (now : Option Segments) (x y : Machine) (f : Option PageForest) (a : Answer) (rises : MapperCounts) → IsHiding openings x ks → OutcomeAt now x f c a y rises → SameRegions openings x y
-    regions_then same (Some u) x y f a rises hiding o = outcome_next openings (SameRegions openings x) x y c f u a rises refl (same x hiding (forest_shown f x) u) o
+    regions_then same (Some u) x y f a rises hiding o = outcome_next (SameRegions openings x) x y c f u a rises refl (same x hiding (forest_shown f x) u) o
     regions_then same None x y f a rises hiding o =
         let w : Machine = o.whole in
         ap (λ (z : Machine). noted_regions 1 z.actors) o.is_next
-        ∙ outcome_next openings (SameRegions openings w) w o.whole_next c f o.segments o.whole_answer rises refl (same w (hiding_whole ks x w o.is hiding) (forest_shown f w) o.segments) o.outcome
+        ∙ outcome_next (SameRegions openings w) w o.whole_next c f o.segments o.whole_answer rises refl (same w (hiding_whole ks x w o.is hiding) (forest_shown f w) o.segments) o.outcome
         ∙ sym (ap (λ (z : Machine). noted_regions 1 z.actors) o.is)
 
 -- The call

@@ -3,12 +3,9 @@ use Rattle.std.proofs.Common.{◌≡◌, ◌==◌, ℕ, zero, suc, ◌+◌, Bool
 use Rattle.std.specs.Prelude.{◌||◌, IfSome, nat_lt, not, option_and_then, option_map, slice_get}
 use Rattle.std.specs.List.{list_any}
 use Rattle.std.specs.Option.{option_map_or}
-use Rattle.vm_ids.specs.Held.{Segments}
-use Rattle.vm_model.specs.Machine.{Cache, Machine, cache_named, cache_of, is_named_by, numbered, segment_of}
-use Rattle.vm_model.specs.Outcome.{blank_cache}
 use Rattle.vm_model.proofs.Parts.Lists.{numbered-map}
 use Rattle.vm_model.proofs.Parts.Pairs.{each_by}
-use Rattle.gmi_calls.specs.Backing.{AreBacked}
+use Rattle.interface_callers.proofs.Words.{AreBacked, Cache, Machine, Segments, blank_cache, cache_named, cache_of, is_named_by, numbered, segment_of}
 use Rattle.seg_manager.specs.ReferenceMachine.{ReferenceMachine, goes, put_stored, stored_at, stored_from}
 use Rattle.seg_manager.specs.Seen.{maps, openings_in}
 use Rattle.seg_manager.specs.Tying.{AreTied, Naming, naming_at, namings, noted_of, noted_regions}

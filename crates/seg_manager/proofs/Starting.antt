@@ -2,16 +2,12 @@
 use Rattle.std.proofs.Common.{◌≡◌, ◌==◌, ℕ, ◌≤◌, Bool, true, false, cond, List, [], length, Option, Some, None, refl, sym, ap, subst, ◌∙◌, arith}
 use Rattle.std.specs.Prelude.{IfSome, option_and_then}
 use Rattle.std.specs.Option.{option_map_or}
-use Rattle.vm_ids.specs.Held.{Held, Segments, segments_of}
-use Rattle.vm_model.specs.Machine.{Cache, Machine, cache_of, live_pages, numbered, segment_of}
-use Rattle.vm_model.specs.Outcome.{blank}
-use Rattle.vm_model.specs.declared.limits.TheConstants.{LIVE_PAGES}
-use Rattle.gmi_calls.specs.Backing.{AreBacked}
-use Rattle.gmi_calls.specs.declared.gmi.Gmi.{Ghosts as GhostsOfGmi}
+use Rattle.interface_callers.proofs.Words.{AreBacked, Cache, GhostsOfGmi, Held, LIVE_PAGES, Machine, Segments, cache_of, live_pages, numbered, segment_of, segments_of}
+use Rattle.interface_callers.proofs.Blanks.{blank_bare}
 use Rattle.seg_manager.specs.Calling.{beginning}
 use Rattle.seg_manager.specs.ReferenceMachine.{goes, stored_from, used}
 use Rattle.seg_manager.specs.Seen.{known, references_seen, state_of, stored_beside, whole_of}
-use Rattle.seg_manager.specs.Tying.{AreTied, CanCall, IsBare, IsUntoldBlank, namings, noted_regions}
+use Rattle.seg_manager.specs.Tying.{AreTied, CanCall, IsBare, namings, noted_regions}
 use Rattle.seg_manager.specs.declared.manager.SegManager.{SegManager}
 use Rattle.seg_manager.specs.declared.tables.Kept.{Kept}
 use Rattle.seg_manager.specs.declared.tables.Mapped.{Mapped}
@@ -53,13 +49,6 @@ module _ (m : Machine) (none : m.caches ≡ []) where
     backed = backed_none told;
   }
 
-  bare_blank : m ≡ blank m
-  bare_blank = (λ i. record m { caches = none i }) ∙ (λ i. blank (record m { caches = sym none i }))
-
-  blank_none : (told : Option Held) → IsUntoldBlank told m
-  blank_none None = bare_blank
-  blank_none (Some h) = tt
-
   seen_none : (told : Option Segments) → references_seen m told [] ≡ known told (record { memory = m; stored = stored_beside m told; openings = λ seg. 0 })
   seen_none None = λ i. record { memory = record m { caches = (ap (used (whole_of m None []) 1) none ∙ sym none) i }; stored = λ seg. None; openings = λ seg. 0 }
   seen_none (Some h) = λ i. record {
@@ -84,7 +73,7 @@ module _ {Manager Mapper Chooser : Type 0} (G : GhostsOfGmi Manager Mapper Choos
         (subst (λ (ks : List Kept). AreTied m (segments_of told) [] ks manager.kept.room manager.regions.items) (sym kept)
         (subst (λ (rs : List Mapped). AreTied m (segments_of told) [] [] manager.kept.room rs) (sym regions)
         (tied_none m bare.caches (segments_of told) manager.kept.room bare.regions)));
-    blank = blank_none m bare.caches told;
+    blank = blank_bare told m bare.caches;
   }
 
   pub begins : state_of G manager told ≡ beginning m (segments_of told)

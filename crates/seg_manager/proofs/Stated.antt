@@ -1,7 +1,6 @@
 -- A state of segments over a machine.
 use Rattle.std.proofs.Common.{List, Option}
-use Rattle.vm_ids.specs.Held.{Segments}
-use Rattle.vm_model.specs.Machine.{Machine}
+use Rattle.interface_callers.proofs.Words.{Machine, Segments}
 use Rattle.seg_manager.specs.Seen.{references_seen}
 use Rattle.seg_manager.specs.Stepping.{State}
 use Rattle.seg_manager.specs.declared.tables.Named.{Named}

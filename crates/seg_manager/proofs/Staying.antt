@@ -1,20 +1,12 @@
 -- A command that leaves what is seen: what such a call of the manager of segments comes to.
 use Rattle.std.proofs.Common.{◌≡◌, ◌+◌, ◌≤◌, List, length, Option, Some, None, refl, sym, ap, subst, ◌∙◌, arith}
 use Rattle.std.specs.Prelude.{IfNone, Err, option_map}
-use Rattle.vm_ids.specs.Counting.{MapperCounts, Rise, no_counts}
-use Rattle.vm_ids.specs.Held.{Segments, segments_of}
-use Rattle.vm_ids.specs.declared.command.Command.{Command}
 use Rattle.vm_ids.specs.declared.command.KeepCommand.{KeepCommand}
 use Rattle.vm_ids.specs.declared.refusal.Refusal.TheVariants.{TooMany}
-use Rattle.vm_ids.specs.declared.reply.Trouble.{Trouble}
 use Rattle.vm_ids.specs.declared.reply.Trouble.TheVariants.{Refused}
 use Rattle.vm_model.specs.Answering as plain
-use Rattle.vm_model.specs.Answering.{Answer}
-use Rattle.vm_model.specs.Machine.{Machine}
-use Rattle.vm_model.specs.Outcome.{Outcome, OutcomeAt, blank}
-use Rattle.vm_model.specs.PageForest.{PageForest, forest_shown}
-use Rattle.vm_port.specs.declared.traits.mapper.Mapper.{Ghosts as GhostsOfMapper}
-use Rattle.gmi_calls.specs.declared.gmi.Gmi.{Ghosts as GhostsOfGmi}
+use Rattle.interface_callers.proofs.Words.{Answer, Command, GhostsOfGmi, GhostsOfMapper, Machine, MapperCounts, Outcome, OutcomeAt, PageForest, Rise, Segments, Trouble, blank, forest_shown, no_counts, segments_of}
+use Rattle.interface_callers.proofs.Answers.{alike_err}
 use Rattle.seg_manager.specs.Calling.{SegmentCall, call_budget}
 use Rattle.seg_manager.specs.Outcome as keep
 use Rattle.seg_manager.specs.ReferenceMachine.{ReferenceMachine}
@@ -27,7 +19,7 @@ use Rattle.seg_manager.specs.declared.tables.Named.{Named}
 use Rattle.seg_manager.proofs.Live.{live_seen}
 use Rattle.seg_manager.proofs.Pushing.{pushed_by}
 use Rattle.seg_manager.proofs.Releasing.{blank_told}
-use Rattle.seg_manager.proofs.Steps.{AreSeen, alike_err, seen_blank, step_whole}
+use Rattle.seg_manager.proofs.Steps.{AreSeen, seen_blank, step_whole}
 
 -- without bytes, where nothing is told
 pub blank_seen : (told : Option Segments) (m : Machine) (cs : List Named) → IfNone told (m ≡ blank m) → IfNone told (references_seen m told cs ≡ blank_references (references_seen m told cs))

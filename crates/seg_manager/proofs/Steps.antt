@@ -1,17 +1,11 @@
 -- A step of segments whose outcome doesn't depend on bytes, where what is held is told and where it
 -- isn't.
 use Rattle.std.proofs.Common.{◌≡◌, ℕ, ◌+◌, Bool, true, false, cond, List, [], ◌∷◌, map, Option, Some, None, refl, sym, ap, subst, ◌∙◌}
-use Rattle.std.specs.FinMap.{empty}
-use Rattle.std.specs.Prelude.{Ok, Err, option_map}
-use Rattle.vm_ids.specs.Counting.{MapperCounts}
-use Rattle.vm_ids.specs.Held.{Segments}
+use Rattle.std.specs.Prelude.{option_map}
 use Rattle.vm_ids.specs.declared.command.KeepCommand.{KeepCommand}
-use Rattle.vm_ids.specs.declared.reply.Reply.TheVariants as replies
-use Rattle.vm_ids.specs.declared.reply.Trouble.{Trouble}
-use Rattle.vm_model.specs.Answering.{Answer}
-use Rattle.vm_model.specs.Machine.{Actor, Cache, Machine}
-use Rattle.vm_model.specs.Outcome.{IsAlike, blank, blank_cache}
-use Rattle.vm_model.specs.PageForest.{PageForest}
+use Rattle.interface_callers.proofs.Words.{Actor, Answer, Cache, Machine, MapperCounts, PageForest, Segments, blank, blank_cache}
+use Rattle.interface_callers.proofs.Answers.{alike_self}
+use Rattle.interface_callers.proofs.Blanks.{no_segments}
 use Rattle.seg_manager.specs.Outcome.{Outcome}
 use Rattle.seg_manager.specs.ReferenceMachine.{ReferenceMachine, goes, let_go, used, used_at}
 use Rattle.seg_manager.specs.Seen.{openings_in, references_seen, whole_of}
@@ -19,17 +13,6 @@ use Rattle.seg_manager.specs.Stepping.{IsWholeFor, State, StepAt, blank_referenc
 use Rattle.seg_manager.specs.declared.tables.Named.{Named}
 use Rattle.seg_manager.proofs.Going.{Caches, used_same}
 use Rattle.seg_manager.proofs.Storing.{GoesToo, used_twice}
-
-pub alike_self : (a : Answer) → IsAlike a a
-alike_self (Ok (replies.Bytes bytes)) = refl
-alike_self a = refl
-
-pub alike_err : (t : Trouble) (a : Answer) → IsAlike a (Err t) → a ≡ Err t
-alike_err t (Ok (replies.Bytes bytes)) h = h
-alike_err t a h = h
-
-abbrev pub no_segments : Segments
-no_segments = record { pages = empty; denied = [] }
 
 -- the machine to which the definition leads, as it is seen then
 abbrev pub IsSeen : Option Segments → State → State → ReferenceMachine → Type 0

@@ -3,13 +3,13 @@ use Rattle.std.proofs.Common.{◌≡◌, ◌==◌, ℕ, zero, suc, ◌+◌, ◌-
 use Rattle.std.specs.Prelude.{is_some, option_and_then, option_map, slice_get}
 use Rattle.std.specs.Option.{option_map_or}
 use Rattle.std.proofs.lemmas.Bool.{eq-eqb, eqb-true}
-use Rattle.vm_model.specs.Machine.{Cache, Machine, cache_named, cache_of, is_named_by, segment_of}
 use Rattle.vm_model.proofs.Parts.ListParts.{at_some}
+use Rattle.interface_callers.proofs.Words.{Cache, Machine, cache_named, cache_of, is_named_by, segment_of}
+use Rattle.interface_callers.proofs.Naming.{has_number}
 use Rattle.seg_manager.specs.ReferenceMachine.{ReferenceMachine, Stored, goes, let_go, put_stored, stored_at, stored_from, used, used_at}
 use Rattle.seg_manager.proofs.Entries.{fun_same}
 use Rattle.seg_manager.proofs.Going.{Caches, get_used}
 use Rattle.seg_manager.proofs.Naming.{none_goes, put_other, put_own}
-use Rattle.seg_manager.proofs.Pushed.{has_number}
 
 -- a segment names one of these caches at most
 abbrev pub AreApart : Caches → Type 0

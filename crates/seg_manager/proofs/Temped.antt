@@ -1,34 +1,15 @@
 -- A temporary cache is made: what that call of the manager of segments comes to.
-use Rattle.std.proofs.Common.{◌≡◌, ◌⊎◌, inl, inr, ℕ, ◌+◌, ◌^◌, ◌<◌, ◌≤◌, Bool, true, false, List, [], ◌∷◌, ◌++◌, length, map, take, Option, Some, None, refl, sym, ap, subst, ◌∙◌, arith}
-use Rattle.std.specs.Prelude.{◌||◌, IfNone, IfSome, Ok, Err, Result, nat_le, nat_lt, option_map}
-use Rattle.std.proofs.lemmas.Bool.Decides.{nat_tests}
-use Rattle.std.proofs.lemmas.List.{drop-map, length-append, length-map, map-append}
-use Rattle.vm_ids.specs.Counting.{MapperCounts, counts_sum}
-use Rattle.vm_ids.specs.Held.{Segments, segments_of}
+use Rattle.std.proofs.Common.{◌≡◌, ◌⊎◌, inl, inr, ℕ, ◌+◌, ◌^◌, ◌≤◌, List, [], ◌∷◌, length, take, Option, Some, None, refl, sym, ap, subst, ◌∙◌, arith}
+use Rattle.std.specs.Prelude.{IfNone, IfSome, Ok, Err, Result}
+use Rattle.std.proofs.lemmas.List.{drop-map, length-append, length-map}
 use Rattle.vm_ids.specs.declared.command.Command.TheVariants.{Destroy, MakeTemp}
 use Rattle.vm_ids.specs.declared.command.KeepCommand.TheVariants as commands
-use Rattle.vm_ids.specs.declared.numbers.CacheId.{CacheId}
-use Rattle.vm_ids.specs.declared.refusal.Refusal.{Refusal}
 use Rattle.vm_ids.specs.declared.refusal.Refusal.TheVariants as refusals
-use Rattle.vm_ids.specs.declared.reply.FaultAt.{FaultAt}
-use Rattle.vm_ids.specs.declared.reply.Reply.{Reply}
 use Rattle.vm_ids.specs.declared.reply.Reply.TheVariants as replies
-use Rattle.vm_ids.specs.declared.reply.Trouble.{Trouble}
 use Rattle.vm_ids.specs.declared.reply.Trouble.TheVariants as troubles
-use Rattle.vm_model.specs.Answering as plain
-use Rattle.vm_model.specs.Answering.{Answer, answer_by, temporary}
-use Rattle.vm_model.specs.Machine.{Cache, Machine, Page, live_pages}
-use Rattle.vm_model.specs.Outcome as plain_outcome
-use Rattle.vm_model.specs.Outcome.{IsAlike, OutcomeAt, blank, blank_cache, seen_at}
-use Rattle.vm_model.specs.PageForest.{PageForest}
-use Rattle.vm_model.specs.declared.limits.TheConstants.{LIVE_PAGES, MOST_MADE}
-use Rattle.vm_model.proofs.Outcomes.Rows.{each_unless}
-use Rattle.vm_port.specs.declared.traits.mapper.Mapper.{Ghosts as GhostsOfMapper}
-use Rattle.gmi_calls.specs.Backing.{AreBacked}
-use Rattle.gmi_calls.specs.Calling.{MapperCall}
-use Rattle.gmi_calls.specs.Managing.{meanings_of}
-use Rattle.gmi_calls.specs.declared.gmi.Gmi.{Ghosts as GhostsOfGmi}
 use Rattle.gmi_calls.proofs.Rising.{rise_then}
+use Rattle.interface_callers.proofs.Words.{Answer, AreBacked, CacheId, FaultAt, GhostsOfGmi, GhostsOfMapper, Machine, MapperCall, MapperCounts, OutcomeAt, Page, PageForest, Segments, Trouble, answer_by, blank, counts_sum, meanings_of, seen_at, segments_of, temporary}
+use Rattle.interface_callers.proofs.Making.{IsMade, few_caches, fresh_cache, made_at, seen_made, unmade_at}
 use Rattle.seg_manager.specs.Answering.{make_temp_of, reply_cache}
 use Rattle.seg_manager.specs.Calling.{FailsBelow, HasNoRoomWithout, SegmentCall, Serves}
 use Rattle.seg_manager.specs.Keeping.{AreBehind}
@@ -40,7 +21,7 @@ use Rattle.seg_manager.specs.Tying.{AreTied, CanCall}
 use Rattle.seg_manager.specs.declared.manager.SegManager.{SegManager}
 use Rattle.seg_manager.specs.declared.tables.Kept.{Kept}
 use Rattle.seg_manager.specs.declared.tables.Named.{Named}
-use Rattle.seg_manager.proofs.Calls.{able_after, backed_next, blank_twice, call_is, denied_after, forest, made_after, told_after}
+use Rattle.seg_manager.proofs.Calls.{able_after, backed_next, call_is, denied_after, forest, made_after, told_after}
 use Rattle.seg_manager.proofs.Failing.{IsFailing, failing, temp_none}
 use Rattle.seg_manager.proofs.Lacking.{IsLacking, temp_lacks}
 use Rattle.seg_manager.proofs.Leaving.{credit_few, seen_length}
@@ -50,73 +31,10 @@ use Rattle.seg_manager.proofs.Pushed.{Told}
 use Rattle.seg_manager.proofs.Pushing.{HasPages, pages_of, pushed_by, pushes_call, pushes_then}
 use Rattle.seg_manager.proofs.Releasing.{blank_told}
 use Rattle.seg_manager.proofs.Staying.{Stays, refused_again, stays_by, stays_call}
-use Rattle.seg_manager.proofs.Steps.{AreSeen, alike_err, step_whole}
+use Rattle.seg_manager.proofs.Steps.{AreSeen, step_whole}
 use Rattle.seg_manager.proofs.Temping.{temp_leaves}
 use Rattle.seg_manager.proofs.Temporary.{nameless, seen_temp, tied_temp}
 use Rattle.seg_manager.proofs.Tried.{can_same, seen_same}
-
--- What the manager below makes
-
--- a cache was made, of zero pages
-pub record IsTempMade (told : Option Segments) (m : Machine) (pages : ℕ) (a : Answer) (n : Machine) : Type 0 where
-  pub answer : a ≡ Ok (replies.Cache (record { 0 = number_next m }))
-  pub next : n ≡ seen_at told (appended m (temporary m.page_bytes pages))
-  pub few : length m.caches < MOST_MADE
-
-few_left : (k : ℕ) (b : Bool) → (nat_le MOST_MADE k || b) ≡ false → k < MOST_MADE
-few_left k b e = by (nat_le MOST_MADE k) refl e
-  where
-    by : (c : Bool) → nat_le MOST_MADE k ≡ c → (c || b) ≡ false → k < MOST_MADE
-    by true is e = absurd (cc e)
-    by false is e = grind (arith, nat_tests)
-
-made_row : (told : Segments) (m : Machine) (pages : ℕ) (r : Reply) (n : Machine) → plain.make_temp_of m pages ≡ record { answer = Ok r; next = n } → IsTempMade (Some told) m pages (Ok r) n
-unfolding plain.make_temp_of
-made_row told m pages r n =
-    each_unless (λ x. x ≡ record { answer = Ok r; next = n } → IsTempMade (Some told) m pages (Ok r) n) _ _ m _
-    (λ e. absurd (let wrong : Err (troubles.Refused refusals.TooMany) ≡ Ok r = ap (λ (x : plain.Answered). x.answer) e in cc wrong))
-    (λ room e. record {
-      answer = sym (ap (λ (x : plain.Answered). x.answer) e);
-      next = sym (ap (λ (x : plain.Answered). x.next) e);
-      few = few_left (length m.caches) (nat_lt LIVE_PAGES (live_pages m + pages)) room;
-    })
-
--- without bytes it is the same cache
-blank_appended : (w : Machine) (c : Cache) → blank (appended w c) ≡ blank (appended (blank w) c)
-blank_appended w c = λ i. record w {
-  caches = (map-append (option_map blank_cache) w.caches (Some c ∷ [])
-      ∙ ap (λ xs. xs ++ Some (blank_cache c) ∷ []) (sym (ap (λ (x : Machine). x.caches) (blank_twice w)))
-      ∙ sym (map-append (option_map blank_cache) (blank w).caches (Some c ∷ []))) i;
-}
-
-made_alike : (w : Machine) (f : Option PageForest) (h : Segments) (pages : ℕ) (a : Answer) (r : Reply) (x : Machine) (rises : MapperCounts) → plain_outcome.Outcome w f (MakeTemp pages) h a x rises → IsAlike a (Ok r) → IsTempMade (Some h) w pages (Ok r) x
-made_alike w f h pages (Ok s) r x rises o alike =
-    let made = made_row h w pages s x o in
-    subst (λ (b : Answer). IsTempMade (Some h) w pages b x) (made.answer ∙ subst (λ (b : Answer). IsAlike b (Ok r)) made.answer alike) made
-made_alike w f h pages (Err t) r x rises o alike = absurd (cc alike)
-
-pub temp_made : (told : Option Segments) (m n : Machine) (f : Option PageForest) (pages : ℕ) (r : Reply) (rises : MapperCounts) → OutcomeAt told m f (MakeTemp pages) (Ok r) n rises → IsTempMade told m pages (Ok r) n
-temp_made (Some h) m n f pages r rises o = made_row h m pages r n o
-temp_made None m n f pages r rises o =
-    let w : Machine = o.whole in
-    let made = made_alike w f o.segments pages o.whole_answer r o.whole_next rises o.outcome o.alike in
-    let many : length w.caches ≡ length (blank w).caches = sym (length-map w.caches (option_map blank_cache)) in
-    subst (λ (x : Machine). IsTempMade None x pages (Ok r) n) (sym o.is) (record {
-      answer = made.answer ∙ ap (λ (k : ℕ). Ok (replies.Cache (record { 0 = k + 1 }))) many;
-      next = o.is_next ∙ ap blank made.next ∙ blank_appended w (temporary w.page_bytes pages);
-      few = omega (arith, made.few, many);
-    })
-
--- no segment names it
-pub as_appended : (told : Option Segments) (m n : Machine) (c : List Page) → IfNone told (m ≡ blank m) → n ≡ seen_at told (appended m (nameless c)) → (ps : List Page) × (n ≡ appended m (nameless ps))
-as_appended (Some h) m n c bare e = (c, e)
-as_appended None m n c bare e = (
-  map (λ (p : Page). let x : Page = [] in x) c,
-  e ∙ (λ i. record m {
-    caches = (map-append (option_map blank_cache) m.caches (Some (nameless c) ∷ [])
-        ∙ ap (λ xs. xs ++ Some (blank_cache (nameless c)) ∷ []) (sym (ap (λ (x : Machine). x.caches) bare))) i;
-  }),
-)
 
 -- The rows of the definition
 
@@ -133,26 +51,14 @@ seen_bytes None m cs = refl
 seen_bytes (Some h) m cs = refl
 
 -- which trouble it is
-only_many : (m : Machine) (pages : ℕ) (r : Refusal) (n : Machine) → plain.make_temp_of m pages ≡ record { answer = Err (troubles.Refused r); next = n } → r ≡ refusals.TooMany
-unfolding plain.make_temp_of
-only_many m pages r n =
-    each_unless (λ x. x ≡ record { answer = Err (troubles.Refused r); next = n } → r ≡ refusals.TooMany) _ _ m _
-    (λ e. (let both : Err (troubles.Refused refusals.TooMany) ≡ Err (troubles.Refused r) = ap (λ (x : plain.Answered). x.answer) e in let is : refusals.TooMany ≡ r = cc both in sym is))
-    (λ room e. absurd (let wrong : Ok (replies.Cache (record { 0 = length m.caches + 1 })) ≡ Err (troubles.Refused r) = ap (λ (x : plain.Answered). x.answer) e in cc wrong))
-
 abbrev IsTempTrouble : Trouble → Type 0
 IsTempTrouble t = (t ≡ troubles.Refused refusals.TooMany) ⊎ (t ≡ troubles.Memory)
 
-which : (m n : Machine) (f : Option PageForest) (h : Segments) (pages : ℕ) (t : Trouble) (rises : MapperCounts) → plain_outcome.Outcome m f (MakeTemp pages) h (Err t) n rises → IsTempTrouble t
-which m n f h pages (troubles.Refused r) rises o = inl (ap (λ (x : Refusal). troubles.Refused x) (only_many m pages r n o))
-which m n f h pages (troubles.Mapper at) rises o = absurd o.2
-which m n f h pages troubles.Memory rises o = inr refl
-
 which_at : (told : Option Segments) (m n : Machine) (f : Option PageForest) (pages : ℕ) (t : Trouble) (rises : MapperCounts) → OutcomeAt told m f (MakeTemp pages) (Err t) n rises → IsTempTrouble t
-which_at (Some h) m n f pages t rises o = which m n f h pages t rises o
-which_at None m n f pages t rises o =
-    which o.whole o.whole_next f o.segments pages t rises
-    (subst (λ (a : Answer). plain_outcome.Outcome o.whole f (MakeTemp pages) o.segments a o.whole_next rises) (alike_err t o.whole_answer o.alike) o.outcome)
+which_at told m n f pages t rises o = elim (unmade_at told m f pages t n rises o).why [
+  | inl e ↦ inr (let both : Err t ≡ Err troubles.Memory = e.0 in cc both)
+  | inr e ↦ inl (let both : Err t ≡ Err (troubles.Refused refusals.TooMany) = e.0 in cc both)
+]
 
 module _ {Manager X Chooser : Type 0} (M : GhostsOfMapper X) (G : GhostsOfGmi Manager X Chooser) (before : X) (old : SegManager Manager) (pages : ℕ) (can : CanCall G old (M.held before) (M.page_bytes before)) where
   pub temp_credit : G.made old.gmi ≤ 2 ^ 61 → credit M G old before ≤ 2 ^ 61 + 2 ^ 32
@@ -334,14 +240,17 @@ module _ {Manager X Chooser : Type 0} (M : GhostsOfMapper X) (G : GhostsOfGmi Ma
       abbrev temp_rises : MapperCounts
       temp_rises = (call_is M G by gmi middle after (MakeTemp pages) (Ok (replies.Cache cache)) thins.can call).rises
 
-      made : IsTempMade told_then m pages (Ok (replies.Cache cache)) n
-      made = temp_made told_then m n (forest M G by gmi middle after (MakeTemp pages) (Ok (replies.Cache cache)) thins.can call) pages (replies.Cache cache) temp_rises (call_is M G by gmi middle after (MakeTemp pages) (Ok (replies.Cache cache)) thins.can call).is.outcome
+      made : IsMade told_then m pages (Ok (replies.Cache cache)) n
+      made = made_at told_then m (forest M G by gmi middle after (MakeTemp pages) (Ok (replies.Cache cache)) thins.can call) pages (replies.Cache cache) n temp_rises (call_is M G by gmi middle after (MakeTemp pages) (Ok (replies.Cache cache)) thins.can call).is.outcome
 
       abbrev zeros : List Page
       zeros = (temporary m.page_bytes pages).pages
 
-      more : (ps : List Page) × (n ≡ appended m (nameless ps))
-      more = as_appended told_then m n zeros (bare told_then (told_after M G by gmi middle after (MakeTemp pages) (Ok (replies.Cache cache)) thins.can call)) made.next
+      abbrev pages_then : List Page
+      pages_then = (fresh_cache told_then m.page_bytes pages).pages
+
+      seen_then : n ≡ seen_at told_then (appended m (nameless zeros))
+      seen_then = seen_made told_then m n pages (bare told_then (told_after M G by gmi middle after (MakeTemp pages) (Ok (replies.Cache cache)) thins.can call)) made.next
         where
           bare : (now : Option Segments) → Told m told now → IfNone now (m ≡ blank m)
           bare None f = by_told told (blank_told (M.held middle) m thins.can.blank) f
@@ -379,7 +288,7 @@ module _ {Manager X Chooser : Type 0} (M : GhostsOfMapper X) (G : GhostsOfGmi Ma
                 (λ h. (number_next m, gives h))
                 (subst (λ (r : ReferenceMachine). AreSeen told_then (state_of G old (M.held before)) (state_of G final (M.held after)) r (add_cache r (number_next m) (temporary m.page_bytes pages))) thins.seen
                 (seen_temp m zeros told told_then n by.caches.items by.kept.items by.kept.room by.regions.items thins.can.tied
-                (told_after M G by gmi middle after (MakeTemp pages) (Ok (replies.Cache cache)) thins.can call) made.next (blank_told (M.held middle) m thins.can.blank)
+                (told_after M G by gmi middle after (MakeTemp pages) (Ok (replies.Cache cache)) thins.can call) seen_then (blank_told (M.held middle) m thins.can.blank)
                 (state_of G old (M.held before)) (state_of G final (M.held after)) (sym thins.seen) refl));
             pushed = pushed_by (segments_of (M.held before)) told_then (machine_at M G old before) old.caches.items all_pushed.pushes (counts_sum thins.rises temp_rises) all_pushed.few all_pushed.rule (state_of G old (M.held before)) (state_of G final (M.held after)) refl refl refl;
             live = live_seen M G final after can_then;
@@ -390,16 +299,16 @@ module _ {Manager X Chooser : Type 0} (M : GhostsOfMapper X) (G : GhostsOfGmi Ma
       }
         where
           one_more : length n.caches ≡ length m.caches + 1
-          one_more = omega (arith, ap (λ (x : Machine). length x.caches) more.1, length-append m.caches (Some (nameless more.0) ∷ []))
+          one_more = omega (arith, ap (λ (x : Machine). length x.caches) made.next, length-append m.caches (Some (nameless pages_then) ∷ []))
 
           tied : AreTied n told_then by.caches.items by.kept.items by.kept.room by.regions.items
           tied =
-              subst (λ (x : Machine). AreTied x told_then by.caches.items by.kept.items by.kept.room by.regions.items) (sym more.1)
-              (tied_temp m more.0 told told_then by.caches.items by.kept.items by.kept.room by.regions.items thins.can.tied
-              (subst (λ (x : Machine). IfSome told_then (λ t. AreBacked x.caches t)) more.1 (backed_next M G by gmi middle after (MakeTemp pages) (Ok (replies.Cache cache)) thins.can call)))
+              subst (λ (x : Machine). AreTied x told_then by.caches.items by.kept.items by.kept.room by.regions.items) (sym made.next)
+              (tied_temp m pages_then told told_then by.caches.items by.kept.items by.kept.room by.regions.items thins.can.tied
+              (subst (λ (x : Machine). IfSome told_then (λ t. AreBacked x.caches t)) made.next (backed_next M G by gmi middle after (MakeTemp pages) (Ok (replies.Cache cache)) thins.can call)))
 
           can_then : CanCall G final (M.held after) (M.page_bytes after)
-          can_then = able_after M G by gmi middle after (MakeTemp pages) (Ok (replies.Cache cache)) thins.can call by (omega (arith, one_more, made.few)) tied
+          can_then = able_after M G by gmi middle after (MakeTemp pages) (Ok (replies.Cache cache)) thins.can call by (omega (arith, one_more, few_caches m pages made.room)) tied
 
   -- What the tries came to
   pub temp_served : (result : Result CacheId Trouble) (after : X) (new : SegManager Manager) → IsTried M G (MakeTemp pages) before old result after new → Serves M G before old (MakeTemp pages) (answer_by replies.Cache result) after new

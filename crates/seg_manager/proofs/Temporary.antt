@@ -6,12 +6,9 @@ use Rattle.std.specs.Option.{option_map_or}
 use Rattle.std.proofs.lemmas.Bool.{cases_eq}
 use Rattle.std.proofs.lemmas.Bool.Decides.{nat_tests}
 use Rattle.std.proofs.lemmas.List.{append-nil}
-use Rattle.vm_ids.specs.Held.{Segments}
-use Rattle.vm_model.specs.Machine.{Cache, Machine, Page, cache_named, cache_of, is_named_by, segment_of}
-use Rattle.vm_model.specs.Outcome.{blank, blank_cache, seen_at}
 use Rattle.vm_model.proofs.Parts.ListParts.{numbered_past, numbered_push, numbered_pushed}
 use Rattle.vm_model.proofs.Parts.Pairs.{each_by}
-use Rattle.gmi_calls.specs.Backing.{AreBacked}
+use Rattle.interface_callers.proofs.Words.{AreBacked, Cache, Machine, Page, Segments, blank, blank_cache, cache_named, cache_of, is_named_by, seen_at, segment_of}
 use Rattle.seg_manager.specs.ReferenceMachine.{ReferenceMachine, add_cache, goes, stored_from, used, with_cache}
 use Rattle.seg_manager.specs.Seen.{is_kept, openings_in, references_seen, whole_of}
 use Rattle.seg_manager.specs.Stepping.{State, blank_references}

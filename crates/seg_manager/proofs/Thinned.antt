@@ -3,25 +3,16 @@ use Rattle.std.proofs.Common.{◌≡◌, ◌⊎◌, inl, inr, ℕ, zero, suc, �
 use Rattle.std.specs.Prelude.{IfSome, Ok, Err, slice_index_or}
 use Rattle.std.specs.List.{AllByRecursion}
 use Rattle.std.proofs.lemmas.List.{drop-map, length-drop, length-set}
-use Rattle.vm_ids.specs.Counting.{counts_sum, no_counts}
-use Rattle.vm_ids.specs.Held.{Segments, segments_of}
-use Rattle.vm_ids.specs.declared.command.Command.{Command}
 use Rattle.vm_ids.specs.declared.command.Command.TheVariants as commands
 use Rattle.vm_ids.specs.declared.reply.Reply.TheVariants as replies
-use Rattle.vm_ids.specs.declared.reply.Trouble.{Trouble}
 use Rattle.vm_ids.specs.declared.reply.Trouble.TheVariants as troubles
-use Rattle.vm_model.specs.Answering.{Answer}
-use Rattle.vm_model.specs.Machine.{Cache, Machine, cache_of, live_pages, pages_in}
-use Rattle.vm_model.specs.Outcome.{OutcomeAt}
 use Rattle.vm_model.specs.Synchronised.{ArePushed, IsSynchronised}
-use Rattle.vm_model.specs.declared.limits.TheConstants.{MOST_MADE}
 use Rattle.vm_model.proofs.Parts.Lists.{numbered_place, sum_by_swap}
-use Rattle.vm_port.specs.declared.traits.mapper.Mapper.{Ghosts as GhostsOfMapper}
-use Rattle.gmi_calls.specs.Backing.{AreBacked}
-use Rattle.gmi_calls.specs.Calling.{MapperCall, RaisesMade}
-use Rattle.gmi_calls.specs.Managing.{meanings_of}
-use Rattle.gmi_calls.specs.declared.gmi.Gmi.{Ghosts as GhostsOfGmi}
 use Rattle.gmi_calls.proofs.Rising.{rise_none, rise_then}
+use Rattle.interface_callers.proofs.Words.{Answer, AreBacked, Cache, Command, GhostsOfGmi, GhostsOfMapper, Machine, MapperCall, MOST_MADE, OutcomeAt, RaisesMade, Segments, Trouble, cache_of, counts_sum, live_pages, meanings_of, no_counts, pages_in, segments_of}
+use Rattle.interface_callers.proofs.Temporary.{IsFault, destroy_answered}
+use Rattle.interface_callers.proofs.Rows.{IsDone}
+use Rattle.interface_callers.proofs.Blanks.{without}
 use Rattle.seg_manager.specs.Keeping.{without as but_without}
 use Rattle.seg_manager.specs.Seen.{kept_segments, references_seen}
 use Rattle.seg_manager.specs.Tying.{AreTied, CanCall}
@@ -30,9 +21,8 @@ use Rattle.seg_manager.specs.declared.manager.SegManager.{SegManager}
 use Rattle.seg_manager.specs.declared.tables.Kept.{Kept}
 use Rattle.seg_manager.specs.declared.tables.Mapped.{Mapped}
 use Rattle.seg_manager.specs.declared.tables.Named.{Named}
-use Rattle.seg_manager.proofs.Answered.{IsFault, IsGone, destroy_answered}
 use Rattle.seg_manager.proofs.Calls.{able_after, backed_before, backed_next, call_is, denied_after, forest, made_after, seen_after, told_after}
-use Rattle.seg_manager.proofs.Destroyed.{IsPushed, first_free, left, seen_without, there, tied_without, without, without_first}
+use Rattle.seg_manager.proofs.Destroyed.{IsPushed, first_free, left, seen_without, there, tied_without, without_first}
 use Rattle.seg_manager.proofs.Entries.{filter_few, is_other, still_all}
 use Rattle.seg_manager.proofs.Lesser.{take_more, without_both, without_none}
 use Rattle.seg_manager.proofs.Pushed.{all_pushed}
@@ -142,7 +132,7 @@ module _ {Manager X Chooser : Type 0} (M : GhostsOfMapper X) (G : GhostsOfGmi Ma
     abbrev it : (c : Cache) × (cache_of m first.cache.0 ≡ Some c) × (c.segment ≡ Some first.seg.0)
     it = there m was caches first rest room regions tied
 
-    pub answered : IsGone m first.cache.0 a n ⊎ IsFault m a n (call_is M G manager gmi before after (commands.Destroy first.cache) a can call).rises
+    pub answered : IsDone a n (without m first.cache.0) ⊎ IsFault m first.cache.0 a n (call_is M G manager gmi before after (commands.Destroy first.cache) a can call).rises
     answered =
         let is = call_is M G manager gmi before after (commands.Destroy first.cache) a can call in
         destroy_answered now m (forest M G manager gmi before after (commands.Destroy first.cache) a can call) first.cache it.0 it.1 (first_free m was caches first rest room regions tied) a n is.rises is.is.outcome
@@ -151,7 +141,7 @@ module _ {Manager X Chooser : Type 0} (M : GhostsOfMapper X) (G : GhostsOfGmi Ma
     pushed_then None B p = tt
     pushed_then (Some u) B p = all_pushed m u first.cache.0 first.seg.0 it.0 B it.1 it.2 p
 
-    module _ (g : IsGone m first.cache.0 a n) (later : SegManager Manager) (limit : later.limit ≡ manager.limit) (same : later.regions ≡ manager.regions) (kept : later.kept.items ≡ rest) (fits : later.kept.room ≡ room)
+    module _ (g : IsDone a n (without m first.cache.0)) (later : SegManager Manager) (limit : later.limit ≡ manager.limit) (same : later.regions ≡ manager.regions) (kept : later.kept.items ≡ rest) (fits : later.kept.room ≡ room)
         (left_is : later.caches.items ≡ left m was caches first rest room regions tied) (roomy : manager.caches.spare ≤ later.caches.spare) where
       pushed : IsPushed m was caches first rest room regions tied now
       pushed =
@@ -200,7 +190,7 @@ module _ {Manager X Chooser : Type 0} (M : GhostsOfMapper X) (G : GhostsOfGmi Ma
         pushed = pushes_call M G manager gmi before after (commands.Destroy first.cache) a can call;
       }
 
-    pub fails_one : (g : IsFault m a n (call_is M G manager gmi before after (commands.Destroy first.cache) a can call).rises) → Fails M G before manager (troubles.Mapper g.at) after (record manager { gmi = gmi })
+    pub fails_one : (g : IsFault m first.cache.0 a n (call_is M G manager gmi before after (commands.Destroy first.cache) a can call).rises) → Fails M G before manager (troubles.Mapper g.at) after (record manager { gmi = gmi })
     fails_one g = record {
       can = able_after M G manager gmi before after (commands.Destroy first.cache) a can call manager
           (omega (arith, ap (λ (x : Machine). length x.caches) g.same, can.few))
@@ -226,7 +216,7 @@ module _ {Manager X Chooser : Type 0} (M : GhostsOfMapper X) (G : GhostsOfGmi Ma
     }
 
     -- by what the destroy answered
-    pub gone_first : a ≡ Ok replies.Done → IsGone m first.cache.0 a n
+    pub gone_first : a ≡ Ok replies.Done → IsDone a n (without m first.cache.0)
     gone_first e = elim answered [
       | inl g ↦ g
       | inr g ↦ absurd (let wrong : Err (troubles.Mapper g.at) ≡ Ok replies.Done = sym g.is ∙ e in cc wrong)

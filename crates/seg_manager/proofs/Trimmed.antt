@@ -1,11 +1,8 @@
 -- Caches that are kept are destroyed while more are kept than may be.
 use Rattle.std.proofs.Common.{◌≡◌, ◌⊎◌, inl, inr, ℕ, zero, suc, ◌-◌, ◌<◌, ◌≤◌, List, [], ◌∷◌, length, drop, take, refl, sym, ap, ◌∙◌, arith}
 use Rattle.std.proofs.lemmas.List.{drop-map, length-drop, length-map}
-use Rattle.vm_ids.specs.Counting.{MapperCounts, Rise, Rose, counts_sum}
-use Rattle.vm_ids.specs.declared.reply.Trouble.{Trouble}
-use Rattle.vm_port.specs.declared.traits.mapper.Mapper.{Ghosts as GhostsOfMapper}
-use Rattle.gmi_calls.specs.declared.gmi.Gmi.{Ghosts as GhostsOfGmi}
 use Rattle.gmi_calls.proofs.Rising.{rise_then}
+use Rattle.interface_callers.proofs.Words.{GhostsOfGmi, GhostsOfMapper, MapperCounts, Rise, Rose, Trouble, counts_sum}
 use Rattle.seg_manager.specs.Seen.{kept_segments}
 use Rattle.seg_manager.specs.Thinning.{Fails, Thins, Trims, credit}
 use Rattle.seg_manager.specs.Tying.{CanCall}

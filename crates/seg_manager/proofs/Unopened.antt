@@ -5,21 +5,13 @@ use Rattle.std.specs.FinMap.{get}
 use Rattle.std.specs.List.{AllByRecursion, list_any, position_from}
 use Rattle.std.specs.Option.{option_map_or}
 use Rattle.std.proofs.lemmas.Bool.{eqb-true, ne_eqb}
-use Rattle.vm_ids.specs.Counting.{MapperCounts}
-use Rattle.vm_ids.specs.Held.{Segments}
 use Rattle.vm_ids.specs.declared.command.Command.TheVariants.{OpenSegment}
 use Rattle.vm_ids.specs.declared.command.KeepCommand.TheVariants as commands
-use Rattle.vm_ids.specs.declared.numbers.CacheId.{CacheId}
-use Rattle.vm_ids.specs.declared.numbers.SegId.{SegId}
 use Rattle.vm_ids.specs.declared.refusal.Refusal.TheVariants as refusals
-use Rattle.vm_ids.specs.declared.reply.FaultAt.{FaultAt}
 use Rattle.vm_ids.specs.declared.reply.Reply.TheVariants as replies
-use Rattle.vm_ids.specs.declared.reply.Trouble.{Trouble}
 use Rattle.vm_ids.specs.declared.reply.Trouble.TheVariants as troubles
-use Rattle.vm_model.specs.Answering.{opened}
-use Rattle.vm_model.specs.Machine.{Cache, Machine, Page, cache_named, cache_of, is_named_by, segment_of}
-use Rattle.vm_model.specs.Outcome.{blank}
 use Rattle.vm_model.proofs.Parts.ListParts.{at_some}
+use Rattle.interface_callers.proofs.Words.{Cache, CacheId, FaultAt, Machine, MapperCounts, Page, SegId, Segments, Trouble, blank, cache_named, cache_of, is_named_by, opened, segment_of}
 use Rattle.seg_manager.specs.Answering.{Answered, open_anew, open_by, open_of, refuse}
 use Rattle.seg_manager.specs.Inner.{first_of}
 use Rattle.seg_manager.specs.Keeping.{AreBehind, IsAcquired}

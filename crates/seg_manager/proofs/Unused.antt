@@ -7,13 +7,10 @@ use Rattle.std.proofs.lemmas.Bool.{cases_eq, eq-eqb, eqb-true, ne_eqb}
 use Rattle.std.proofs.lemmas.Bool.Decides.{nat_tests}
 use Rattle.std.proofs.lemmas.List.{append-nil}
 use Rattle.std.proofs.lemmas.List.Folds.{list_any-append}
-use Rattle.vm_ids.specs.Held.{Segments}
-use Rattle.vm_ids.specs.declared.numbers.CacheId.{CacheId}
-use Rattle.vm_model.specs.Answering.{is_mapped, maps_in}
-use Rattle.vm_model.specs.Machine.{Actor, Cache, Machine, Region, cache_of, segment_of}
 use Rattle.vm_model.proofs.Parts.Naming.{segment_cache}
 use Rattle.vm_model.proofs.Parts.Lists.{numbered_place}
-use Rattle.vm_model.proofs.Parts.Pairs.{each_by}
+use Rattle.vm_model.proofs.Parts.Pairs.{each_append, each_by}
+use Rattle.interface_callers.proofs.Words.{Actor, Cache, CacheId, Machine, Region, Segments, cache_of, is_mapped, maps_in, segment_of}
 use Rattle.seg_manager.specs.Inner.{kept_by, named_with, unused_in}
 use Rattle.seg_manager.specs.ReferenceMachine.{goes}
 use Rattle.seg_manager.specs.Keeping.{left_one}
@@ -228,10 +225,6 @@ pub record KeepsMore (ks : List Kept) (more : List Kept) (now : ℕ → Bool) (m
   pub once : AreOnce (ks ++ more)
   pub named : AllByRecursion (λ (k : Kept). segment_of m k.cache.0 ≡ Some k.seg.0) (ks ++ more)
 
-all_append : {A : Type 0} (P : A → Type 0) (xs ys : List A) → AllByRecursion P xs → AllByRecursion P ys → AllByRecursion P (xs ++ ys)
-all_append P [] ys h g = g
-all_append P (x ∷ xs) ys h g = (h.0, all_append P xs ys h.1 g)
-
 pub keeps_more : (m : Machine) (cs : List Named) (rs : List Mapped) → map naming_of cs ≡ namings 1 m.caches
     → ((i j seg : ℕ) → segment_of m i ≡ Some seg → segment_of m j ≡ Some seg → i ≡ j)
     → (cache : CacheId) (ks : List Kept) (was : ℕ → Bool) → ((q : ℕ) → is_kept ks q ≡ was q) → AreOnce ks → AllByRecursion (λ (k : Kept). segment_of m k.cache.0 ≡ Some k.seg.0) ks
@@ -258,7 +251,7 @@ keeps_more m cs rs noted apart cache ks was kept once named free same = by (is_u
             | inr other ↦ (λ i. is_kept ks q || (ne_eqb f.kept.cache.0 q (λ s. other (sym s ∙ number)) i || false)) ∙ or_none (is_kept ks q) ∙ kept q ∙ sym (same q other)
           ];
           once = once_more ks f.kept once (ap (is_kept ks) number ∙ kept cache.0 ∙ free);
-          named = all_append (λ (k : Kept). segment_of m k.cache.0 ≡ Some k.seg.0) ks (f.kept ∷ []) named (ap (segment_of m) number ∙ f.of ∙ ap (λ (s : ℕ). Some s) (sym f.named), tt);
+          named = each_append (λ (k : Kept). segment_of m k.cache.0 ≡ Some k.seg.0) ks (f.kept ∷ []) named (ap (segment_of m) number ∙ f.of ∙ ap (λ (s : ℕ). Some s) (sym f.named), tt);
         })
 
 -- the segment of what is found unused

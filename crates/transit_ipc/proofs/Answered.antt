@@ -1,12 +1,8 @@
 -- A port is made, as a call of the ports: the manager isn't called.
 use Rattle.std.proofs.Common.{◌≡◌, ℕ, refl, sym, ap, subst, arith}
-use Rattle.vm_ids.specs.Counting.{no_counts}
-use Rattle.vm_ids.specs.Held.{segments_of}
 use Rattle.vm_ids.specs.declared.command.PortCommand.TheVariants as commands
-use Rattle.vm_model.specs.Answering.{Answer}
-use Rattle.vm_port.specs.declared.traits.mapper.Mapper.{Ghosts as GhostsOfMapper}
-use Rattle.gmi_calls.specs.declared.gmi.Gmi.{Ghosts as GhostsOfGmi}
 use Rattle.gmi_calls.proofs.Rising.{rise_none}
+use Rattle.interface_callers.proofs.Words.{Answer, GhostsOfGmi, GhostsOfMapper, no_counts, segments_of}
 use Rattle.transit_ipc.specs.Calling.{IsMade, PortCall}
 use Rattle.transit_ipc.specs.Stepping.{StepAt}
 use Rattle.transit_ipc.specs.Tying.{AreAble, CanCall}

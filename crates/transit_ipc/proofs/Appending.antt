@@ -8,9 +8,11 @@ use Rattle.std.proofs.lemmas.Bool.{cases_eq}
 use Rattle.std.proofs.lemmas.Bool.Decides.{nat_tests}
 use Rattle.std.proofs.lemmas.List.{length-append, length-set, map-append, map-set}
 use Rattle.std.proofs.lemmas.List.Folds.{list_any-append}
-use Rattle.vm_model.specs.Machine.{Cache, Machine, cache_of}
 use Rattle.vm_model.proofs.Parts.ListParts.{numbered_past, numbered_push, numbered_pushed}
 use Rattle.vm_model.proofs.Parts.Lists.{is_there}
+use Rattle.interface_callers.proofs.Words.{Cache, Machine, cache_of}
+use Rattle.interface_callers.proofs.Alike.{AllTemporary}
+use Rattle.interface_callers.proofs.Lists.{map_same, or_false}
 use Rattle.transit_ipc.specs.Answering.{put_last}
 use Rattle.transit_ipc.specs.PortMachine.{PortMachine, put_port, take_number}
 use Rattle.transit_ipc.specs.Seen.{but_for, memory_seen, message_seen, port_seen, ports_seen}
@@ -19,9 +21,8 @@ use Rattle.transit_ipc.specs.Tying.{AreTied, IsMessage, Waits}
 use Rattle.transit_ipc.specs.declared.port.Message.{Message}
 use Rattle.transit_ipc.specs.declared.port.Port.{Port}
 use Rattle.transit_ipc.proofs.Hiding.{push_seen}
-use Rattle.transit_ipc.proofs.Messages.{map_same, ports_same}
-use Rattle.transit_ipc.proofs.Replacing.{hidden_as, hidden_by, or_false, port_or, replaced, same_hidden, waits_or}
-use Rattle.transit_ipc.proofs.Shapes.{AllTemporary}
+use Rattle.transit_ipc.proofs.Messages.{ports_same}
+use Rattle.transit_ipc.proofs.Replacing.{hidden_as, hidden_by, port_or, replaced, same_hidden, waits_or}
 
 abbrev pub appended : Machine → Option Cache → Machine
 appended m o = record m { caches = m.caches ++ o ∷ [] }

@@ -1,13 +1,10 @@
 -- Ports over a manager without caches.
-use Rattle.std.proofs.Common.{◌≡◌, ℕ, false, true, List, [], map, Option, Some, None, sym, ap, subst, inl, inr, ◌∙◌, arith}
-use Rattle.std.specs.Prelude.{option_map, sum_by}
-use Rattle.vm_ids.specs.Held.{Held}
-use Rattle.vm_model.specs.Answering.{is_mapped}
-use Rattle.vm_model.specs.Machine.{Cache, Machine, cache_of, numbered, pages_in}
-use Rattle.vm_model.specs.Outcome.{blank_cache}
+use Rattle.std.proofs.Common.{◌≡◌, ℕ, false, true, List, [], Option, Some, None, sym, ap, subst, inl, inr, ◌∙◌, arith}
+use Rattle.std.specs.Prelude.{sum_by}
 use Rattle.vm_model.proofs.Parts.ListParts.{at_some, at_zero, zero_or}
-use Rattle.gmi_calls.specs.declared.gmi.Gmi.{Ghosts as GhostsOfGmi}
-use Rattle.transit_ipc.specs.Tying.{AreAble, AreTied, IsBare, IsUntoldBlank}
+use Rattle.interface_callers.proofs.Words.{Cache, GhostsOfGmi, Held, Machine, cache_of, is_mapped, numbered, pages_in}
+use Rattle.interface_callers.proofs.Blanks.{blank_bare}
+use Rattle.transit_ipc.specs.Tying.{AreAble, AreTied, IsBare}
 use Rattle.transit_ipc.specs.declared.port.Port.{Port}
 
 none_there : (n : ℕ) → numbered (let none : List (Option Cache) = [] in none) n ≡ None
@@ -31,10 +28,6 @@ module _ (m : Machine) (bare : m.caches ≡ []) where
     few = omega arith;
   }
 
-  blank_bare : (told : Option Held) → IsUntoldBlank told m
-  blank_bare (Some h) = tt
-  blank_bare None = λ i. record m { caches = (bare ∙ sym (ap (map (option_map blank_cache)) bare)) i }
-
 -- they can be called
 pub able_bare : {Manager Mapper Chooser : Type 0} (G : GhostsOfGmi Manager Mapper Chooser) (gmi : Manager) (told : Option Held) (page_bytes : Option ℕ) (ports : List Port) → ports ≡ []
     → IsBare G gmi told page_bytes → AreAble G gmi told page_bytes ports
@@ -46,5 +39,5 @@ able_bare G gmi told page_bytes ports none bare =
       fits = bare.fits;
       live = omega (arith, ap (λ (caches : List (Option Cache)). sum_by pages_in caches) bare.caches);
       tied = subst (AreTied m) (sym none) (tied_bare m bare.caches bare.unmapped);
-      blank = blank_bare m bare.caches told;
+      blank = blank_bare told m bare.caches;
     }

@@ -1,61 +1,27 @@
 -- After a call of the manager the ports can call it again.
-use Rattle.std.proofs.Common.{◌≡◌, ℕ, ◌+◌, ◌*◌, ◌≤◌, true, List, Option, Some, None, refl, sym, ap, subst, ◌∙◌, arith}
-use Rattle.std.specs.Prelude.{is_some, Ok, Err}
-use Rattle.vm_ids.specs.Counting.{MapperCounts}
-use Rattle.vm_ids.specs.Held.{Segments, segments_of}
-use Rattle.vm_ids.specs.declared.command.Command.{Command}
+use Rattle.std.proofs.Common.{◌≡◌, ℕ, ◌+◌, ◌*◌, ◌≤◌, List, Option, Some, None, refl, sym, ap, subst, arith}
 use Rattle.vm_ids.specs.declared.command.Command.TheVariants.{Map}
-use Rattle.vm_ids.specs.declared.command.Mapping.{Mapping}
 use Rattle.vm_ids.specs.declared.command.PortCommand.TheVariants.{Plain}
-use Rattle.vm_ids.specs.declared.numbers.ActorId.{ActorId}
-use Rattle.vm_ids.specs.declared.reply.Trouble.TheVariants as troubles
-use Rattle.vm_model.specs.Answering.{Answer}
-use Rattle.vm_model.specs.Asking.{ReachesMapper}
-use Rattle.vm_model.specs.Machine.{Machine, live_pages}
 use Rattle.vm_model.specs.Outcome as plain
-use Rattle.vm_model.specs.Outcome.{OutcomeAt}
-use Rattle.vm_model.specs.PageForest.{PageForest}
 use Rattle.vm_model.specs.Run.{CallIs}
 use Rattle.vm_model.specs.Run as vm_run
-use Rattle.vm_model.specs.declared.limits.TheConstants.{LIVE_PAGES}
-use Rattle.vm_model.proofs.Outcomes.Kept.{IsKept, kept}
-use Rattle.vm_port.specs.declared.traits.mapper.Mapper.{Ghosts as GhostsOfMapper}
-use Rattle.gmi_calls.specs.Calling.{CallDone, Fits, MapperCall, RaisesMade}
-use Rattle.gmi_calls.specs.Managing.{meanings_of}
-use Rattle.gmi_calls.specs.Room.{CallWithin}
-use Rattle.gmi_calls.specs.declared.gmi.Gmi.{Ghosts as GhostsOfGmi}
 use Rattle.gmi_calls.proofs.Still.{without_mapper}
+use Rattle.interface_callers.proofs.Words.{ActorId, Answer, CallDone, Command, GhostsOfGmi, GhostsOfMapper, LIVE_PAGES, Machine, MapperCall, MapperCounts, Mapping, OutcomeAt, PageForest, ReachesMapper, Segments, meanings_of, segments_of}
+use Rattle.interface_callers.proofs.Calls as calls
 use Rattle.transit_ipc.specs.Calling.{IsServed, PortCall}
 use Rattle.transit_ipc.specs.Inner.{mapping_shown}
 use Rattle.transit_ipc.specs.Stepping.{StepAt}
 use Rattle.transit_ipc.specs.Tying.{AreAble, AreTied, CanCall}
 use Rattle.transit_ipc.specs.declared.port.Port.{Port}
 use Rattle.transit_ipc.specs.declared.table.Ports.{Ports}
-use Rattle.transit_ipc.proofs.Emptying.{blank_after, over}
+use Rattle.transit_ipc.proofs.Emptying.{over}
 use Rattle.transit_ipc.proofs.Followed.{IsFollowed, tied_blank, tied_followed, tied_whole}
 use Rattle.transit_ipc.proofs.Passed.{IsNoMap, IsPassed, map_passed, outcome_follows, outcome_passed, passed}
 use Rattle.transit_ipc.proofs.Untold.{segments_stay, step_called}
 
-unlimited_still : (before now : Option ℕ) → before ≡ None → is_some now ≡ is_some before → now ≡ None
-unlimited_still before None e h = refl
-unlimited_still before (Some n) e h = absurd (let yes : true ≡ is_some before = h in cc (yes, ap is_some e))
-
-fits_still : (told now : Option ℕ) (m next : Machine) → now ≡ told → next.page_bytes ≡ m.page_bytes → Fits told m → Fits now next
-fits_still told now m next same page fits = subst (λ (o : Option ℕ). Fits o next) (sym same) (go told fits)
-  where
-    go : (told : Option ℕ) → Fits told m → Fits told next
-    go None fits = fits
-    go (Some n) fits = fits ∙ sym page
-
 -- One call of the manager raises the number that bounds its counters by no more than this.
 abbrev pub one_call : ℕ
 one_call = 32 * LIVE_PAGES + 8
-
-raised : (m n : Machine) (c : Command) (a : Answer) (before now : ℕ) → live_pages m ≤ LIVE_PAGES → IsKept m c a n → RaisesMade m c a n before now → now ≤ before + one_call
-raised m n c (Ok r) before now few k made = omega (arith, made, k.touched few tt, k.live few)
-raised m n c (Err (troubles.Refused r)) before now few k made = omega (arith, made)
-raised m n c (Err (troubles.Mapper at)) before now few k made = omega (arith, made, k.touched few tt, k.live few)
-raised m n c (Err troubles.Memory) before now few k made = omega (arith, made, k.touched few tt, k.live few)
 
 module _ {Manager X Chooser : Type 0} (M : GhostsOfMapper X) (G : GhostsOfGmi Manager X Chooser) (old gmi : Manager) (before after : X) (c : Command) (a : Answer) (ports : List Port)
     (can : AreAble G old (M.held before) (M.page_bytes before) ports) (call : MapperCall M (meanings_of G) before old c a after gmi) where
@@ -66,13 +32,10 @@ module _ {Manager X Chooser : Type 0} (M : GhostsOfMapper X) (G : GhostsOfGmi Ma
   n = G.machine gmi (M.held after)
 
   abbrev pub call_is : CallIs (M.counts before) (M.counts after) (vm_run.state_of G.machine G.forest old (M.held before)) c a (vm_run.state_of G.machine G.forest gmi (M.held after))
-  call_is = subst (λ (room : Option ℕ). CallWithin room (M.counts before) (M.counts after) (vm_run.state_of G.machine G.forest old (M.held before)) c a (vm_run.state_of G.machine G.forest gmi (M.held after))) can.unlimited call.answers
-
-  keeps : IsKept m c a n
-  keeps = kept (segments_of (M.held after)) m n (G.forest old (M.held before)) c a call_is.rises call_is.is.outcome
+  call_is = calls.call_is M G old gmi before after c a can.unlimited call
 
   pub made_after : G.made gmi ≤ G.made old + one_call
-  made_after = raised m n c a (G.made old) (G.made gmi) can.live keeps call.made
+  made_after = omega (arith, calls.made_after M G old gmi before after c a can.unlimited call can.live)
 
   -- no segment changes
   pub segments_after : segments_of (M.held after) ≡ segments_of (M.held before)
@@ -82,11 +45,11 @@ module _ {Manager X Chooser : Type 0} (M : GhostsOfMapper X) (G : GhostsOfGmi Ma
   pub able_after : (later : List Port) → AreTied n later → AreAble G gmi (M.held after) (M.page_bytes after) later
   able_after later tied = record {
     valid = call.valid;
-    unlimited = unlimited_still (G.room old) (G.room gmi) can.unlimited call.room;
-    fits = fits_still (M.page_bytes before) (M.page_bytes after) m n call.page keeps.page can.fits;
-    live = keeps.live can.live;
+    unlimited = calls.unlimited_after M G old gmi before after c a can.unlimited call;
+    fits = calls.fits_after M G old gmi before after c a can.unlimited call can.fits;
+    live = (calls.keeps M G old gmi before after c a can.unlimited call).live can.live;
     tied = tied;
-    blank = blank_after (M.held after) m n (G.forest old (M.held before)) c a call_is.rises call_is.is.outcome;
+    blank = calls.blank_then M G old gmi before after c a can.unlimited call;
   }
 
   -- The ports stay tied where they do with bytes.

@@ -5,10 +5,10 @@ use Rattle.std.specs.List.{list_any}
 use Rattle.std.specs.Option.{option_map_or}
 use Rattle.std.proofs.lemmas.Bool.Decides.{nat_tests}
 use Rattle.std.proofs.lemmas.List.Sums.{sum_by-cons}
-use Rattle.vm_model.specs.Machine.{Cache, Machine, cache_of, live_pages, numbered, pages_in}
-use Rattle.vm_model.specs.declared.limits.TheConstants.{LIVE_PAGES, MOST_MADE}
 use Rattle.vm_model.proofs.Parts.ListParts.{at_some}
 use Rattle.vm_model.proofs.Parts.Lists.{numbered_place}
+use Rattle.std.proofs.lemmas.Bool.{eqb-true}
+use Rattle.interface_callers.proofs.Words.{Cache, LIVE_PAGES, Machine, MOST_MADE, cache_of, live_pages, numbered, pages_in}
 use Rattle.transit_ipc.specs.Answering.{lacks_room}
 use Rattle.transit_ipc.specs.PortMachine.{pages_at, waiting_pages}
 use Rattle.transit_ipc.specs.Seen.{but_for, memory_seen, message_seen, port_seen, ports_seen}
@@ -17,7 +17,7 @@ use Rattle.transit_ipc.specs.Tying.{AreTied, Waits}
 use Rattle.transit_ipc.specs.declared.port.Message.{Message}
 use Rattle.transit_ipc.specs.declared.port.Port.{Port}
 use Rattle.transit_ipc.proofs.Hiding.{length_seen, shown}
-use Rattle.transit_ipc.proofs.Messages.{any_found, equal, has_number, hidden_waits}
+use Rattle.transit_ipc.proofs.Messages.{any_found, has_number, hidden_waits}
 
 abbrev Caches : Type 0
 Caches = List (Option Cache)
@@ -102,14 +102,14 @@ first_apart : (xs : Caches) (h : ℕ → Bool) (x : Message) (ms : List Message)
 first_apart xs h x ms own false e = refl
 first_apart xs h x ms own true e =
     let f = any_found (has_number x.cache.0) ms e in
-    let wrong : suc f.place ≡ 0 = own.apart (suc f.place) 0 f.it x f.there refl (equal f.it.cache.0 x.cache.0 f.passes) in
+    let wrong : suc f.place ≡ 0 = own.apart (suc f.place) 0 f.it x f.there refl (eqb-true f.it.cache.0 x.cache.0 f.passes) in
     absurd (omega (arith, wrong))
 
 or_same : (a b c d : Bool) → a ≡ false → (a || b) || c ≡ (b || c)
 or_same true b c d e = absurd (cc e)
 or_same false b c d e = refl
 
-other_number : (n k : ℕ) → k ≢ n → (n == k) ≡ false
+pub other_number : (n k : ℕ) → k ≢ n → (n == k) ≡ false
 other_number n k apart = grind (arith, nat_tests)
 
 messages_hidden : (xs : Caches) (h : ℕ → Bool) (ms : List Message) → AreOwn xs h ms → pages_of (but_for (with_messages ms h) 1 xs) + pages_waiting xs ms ≡ pages_of (but_for h 1 xs)

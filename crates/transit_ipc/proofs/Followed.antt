@@ -3,17 +3,14 @@ use Rattle.std.proofs.Common.{◌≡◌, ◌≢◌, ◌⊎◌, inl, inr, ℕ, �
 use Rattle.std.specs.Bool.{IsTrue}
 use Rattle.std.specs.Prelude.{◌==◌, ◌||◌, IsSome, nat_lt, slice_get}
 use Rattle.std.specs.List.{list_any}
-use Rattle.std.specs.Option.{option_map_or}
-use Rattle.std.proofs.lemmas.Bool.{cases_eq}
+use Rattle.std.proofs.lemmas.Bool.{cases_eq, eqb-true}
 use Rattle.std.proofs.lemmas.List.Folds.{list_any-append}
 use Rattle.std.proofs.lemmas.Option.{slice_get_within}
-use Rattle.vm_ids.specs.declared.command.Mapping.{Mapping}
-use Rattle.vm_model.specs.Answering.{add_region, insert_region, is_mapped, maps_in, overwrite, page_at, put_cache, put_page, region_of, temporary, write_at}
-use Rattle.vm_model.specs.Machine.{Actor, Cache, Machine, Region, cache_of}
-use Rattle.vm_model.specs.Outcome.{blank}
-use Rattle.vm_model.specs.Place.{Place}
 use Rattle.vm_model.proofs.Parts.Lists.{get_set_other, get_set_same, numbered_place}
 use Rattle.vm_model.proofs.Parts.ListParts.{numbered_push, numbered_pushed, numbered_set, numbered_set_other}
+use Rattle.interface_callers.proofs.Words.{Actor, Cache, Machine, Mapping, Region, add_region, blank, cache_of, insert_region, is_mapped, maps_in, put_cache, region_of, temporary}
+use Rattle.interface_callers.proofs.Alike.{blank_shape, shape_back}
+use Rattle.interface_callers.proofs.Lists.{any_at, one_of, or_true}
 use Rattle.transit_ipc.specs.Seen.{memory_seen}
 use Rattle.transit_ipc.specs.Transit.{is_transit}
 use Rattle.transit_ipc.specs.Tying.{AreTied, IsMessage, Waits}
@@ -21,8 +18,8 @@ use Rattle.transit_ipc.specs.declared.port.Message.{Message}
 use Rattle.transit_ipc.specs.declared.port.Port.{Port}
 use Rattle.transit_ipc.proofs.Fresh.{messages_with_cache, with_cache}
 use Rattle.transit_ipc.proofs.Hiding.{numbered_seen, seen_cache}
-use Rattle.transit_ipc.proofs.Shapes.{like_back, like_blank, some_shown, tied_like}
-use Rattle.transit_ipc.proofs.Messages.{any_at, any_found, equal, or_true, seen_apart}
+use Rattle.transit_ipc.proofs.Shapes.{some_shown, tied_like}
+use Rattle.transit_ipc.proofs.Messages.{any_found, seen_apart}
 
 -- From one machine to the next: the messages that wait have their pages, no cache is gone, no
 -- segment names one, and what regions map then is mapped before or seen before.
@@ -54,10 +51,10 @@ module _ (ports : List Port) (x y : Machine) (tied : AreTied x ports) (f : IsFol
 
 -- so do they where the bytes are left out, and where they are there
 pub tied_blank : (ports : List Port) (m : Machine) → AreTied m ports → AreTied (blank m) ports
-tied_blank ports m tied = tied_like m (blank m) ports (like_blank m) tied
+tied_blank ports m tied = tied_like m (blank m) ports (blank_shape m) tied
 
 pub tied_whole : (ports : List Port) (m : Machine) → AreTied (blank m) ports → AreTied m ports
-tied_whole ports m tied = tied_like (blank m) m ports (like_back m (blank m) (like_blank m)) tied
+tied_whole ports m tied = tied_like (blank m) m ports (shape_back m (blank m) (blank_shape m)) tied
 
 -- The changes of each command
 
@@ -125,30 +122,18 @@ module _ (ports : List Port) (m : Machine) (tied : AreTied m ports) where
       at_put : (n : ℕ) → n ≡ k → cache_of (put_cache m k d) n ≡ Some d
       at_put n e = ap (cache_of (put_cache m k d)) e ∙ numbered_set m.caches k c (Some d) there
 
-  -- bytes are stored where they are seen
-  pub followed_write : (p : Place) (bytes : List ℕ) → is_transit ports p.region.cache ≡ false → IsFollowed ports m (write_at m p bytes)
-  followed_write p bytes seen = by (cache_of m p.region.cache) refl
-    where
-      by : (o : Option Cache) → cache_of m p.region.cache ≡ o → IsFollowed ports m (option_map_or (λ (c : Cache). put_cache m p.region.cache (put_page p.page (overwrite p.byte bytes (page_at m p)) c)) o m)
-      by None e = followed_self
-      by (Some c) e = followed_put p.region.cache c (put_page p.page (overwrite p.byte bytes (page_at m p)) c) e seen refl
-
   -- a region of a cache that is seen
 
   abbrev maps : ℕ → Actor → Bool
   maps n rs = list_any (λ (r : Region). r.cache == n) rs
 
-  or_either : (a b : Bool) → (a || b) ≡ true → (a ≡ true) ⊎ (b ≡ true)
-  or_either true b e = inl refl
-  or_either false b e = inr e
-
   inserted : (n : ℕ) (r : Region) (rs : Actor) → maps n (insert_region r rs) ≡ true → (r.cache ≡ n) ⊎ (maps n rs ≡ true)
-  inserted n r [] e = inl (equal r.cache n (or_neither (r.cache == n) e))
+  inserted n r [] e = inl (eqb-true r.cache n (or_neither (r.cache == n) e))
   inserted n r (x ∷ xs) e = by (nat_lt r.start x.start) e (inserted n r xs)
     where
       by : (b : Bool) → maps n (cond b (r ∷ x ∷ xs) (x ∷ insert_region r xs)) ≡ true → (maps n (insert_region r xs) ≡ true → (r.cache ≡ n) ⊎ (maps n xs ≡ true)) → (r.cache ≡ n) ⊎ (maps n (x ∷ xs) ≡ true)
-      by true is rest = elim (or_either (r.cache == n) (maps n (x ∷ xs)) is) [ inl s ↦ inl (equal r.cache n s) | inr s ↦ inr s ]
-      by false is rest = elim (or_either (x.cache == n) (maps n (insert_region r xs)) is) [
+      by true is rest = elim (one_of (r.cache == n) (maps n (x ∷ xs)) is) [ inl s ↦ inl (eqb-true r.cache n s) | inr s ↦ inr s ]
+      by false is rest = elim (one_of (x.cache == n) (maps n (insert_region r xs)) is) [
         | inl s ↦ inr (ap (λ (b : Bool). b || maps n xs) s)
         | inr s ↦ elim (rest s) [ inl same ↦ inl same | inr s ↦ inr (or_true (x.cache == n) (maps n xs) s) ]
       ]

@@ -2,14 +2,14 @@
 use Rattle.std.proofs.Common.{◌≡◌, ◌⊎◌, inl, inr, ℕ, ◌+◌, Bool, true, false, List, [], ◌∷◌, ◌++◌, length, Option, Some, sym, ap, ◌∙◌, arith}
 use Rattle.std.specs.Prelude.{◌||◌, nat_le, nat_lt}
 use Rattle.std.proofs.lemmas.Bool.Decides.{nat_tests}
-use Rattle.vm_ids.specs.Held.{Segments}
 use Rattle.vm_ids.specs.declared.command.Command.TheVariants.{MakeTemp}
 use Rattle.vm_ids.specs.declared.refusal.Refusal.TheVariants.{TooMany}
 use Rattle.vm_ids.specs.declared.reply.Reply.TheVariants as replies
 use Rattle.vm_model.specs.Answering as plain
-use Rattle.vm_model.specs.Machine.{Cache, Machine, cache_of, live_pages}
-use Rattle.vm_model.specs.declared.limits.TheConstants.{LIVE_PAGES, MOST_MADE}
 use Rattle.vm_model.proofs.Parts.ListParts.{numbered_push}
+use Rattle.interface_callers.proofs.Words.{Cache, LIVE_PAGES, Machine, MOST_MADE, Segments, cache_of, live_pages}
+use Rattle.interface_callers.proofs.Lists.{either}
+use Rattle.interface_callers.proofs.Rows.{plain_goes, plain_refused}
 use Rattle.transit_ipc.specs.Answering.{Answered, lacks_room, plain_of, reply, within}
 use Rattle.transit_ipc.specs.PortMachine.{PortMachine}
 use Rattle.transit_ipc.specs.Seen.{but_for, memory_seen, ports_seen}
@@ -19,8 +19,8 @@ use Rattle.transit_ipc.specs.declared.port.Message.{Message}
 use Rattle.transit_ipc.specs.declared.port.Port.{Port}
 use Rattle.transit_ipc.proofs.Counting.{lacks_same}
 use Rattle.transit_ipc.proofs.Hiding.{length_seen, push_seen, shown}
-use Rattle.transit_ipc.proofs.Messages.{either, next_seen, ports_same, waiting_past}
-use Rattle.transit_ipc.proofs.Rows.{goes_where, plain_goes, plain_refused, refused_where}
+use Rattle.transit_ipc.proofs.Messages.{next_seen, ports_same, waiting_past}
+use Rattle.transit_ipc.proofs.Rows.{goes_where, refused_where}
 
 -- the answer of the manager's machine, with the ports as they are seen then
 abbrev pub answer_seen : List Port → plain.Answered → Answered

@@ -2,17 +2,10 @@
 use Rattle.std.proofs.Common.{◌≡◌, ℕ, ◌+◌, ◌*◌, ◌≤◌, Bool, true, false, cond, List, [], Option, None, refl, sym, subst, ◌∙◌, arith}
 use Rattle.std.specs.Bool.{IsTrue}
 use Rattle.std.specs.Prelude.{IsSome}
-use Rattle.vm_ids.specs.Counting.{MapperCounts, Rise, counts_sum, no_counts}
-use Rattle.vm_ids.specs.Held.{Segments, segments_of}
-use Rattle.vm_ids.specs.declared.command.Command.{Command}
 use Rattle.vm_ids.specs.declared.command.PortCommand.{PortCommand}
-use Rattle.vm_model.specs.Answering.{Answer, is_mapped}
-use Rattle.vm_model.specs.Machine.{Cache, Machine, cache_of}
-use Rattle.vm_port.specs.declared.traits.mapper.Mapper.{Ghosts as GhostsOfMapper}
-use Rattle.gmi_calls.specs.Calling.{MapperCall}
-use Rattle.gmi_calls.specs.Managing.{meanings_of}
-use Rattle.gmi_calls.specs.declared.gmi.Gmi.{Ghosts as GhostsOfGmi}
 use Rattle.gmi_calls.proofs.Rising.{rise_none, rise_then}
+use Rattle.interface_callers.proofs.Words.{Answer, Cache, Command, GhostsOfGmi, GhostsOfMapper, Machine, MapperCall, MapperCounts, Rise, Segments, cache_of, counts_sum, is_mapped, meanings_of, no_counts, segments_of}
+use Rattle.interface_callers.proofs.Alike.{AllTemporary}
 use Rattle.transit_ipc.specs.Calling.{PortCall}
 use Rattle.transit_ipc.specs.Outcome.{Outcome}
 use Rattle.transit_ipc.specs.Seen.{ports_seen}
@@ -25,7 +18,6 @@ use Rattle.transit_ipc.proofs.Calls.{able_after, call_is, made_after, one_call, 
 use Rattle.transit_ipc.proofs.Emptying.{step_over}
 use Rattle.transit_ipc.proofs.Hiding.{numbered_seen}
 use Rattle.transit_ipc.proofs.Making.{all_seen}
-use Rattle.transit_ipc.proofs.Shapes.{AllTemporary}
 
 -- no ports are tied to any machine to which some are
 seen_there : (b : Bool) (o : Option Cache) → IsSome (cond b None o) → IsSome o

@@ -1,9 +1,8 @@
 -- Which of the manager's caches are seen.
 use Rattle.std.proofs.Common.{◌≡◌, inl, inr, ℕ, zero, suc, ◌+◌, ◌-◌, Bool, true, false, cond, List, [], ◌∷◌, ◌++◌, length, set, map, Option, Some, None, refl, sym, ap, ◌∙◌, arith}
 use Rattle.std.specs.Prelude.{option_and_then, option_map, slice_get}
-use Rattle.vm_model.specs.Machine.{Cache, Machine, cache_of, numbered}
-use Rattle.vm_model.specs.Outcome.{blank_cache}
 use Rattle.vm_model.proofs.Parts.ListParts.{at_some, at_zero, zero_or}
+use Rattle.interface_callers.proofs.Words.{Cache, Machine, blank_cache, cache_of, numbered}
 use Rattle.transit_ipc.specs.Seen.{but_for, memory_seen}
 use Rattle.transit_ipc.specs.Transit.{is_transit}
 use Rattle.transit_ipc.specs.declared.port.Port.{Port}

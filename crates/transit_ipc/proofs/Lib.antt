@@ -16,10 +16,8 @@ pub mod Shapes
 pub mod Replacing
 pub mod Appending
 pub mod Emptying
-pub mod Copying
 pub mod Moving
 pub mod Sending
-pub mod Temporary
 pub mod Going
 pub mod Taking
 pub mod Marking

@@ -10,8 +10,8 @@ use Rattle.std.proofs.lemmas.List.Folds.{list_any-append}
 use Rattle.vm_ids.specs.declared.refusal.Refusal.TheVariants.{TooMany}
 use Rattle.vm_ids.specs.declared.reply.Reply.TheVariants as replies
 use Rattle.vm_ids.specs.declared.reply.Trouble.TheVariants as troubles
-use Rattle.vm_model.specs.Machine.{Cache, Machine, cache_of}
-use Rattle.vm_model.specs.Outcome.{IsNotRefused}
+use Rattle.interface_callers.proofs.Words.{Cache, IsNotRefused, Machine, cache_of}
+use Rattle.interface_callers.proofs.Lists.{get_last, or_false}
 use Rattle.transit_ipc.specs.Answering.{Answered, empty_port, make_port_of, refuse, unless}
 use Rattle.transit_ipc.specs.Calling.{IsMade}
 use Rattle.transit_ipc.specs.PortMachine.{PortMachine}
@@ -30,10 +30,6 @@ push_other [] x zero apart = absurd (apart refl)
 push_other [] x (suc i) apart = refl
 push_other (y ∷ xs) x zero apart = refl
 push_other (y ∷ xs) x (suc i) apart = push_other xs x i (λ e. apart (ap suc e))
-
-pushed : {A : Type 0} (xs : List A) (x : A) → slice_get (xs ++ x ∷ []) (length xs) ≡ Some x
-pushed [] x = refl
-pushed (y ∷ xs) x = pushed xs x
 
 -- where none is hidden, all is seen
 pub all_seen : (k : ℕ) (xs : List (Option Cache)) → but_for (is_transit []) k xs ≡ xs
@@ -79,10 +75,6 @@ module _ (ports : List Port) (fresh : Port) (bare : fresh.messages.items ≡ [])
   none_waits : (n : ℕ) → (waits_in n fresh || false) ≡ false
   none_waits n = ap (λ (xs : List Message). list_any (λ (x : Message). x.cache.0 == n) xs || false) bare
 
-  or_false : (b c : Bool) → c ≡ false → (b || c) ≡ b
-  or_false true c e = refl
-  or_false false c e = e
-
   pub transit_same : is_transit more ≡ is_transit ports
   transit_same = λ i n. (list_any-append (waits_in n) ports (fresh ∷ []) ∙ or_false (is_transit ports n) (waits_in n fresh || false) (none_waits n)) i
 
@@ -97,7 +89,7 @@ module _ (ports : List Port) (fresh : Port) (bare : fresh.messages.items ≡ [])
 
   waits_at : (i j : ℕ) (x : Message) → Waits more i j x → (i ≡ length ports) ⊎ (i ≢ length ports) → Waits ports i j x
   waits_at i j x w (inl e) =
-      let last : Some w.port ≡ Some fresh = sym w.there ∙ ap (slice_get more) e ∙ pushed ports fresh in
+      let last : Some w.port ≡ Some fresh = sym w.there ∙ ap (slice_get more) e ∙ get_last ports fresh in
       let same : w.port ≡ fresh = cc last in
       absurd (let wrong : None ≡ Some x = ap (λ (xs : List Message). slice_get xs j) (sym (ap (λ (p : Port). p.messages.items) same ∙ bare)) ∙ w.has in cc wrong)
   waits_at i j x w (inr apart) = record { port = w.port; there = sym (push_other ports fresh i apart) ∙ w.there; has = w.has }
@@ -108,14 +100,14 @@ module _ (ports : List Port) (fresh : Port) (bare : fresh.messages.items ≡ [])
   module _ (roomy : fresh.depth ≤ deque_capacity fresh.messages) where
     deep_at : (m : Machine) → AreTied m ports → (i : ℕ) (p : Port) → slice_get more i ≡ Some p → (i ≡ length ports) ⊎ (i ≢ length ports) → length p.messages.items ≤ p.depth
     deep_at m tied i p e (inl last) =
-        let both : Some p ≡ Some fresh = sym e ∙ ap (slice_get more) last ∙ pushed ports fresh in
+        let both : Some p ≡ Some fresh = sym e ∙ ap (slice_get more) last ∙ get_last ports fresh in
         let same : p ≡ fresh = cc both in
         omega (arith, ap (λ (q : Port). length q.messages.items) same, ap (λ (xs : List Message). length xs) bare)
     deep_at m tied i p e (inr apart) = tied.deep i p (sym (push_other ports fresh i apart) ∙ e)
 
     roomy_at : (m : Machine) → AreTied m ports → (i : ℕ) (p : Port) → slice_get more i ≡ Some p → (i ≡ length ports) ⊎ (i ≢ length ports) → p.depth ≤ deque_capacity p.messages
     roomy_at m tied i p e (inl last) =
-        let both : Some fresh ≡ Some p = sym (pushed ports fresh) ∙ ap (slice_get more) (sym last) ∙ e in
+        let both : Some fresh ≡ Some p = sym (get_last ports fresh) ∙ ap (slice_get more) (sym last) ∙ e in
         let same : fresh ≡ p = cc both in
         subst (λ (q : Port). q.depth ≤ deque_capacity q.messages) same roomy
     roomy_at m tied i p e (inr apart) = tied.roomy i p (sym (push_other ports fresh i apart) ∙ e)

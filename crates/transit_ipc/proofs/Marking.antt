@@ -7,15 +7,16 @@ use Rattle.std.proofs.lemmas.Bool.{cases_eq}
 use Rattle.std.proofs.lemmas.Bool.Decides.{nat_tests}
 use Rattle.std.proofs.lemmas.List.{length-set}
 use Rattle.std.proofs.lemmas.List.Folds.{list_any-append}
-use Rattle.vm_model.specs.declared.limits.TheConstants.{MOST_MADE}
 use Rattle.vm_model.proofs.Parts.Lists.{get_set_other, get_set_same}
+use Rattle.interface_callers.proofs.Words.{MOST_MADE}
+use Rattle.interface_callers.proofs.Lists.{or_false, or_true}
 use Rattle.transit_ipc.specs.Transit.{IsTable, is_marked, is_transit, waits_in}
 use Rattle.transit_ipc.specs.Tying.{AreApart}
 use Rattle.transit_ipc.specs.declared.port.Message.{Message}
 use Rattle.transit_ipc.specs.declared.port.Port.{Port}
 use Rattle.transit_ipc.proofs.Making.{transit_same}
-use Rattle.transit_ipc.proofs.Messages.{has_number, or_true, waiting_hides}
-use Rattle.transit_ipc.proofs.Replacing.{hidden_as, hidden_by, or_false}
+use Rattle.transit_ipc.proofs.Messages.{has_number, waiting_hides}
+use Rattle.transit_ipc.proofs.Replacing.{hidden_as, hidden_by}
 use Rattle.transit_ipc.proofs.Taking.{hidden_still, none_left}
 
 -- Marks

@@ -1,12 +1,13 @@
 -- Where messages wait, and what is seen of their caches.
-use Rattle.std.proofs.Common.{◌≡◌, ◌≢◌, ◌⊎◌, inl, inr, ◌==◌, ℕ, zero, suc, ◌+◌, Bool, true, false, cond, List, [], ◌∷◌, length, map, Option, Some, None, refl, sym, ap, ◌∙◌, arith}
+use Rattle.std.proofs.Common.{◌≡◌, ◌≢◌, inl, inr, ◌==◌, ℕ, suc, ◌+◌, Bool, true, false, cond, List, [], ◌∷◌, length, map, Option, Some, None, refl, sym, ap, ◌∙◌}
 use Rattle.std.specs.Prelude.{◌||◌, slice_get}
 use Rattle.std.specs.List.{list_any}
 use Rattle.std.specs.Option.{option_map_or}
-use Rattle.std.proofs.lemmas.Bool.Decides.{nat_tests}
-use Rattle.vm_ids.specs.declared.numbers.CacheId.{CacheId}
-use Rattle.vm_model.specs.Machine.{Cache, Machine, cache_of}
+use Rattle.vm_ids.proofs.Places.{same_number}
 use Rattle.vm_model.proofs.Parts.ListParts.{numbered_past}
+use Rattle.interface_callers.proofs.Words.{Cache, CacheId, Machine, cache_of}
+use Rattle.interface_callers.proofs.Lists.{any_at, either, map_same}
+use Rattle.std.proofs.lemmas.Bool.{eqb-true}
 use Rattle.transit_ipc.specs.Inner.{shown}
 use Rattle.transit_ipc.specs.PortMachine as model
 use Rattle.transit_ipc.specs.Seen.{message_seen, port_seen}
@@ -16,15 +17,6 @@ use Rattle.transit_ipc.specs.declared.port.Message.{Message}
 use Rattle.transit_ipc.specs.declared.port.Port.{Port}
 
 -- Some element passes a test
-
-pub or_true : (a b : Bool) → b ≡ true → (a || b) ≡ true
-or_true true b e = refl
-or_true false b e = e
-
-pub any_at : {A : Type 0} (test : A → Bool) (xs : List A) (i : ℕ) (x : A) → slice_get xs i ≡ Some x → test x ≡ true → list_any test xs ≡ true
-any_at test [] i x there e = absurd (cc there)
-any_at test (y ∷ xs) zero x there e = let same : y ≡ x = cc there in ap (λ (b : Bool). b || list_any test xs) (ap test same ∙ e)
-any_at test (y ∷ xs) (suc i) x there e = or_true (test y) (list_any test xs) (any_at test xs i x there e)
 
 pub record IsFound {A : Type 0} (test : A → Bool) (xs : List A) : Type 0 where
   pub place : ℕ
@@ -40,19 +32,13 @@ any_found {A} test (x ∷ xs) e = by (test x) refl e (any_found test xs)
     by true is e rest = record { place = 0; it = x; there = refl; passes = is }
     by false is e rest = let r = rest e in record { place = suc r.place; it = r.it; there = r.there; passes = r.passes }
 
-pub self : (n : ℕ) → (n == n) ≡ true
-self n = grind (arith, nat_tests)
-
-pub equal : (n k : ℕ) → (n == k) ≡ true → n ≡ k
-equal n k e = grind (arith, nat_tests)
-
 -- A cache is hidden exactly where a message waits in it
 
 abbrev pub has_number : ℕ → Message → Bool
 has_number n x = x.cache.0 == n
 
 pub waiting_hides : (ports : List Port) (i j : ℕ) (x : Message) → Waits ports i j x → is_transit ports x.cache.0 ≡ true
-waiting_hides ports i j x w = any_at (waits_in x.cache.0) ports i w.port w.there (any_at (has_number x.cache.0) w.port.messages.items j x w.has (self x.cache.0))
+waiting_hides ports i j x w = any_at (waits_in x.cache.0) ports i w.port w.there (any_at (has_number x.cache.0) w.port.messages.items j x w.has (same_number x.cache.0))
 
 -- A message waits in the cache with this number.
 pub record WaitsIn (ports : List Port) (n : ℕ) : Type 0 where
@@ -71,16 +57,12 @@ hidden_waits ports n e =
       turn = x.place;
       message = x.it;
       waits = record { port = p.it; there = p.there; has = x.there };
-      number = equal x.it.cache.0 n x.passes;
+      number = eqb-true x.it.cache.0 n x.passes;
     }
 
 -- no message waits in a cache that is seen
 pub seen_apart : (ports : List Port) (i j k : ℕ) (x : Message) → Waits ports i j x → is_transit ports k ≡ false → x.cache.0 ≢ k
 seen_apart ports i j k x w seen e = let wrong : true ≡ false = sym (waiting_hides ports i j x w) ∙ ap (is_transit ports) e ∙ seen in absurd (cc wrong)
-
-pub either : (b : Bool) → (b ≡ true) ⊎ (b ≡ false)
-either true = inl refl
-either false = inr refl
 
 -- where there is no cache, none is hidden
 pub none_hidden : (m : Machine) (ports : List Port) → AreTied m ports → (n : ℕ) → cache_of m n ≡ None → is_transit ports n ≡ false
@@ -111,10 +93,6 @@ shown_visible m ports tied cache = by (is_transit ports cache.0) refl
     by false e = e
 
 -- What is seen of the ports
-
-pub map_same : {A B : Type 0} (f g : A → B) (xs : List A) → ((i : ℕ) (x : A) → slice_get xs i ≡ Some x → f x ≡ g x) → map f xs ≡ map g xs
-map_same f g [] same = refl
-map_same f g (x ∷ xs) same = λ i. same 0 x refl i ∷ map_same f g xs (λ k y e. same (suc k) y e) i
 
 -- where the messages of the ports have the same pages, the same is seen of the ports
 pub ports_same : (m n : Machine) (ports : List Port) → ((i j : ℕ) (x : Message) → Waits ports i j x → cache_of n x.cache.0 ≡ cache_of m x.cache.0) → map (port_seen n) ports ≡ map (port_seen m) ports

@@ -3,24 +3,17 @@ use Rattle.std.proofs.Common.{◌≡◌, ◌⊎◌, ℕ, suc, ◌^◌, ◌<◌, 
 use Rattle.std.specs.Prelude.{Ok, Err, Result, slice_get}
 use Rattle.std.specs.List.{list_any}
 use Rattle.std.specs.VecDeque.{deque_capacity}
-use Rattle.vm_ids.specs.Held.{segments_of}
 use Rattle.vm_ids.specs.declared.command.Command.TheVariants as vm_commands
 use Rattle.vm_ids.specs.declared.command.PortCommand.{PortCommand}
 use Rattle.vm_ids.specs.declared.command.PortCommand.TheVariants as commands
-use Rattle.vm_ids.specs.declared.numbers.CacheId.{CacheId}
-use Rattle.vm_ids.specs.declared.numbers.PageNo.{PageNo}
-use Rattle.vm_ids.specs.declared.numbers.PortId.{PortId}
-use Rattle.vm_ids.specs.declared.refusal.Refusal.{Refusal}
 use Rattle.vm_ids.specs.declared.refusal.Refusal.TheVariants as refusals
 use Rattle.vm_ids.specs.declared.reply.Reply.TheVariants as replies
-use Rattle.vm_ids.specs.declared.reply.Trouble.{Trouble}
 use Rattle.vm_ids.specs.declared.reply.Trouble.TheVariants as troubles
-use Rattle.vm_model.specs.Answering.{Answer, is_mapped, maps_in, put_cache}
-use Rattle.vm_model.specs.Machine.{Actor, Machine}
-use Rattle.vm_port.specs.declared.traits.mapper.Mapper.{Ghosts as GhostsOfMapper}
-use Rattle.gmi_calls.specs.Calling.{Fits, MapperCall, done_by}
-use Rattle.gmi_calls.specs.Managing.{meanings_of}
-use Rattle.gmi_calls.specs.declared.gmi.Gmi.{Ghosts as GhostsOfGmi}
+use Rattle.interface_callers.proofs.Words.{Actor, Answer, CacheId, Fits, GhostsOfGmi, GhostsOfMapper, Machine, MapperCall, PageNo, PortId, Refusal, Trouble, done_by, is_mapped, maps_in, meanings_of, put_cache, segments_of}
+use Rattle.interface_callers.proofs.Alike.{shape_cache, still_temporary}
+use Rattle.interface_callers.proofs.Blanks.{without}
+use Rattle.interface_callers.proofs.Rows.{RowIs}
+use Rattle.interface_callers.proofs.Temporary.{destroy_done}
 use Rattle.transit_ipc.specs.Answering.{without_first}
 use Rattle.transit_ipc.specs.Calling.{PortCall}
 use Rattle.transit_ipc.specs.Inner.{IsFirst, received_span}
@@ -32,15 +25,12 @@ use Rattle.transit_ipc.specs.declared.port.Message.{Message}
 use Rattle.transit_ipc.specs.declared.port.Port.{Port}
 use Rattle.transit_ipc.specs.declared.table.Ports.{Ports}
 use Rattle.transit_ipc.proofs.Calls.{call_is}
-use Rattle.transit_ipc.proofs.Copying.{RowIs}
-use Rattle.transit_ipc.proofs.Emptying.{without}
 use Rattle.transit_ipc.proofs.Going.{Goes, goes_none, goes_on, port_call, tied_none}
 use Rattle.transit_ipc.proofs.Moving.{Moves, finished, moved_at, received_row}
 use Rattle.transit_ipc.proofs.Receiving.{Ends, HasReceived, empty, ended, ends, is_message, may, nobody, received, source, unseen}
 use Rattle.transit_ipc.proofs.Removing.{seen_received, tied_received}
 use Rattle.transit_ipc.proofs.Sending.{unmapped}
-use Rattle.transit_ipc.proofs.Shapes.{like_cache, temporary_like, tied_like}
-use Rattle.transit_ipc.proofs.Temporary.{destroyed_at}
+use Rattle.transit_ipc.proofs.Shapes.{tied_like}
 
 module _ {Manager X Chooser : Type 0} (M : GhostsOfMapper X) (G : GhostsOfGmi Manager X Chooser) (old : Ports Manager) (before : X) (can : CanCall G old (M.held before) (M.page_bytes before)) (port : PortId) (cache : CacheId) (page : PageNo) where
   abbrev m : Machine
@@ -114,10 +104,10 @@ module _ {Manager X Chooser : Type 0} (M : GhostsOfMapper X) (G : GhostsOfGmi Ma
           let like = (moves after next (Ok tt) move).like in
           let goes = goes_moved after next (Ok tt) move in
           let message = is_message m ports t port cache page place p there at x first in
-          let d = like_cache m n like x.cache.0 message.cache message.there in
+          let d = shape_cache m n like x.cache.0 message.cache message.there in
           let free : is_mapped n x.cache.0 ≡ false = ap (λ (actors : List (Option Actor)). list_any (maps_in x.cache.0) actors) like.actors ∙ unmapped m ports t x.cache.0 (unseen m ports t port cache page place p there at x first) in
           let it = call_is M G next new.gmi after last (vm_commands.Destroy x.cache) a [] goes.able destroy in
-          let gone : later ≡ without n x.cache.0 = destroyed_at (segments_of (M.held last)) n (G.forest next (M.held after)) x.cache d.0 d.1 (temporary_like m n like t.temporary) free a later it.rises it.is.outcome in
+          let gone : later ≡ without n x.cache.0 = (destroy_done (segments_of (M.held last)) n (G.forest next (M.held after)) x.cache d.0 d.1 (still_temporary m n like t.temporary x.cache.0 d.0 d.1) free a later it.rises it.is.outcome).next in
           let h : HasReceived m ports t port cache page place p there at x first (without n x.cache.0) = came_to after next (Ok tt) move in
           let put = received m ports t port cache page place p there at x first h.cache_to in
           let is : later ≡ without (put_cache m cache.0 put) x.cache.0 = gone ∙ h.is in

@@ -4,24 +4,18 @@ use Rattle.std.specs.Prelude.{Ok, Err, Result, option_map, slice_get}
 use Rattle.std.specs.Option.{option_map_or}
 use Rattle.std.proofs.lemmas.List.{take_all}
 use Rattle.std.proofs.lemmas.Option.{slice_get-map}
-use Rattle.vm_ids.specs.Counting.{MapperCounts}
-use Rattle.vm_ids.specs.Held.{Segments}
 use Rattle.vm_ids.specs.declared.command.PortCommand.{PortCommand}
 use Rattle.vm_ids.specs.declared.command.PortCommand.TheVariants as commands
-use Rattle.vm_ids.specs.declared.command.Span.{Span}
-use Rattle.vm_ids.specs.declared.numbers.CacheId.{CacheId}
-use Rattle.vm_ids.specs.declared.numbers.PageNo.{PageNo}
-use Rattle.vm_ids.specs.declared.numbers.PortId.{PortId}
-use Rattle.vm_ids.specs.declared.refusal.Refusal.{Refusal}
 use Rattle.vm_ids.specs.declared.refusal.Refusal.TheVariants as refusals
 use Rattle.vm_ids.specs.declared.reply.Reply.TheVariants as replies
-use Rattle.vm_ids.specs.declared.reply.Trouble.{Trouble}
 use Rattle.vm_ids.specs.declared.reply.Trouble.TheVariants as troubles
 use Rattle.vm_model.specs.Answering as plain
-use Rattle.vm_model.specs.Answering.{Answer, is_any_denied, is_any_locked, is_mapped, passes_end, put_cache, put_pages, put_span}
-use Rattle.vm_model.specs.Machine.{Cache, Machine, Page, cache_of}
-use Rattle.vm_model.specs.Outcome.{IsNotRefused}
-use Rattle.gmi_calls.specs.Calling.{done_by}
+use Rattle.interface_callers.proofs.Words.{Cache, CacheId, IsNotRefused, Machine, MapperCounts, Page, PageNo, PortId, Refusal, Segments, Span, Trouble, cache_of, done_by, is_any_denied, is_any_locked, passes_end, put_cache, put_pages, put_span}
+use Rattle.interface_callers.proofs.Alike.{AllTemporary}
+use Rattle.interface_callers.proofs.Blanks.{without}
+use Rattle.interface_callers.proofs.Rows.{RowIs}
+use Rattle.interface_callers.proofs.Copies.{undenied}
+use Rattle.interface_callers.proofs.Temporary.{unnamed}
 use Rattle.transit_ipc.specs.Answering.{Answered, receive_of, reply, span_to, unless, with_some, without_first}
 use Rattle.transit_ipc.specs.Inner.{received_span, shown}
 use Rattle.transit_ipc.specs.Outcome.{Outcome}
@@ -32,13 +26,10 @@ use Rattle.transit_ipc.specs.Transit.{is_transit}
 use Rattle.transit_ipc.specs.Tying.{AreTied, IsMessage, Waits}
 use Rattle.transit_ipc.specs.declared.port.Message.{Message}
 use Rattle.transit_ipc.specs.declared.port.Port.{Port}
-use Rattle.transit_ipc.proofs.Copying.{RowIs, undenied}
-use Rattle.transit_ipc.proofs.Emptying.{without}
 use Rattle.transit_ipc.proofs.Hiding.{hidden_cache, seen_cache}
 use Rattle.transit_ipc.proofs.Messages.{seen_apart, shown_visible, waiting_hides}
 use Rattle.transit_ipc.proofs.Moving.{MayMove, moved, received_row}
 use Rattle.transit_ipc.proofs.Sending.{no_port, port_there, unlocked}
-use Rattle.transit_ipc.proofs.Shapes.{AllTemporary}
 
 -- no cache that is seen is named
 temporary_seen : (m : Machine) (ports : List Port) → AllTemporary m → AllTemporary (memory_seen m ports)
@@ -216,7 +207,7 @@ module _ (m : Machine) (ports : List Port) (t : AreTied m ports) (port : PortId)
           ∙ ap (second_part h (port_seen m p) message) found
           ∙ (λ i. unless (passes_end d page.0 (many i)) refusals.OutOfCache M
           (unless (is_any_locked M.memory cache page.0 (many i)) refusals.Locked M
-          (unless (undenied M.memory h (span_to cache page (length message)) (temporary_seen m ports t.temporary) i) refusals.WriteDenied M
+          (unless (undenied M.memory h (span_to cache page (length message)) (unnamed M.memory (temporary_seen m ports t.temporary) cache.0) i) refusals.WriteDenied M
           (reply replies.Done (put_port (record M { memory = put_cache M.memory cache.0 (put_pages page.0 (message_is i) d) }) port.0 (without_first (port_seen m p)))))))
 
       by_rows : (d : Cache) → cache_of (memory_seen m ports) cache.0 ≡ Some d → (a b : Bool) → ((h : Segments) → receive_of M port.0 cache page h ≡ rows h d a b)

@@ -4,10 +4,11 @@ use Rattle.std.specs.Prelude.{IsSome, slice_get}
 use Rattle.std.specs.VecDeque.{deque_capacity}
 use Rattle.std.proofs.lemmas.Bool.{cases_eq}
 use Rattle.std.proofs.lemmas.List.{drop-map, length-drop, length-set, map-set}
-use Rattle.vm_model.specs.Answering.{put_cache}
-use Rattle.vm_model.specs.Machine.{Cache, Machine, cache_of}
 use Rattle.vm_model.proofs.Parts.ListParts.{numbered_set, numbered_set_other}
 use Rattle.vm_model.proofs.Parts.Lists.{numbered_place}
+use Rattle.interface_callers.proofs.Words.{Cache, Machine, cache_of, put_cache}
+use Rattle.interface_callers.proofs.Blanks.{without}
+use Rattle.interface_callers.proofs.Hiding.{put_seen}
 use Rattle.transit_ipc.specs.Answering.{without_first}
 use Rattle.transit_ipc.specs.PortMachine.{put_port}
 use Rattle.transit_ipc.specs.Seen.{memory_seen, message_seen, port_seen, ports_seen}
@@ -15,9 +16,8 @@ use Rattle.transit_ipc.specs.Transit.{is_transit}
 use Rattle.transit_ipc.specs.Tying.{AreTied, IsMessage, Waits}
 use Rattle.transit_ipc.specs.declared.port.Message.{Message}
 use Rattle.transit_ipc.specs.declared.port.Port.{Port}
-use Rattle.transit_ipc.proofs.Emptying.{without}
 use Rattle.transit_ipc.proofs.Hiding.{seen_cache}
-use Rattle.transit_ipc.proofs.Lifting.{put_seen}
+use Rattle.transit_ipc.proofs.Lifting.{view}
 use Rattle.transit_ipc.proofs.Messages.{ports_same, seen_apart, waiting_hides}
 use Rattle.transit_ipc.proofs.Replacing.{gone_hidden, port_or}
 use Rattle.transit_ipc.proofs.Taking.{Left, another, hidden_still, left}
@@ -86,7 +86,7 @@ module _ (m : Machine) (ports : List Port) (t : AreTied m ports) (place : ℕ) (
       let at : 1 + (e - 1) ≡ e = omega (arith, some_e) in
       ap (λ (caches : List (Option Cache)). record m { caches = caches })
       (gone_hidden (is_transit ports) (is_transit later) 1 (e - 1) (set m.caches (k - 1) (Some d)) (ap (is_transit ports) at ∙ waiting_hides ports place 0 x waits) (λ l a. hidden_still ports place p q there x first rest l (λ s. a (s ∙ sym at))))
-      ∙ put_seen ports m k c d found visible
+      ∙ put_seen (view ports) m k c d found (segment ∙ sym (t.temporary k c found)) visible
 
   first_gone : port_seen m q ≡ without_first (port_seen m p)
   first_gone = λ i. record { depth = depth i; messages = (ap (map (message_seen m)) rest ∙ sym (drop-map (message_seen m) 1 p.messages.items)) i }

@@ -4,29 +4,21 @@ use Rattle.std.specs.Prelude.{◌||◌, slice_get}
 use Rattle.std.specs.List.{list_any}
 use Rattle.std.proofs.lemmas.Bool.{cases_eq}
 use Rattle.std.proofs.lemmas.Option.{slice_get_within}
-use Rattle.vm_model.specs.Machine.{Cache}
 use Rattle.vm_model.proofs.Parts.Lists.{get_set_other, get_set_same}
+use Rattle.interface_callers.proofs.Words.{Cache}
+use Rattle.interface_callers.proofs.Lists.{any_at}
 use Rattle.transit_ipc.specs.Seen.{but_for}
 use Rattle.transit_ipc.specs.Transit.{is_transit, waits_in}
 use Rattle.transit_ipc.specs.Tying.{Waits}
 use Rattle.transit_ipc.specs.declared.port.Message.{Message}
 use Rattle.transit_ipc.specs.declared.port.Port.{Port}
-use Rattle.transit_ipc.proofs.Messages.{any_at}
 
 -- Lists
-
-pub or_false : (b c : Bool) → c ≡ false → (b || c) ≡ b
-or_false true c e = refl
-or_false false c e = e
 
 any_set : {A : Type 0} (f : A → Bool) (xs : List A) (i : ℕ) (x y : A) → slice_get xs i ≡ Some x → f y ≡ f x → list_any f (set xs i y) ≡ list_any f xs
 any_set f [] i x y e s = absurd (cc e)
 any_set f (z ∷ xs) zero x y e s = let same : z ≡ x = cc e in ap (λ (b : Bool). b || list_any f xs) (s ∙ ap f (sym same))
 any_set f (z ∷ xs) (suc i) x y e s = ap (λ (b : Bool). f z || b) (any_set f xs i x y e s)
-
-pub none_any : {A : Type 0} (f : A → Bool) (xs : List A) → ((i : ℕ) (x : A) → slice_get xs i ≡ Some x → f x ≡ false) → list_any f xs ≡ false
-none_any f [] h = refl
-none_any f (x ∷ xs) h = ap (λ (b : Bool). b || list_any f xs) (h 0 x refl) ∙ none_any f xs (λ i y e. h (suc i) y e)
 
 -- The ports
 

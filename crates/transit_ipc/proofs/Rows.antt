@@ -1,9 +1,7 @@
 -- A fact of each answer of a row, from the fact of its refusals and of its end; and which of them
 -- it is.
 use Rattle.std.proofs.Common.{◌≡◌, Bool, true, false, Option, Some, None, refl}
-use Rattle.vm_ids.specs.declared.refusal.Refusal.{Refusal}
-use Rattle.vm_model.specs.Answering as plain
-use Rattle.vm_model.specs.Machine.{Machine}
+use Rattle.interface_callers.proofs.Words.{Refusal}
 use Rattle.transit_ipc.specs.Answering.{Answered, refuse, unless, with_some}
 use Rattle.transit_ipc.specs.PortMachine.{PortMachine}
 
@@ -34,13 +32,3 @@ pub goes_where : (bad : Bool) (r : Refusal) (m : PortMachine) (go : Answered) �
 unfolding unless
 goes_where false r m go e = refl
 goes_where true r m go e = absurd (cc e)
-
-pub plain_refused : (bad : Bool) (r : Refusal) (m : Machine) (go : plain.Answered) → bad ≡ true → plain.unless bad r m go ≡ plain.refuse m r
-unfolding plain.unless
-plain_refused true r m go e = refl
-plain_refused false r m go e = absurd (cc e)
-
-pub plain_goes : (bad : Bool) (r : Refusal) (m : Machine) (go : plain.Answered) → bad ≡ false → plain.unless bad r m go ≡ go
-unfolding plain.unless
-plain_goes false r m go e = refl
-plain_goes true r m go e = absurd (cc e)

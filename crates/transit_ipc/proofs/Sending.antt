@@ -1,27 +1,21 @@
 -- What a send comes to: from the cache that is made for the message on.
-use Rattle.std.proofs.Common.{◌≡◌, ◌≢◌, ◌⊎◌, inl, inr, ◌==◌, ℕ, zero, suc, ◌+◌, ◌<◌, ◌≤◌, Bool, true, false, cond, List, [], ◌∷◌, ◌++◌, length, map, take, drop, Option, Some, None, refl, sym, ap, subst, ◌∙◌, arith}
+use Rattle.std.proofs.Common.{◌≡◌, ◌≢◌, ◌⊎◌, inl, inr, ◌==◌, ℕ, zero, suc, ◌+◌, ◌<◌, ◌≤◌, Bool, true, false, cond, List, length, map, take, drop, Option, Some, None, refl, sym, ap, subst, ◌∙◌, arith}
 use Rattle.std.specs.Prelude.{◌&&◌, IsSome, Ok, Err, Result, nat_le, nat_lt, option_map, slice_get}
 use Rattle.std.proofs.lemmas.Bool.Decides.{nat_tests}
-use Rattle.std.proofs.lemmas.List.{append-nil, drop_all, length-drop, length-map, length-take-le}
+use Rattle.std.proofs.lemmas.List.{length-drop, length-map, length-take-le}
 use Rattle.std.proofs.lemmas.Option.{slice_get-map, slice_get_past}
-use Rattle.vm_ids.specs.Counting.{MapperCounts}
-use Rattle.vm_ids.specs.Held.{Segments}
-use Rattle.vm_ids.specs.declared.command.Extent.{Extent}
 use Rattle.vm_ids.specs.declared.command.PortCommand.{PortCommand}
 use Rattle.vm_ids.specs.declared.command.PortCommand.TheVariants as commands
-use Rattle.vm_ids.specs.declared.command.Span.{Span}
-use Rattle.vm_ids.specs.declared.numbers.CacheId.{CacheId}
-use Rattle.vm_ids.specs.declared.numbers.PortId.{PortId}
-use Rattle.vm_ids.specs.declared.refusal.Refusal.{Refusal}
 use Rattle.vm_ids.specs.declared.refusal.Refusal.TheVariants as refusals
 use Rattle.vm_ids.specs.declared.reply.Reply.TheVariants as replies
-use Rattle.vm_ids.specs.declared.reply.Trouble.{Trouble}
 use Rattle.vm_ids.specs.declared.reply.Trouble.TheVariants as troubles
 use Rattle.vm_model.specs.Answering as plain
-use Rattle.vm_model.specs.Answering.{Answer, is_mapped, maps_in, overwrite, passes_end, put_pages, put_span}
-use Rattle.vm_model.specs.Machine.{Actor, Cache, Machine, Page, Region, cache_of, is_locked_page, locks, locks_any}
 use Rattle.vm_model.proofs.Parts.ListParts.{numbered_past, numbered_push}
-use Rattle.gmi_calls.specs.Calling.{done_by}
+use Rattle.interface_callers.proofs.Words.{Actor, Cache, CacheId, Extent, Machine, MapperCounts, Page, PortId, Refusal, Region, Segments, Span, Trouble, cache_of, done_by, is_locked_page, is_mapped, locks, locks_any, maps_in, passes_end, put_pages, put_span}
+use Rattle.interface_callers.proofs.Copies.{MayCopy, copied, copy_row}
+use Rattle.interface_callers.proofs.Rows.{RowIs}
+use Rattle.interface_callers.proofs.Lists.{any_at, none_any, overwritten}
+use Rattle.std.proofs.lemmas.Bool.{eqb-true}
 use Rattle.transit_ipc.specs.Answering.{Answered, lacks_room, pages_of, put_last, reply, send_of, unless, with_some}
 use Rattle.transit_ipc.specs.Inner.{sent_span}
 use Rattle.transit_ipc.specs.Outcome.{GoesOn, Outcome}
@@ -32,13 +26,10 @@ use Rattle.transit_ipc.specs.Transit.{is_transit}
 use Rattle.transit_ipc.specs.Tying.{AreTied}
 use Rattle.transit_ipc.specs.declared.port.Message.{Message}
 use Rattle.transit_ipc.specs.declared.port.Port.{Port}
-use Rattle.transit_ipc.proofs.Appending.{appended, at_last, last_replaced, next_of, temporary_appended}
-use Rattle.transit_ipc.proofs.Copying.{MayCopy, RowIs, copied, copy_row}
+use Rattle.transit_ipc.proofs.Appending.{appended, at_last, last_replaced, next_of}
 use Rattle.transit_ipc.proofs.Counting.{lacks_same}
 use Rattle.transit_ipc.proofs.Fresh.{has_no_room}
 use Rattle.transit_ipc.proofs.Hiding.{hidden_cache, length_seen, seen_cache}
-use Rattle.transit_ipc.proofs.Messages.{any_at, equal}
-use Rattle.transit_ipc.proofs.Replacing.{none_any}
 use Rattle.transit_ipc.proofs.Rows.{goes_where, refused_where}
 
 -- What isn't seen isn't mapped
@@ -81,17 +72,6 @@ no_port m ports (suc i) (inr h) = slice_get_past (map (port_seen m) ports) i (om
 
 pub port_there : (m : Machine) (ports : List Port) (place : ℕ) (p : Port) (n : ℕ) → slice_get ports place ≡ Some p → n ≡ suc place → port_of (ports_seen m ports) n ≡ Some (port_seen m p)
 port_there m ports place p n there at = ap (port_in (map (port_seen m) ports)) at ∙ slice_get-map (port_seen m) ports place ∙ ap (option_map (port_seen m)) there
-
--- a whole list is replaced
-overwritten : {A : Type 0} (part whole : List A) → length whole ≡ length part → overwrite 0 part whole ≡ part
-overwritten part whole same =
-    ap (λ xs. (xs ++ part) ++ drop (0 + length part) whole) (none_taken whole)
-    ∙ ap (λ xs. part ++ xs) (drop_all (0 + length part) whole (omega (arith, same)))
-    ∙ append-nil part
-  where
-    none_taken : {A : Type 0} (xs : List A) → take 0 xs ≡ []
-    none_taken [] = refl
-    none_taken (x ∷ xs) = refl
 
 abbrev nowhere : CacheId
 nowhere = record { 0 = 0 }
@@ -176,7 +156,7 @@ module _ (m : Machine) (ports : List Port) (t : AreTied m ports) (port : PortId)
           source_same = by (e.cache.0 == x.cache.0) (is_transit ports e.cache.0) refl refl
             where
               by : (b c : Bool) → (e.cache.0 == x.cache.0) ≡ b → is_transit ports e.cache.0 ≡ c → cache_of with_message (let k : CacheId = cond b nowhere (cond c nowhere e.cache) in k.0) ≡ cache_of (memory_seen m ports) e.cache.0
-              by true c is hidden = sym (ap (cache_of (memory_seen m ports)) (equal e.cache.0 x.cache.0 is) ∙ unseen)
+              by true c is hidden = sym (ap (cache_of (memory_seen m ports)) (eqb-true e.cache.0 x.cache.0 is) ∙ unseen)
               by false true is hidden = sym (hidden_cache m ports e.cache.0 hidden)
               by false false is hidden = numbered_push m.caches (Some d) e.cache.0 (let other : e.cache.0 ≢ x.cache.0 = grind (arith, nat_tests) in λ same. other (same ∙ sym new)) ∙ sym (seen_cache m ports e.cache.0 hidden)
 
@@ -191,7 +171,7 @@ module _ (m : Machine) (ports : List Port) (t : AreTied m ports) (port : PortId)
           pub may : MayCopy with_message span d
           may = record {
             to = at_last m (Some d) x.cache.0 new;
-            all = temporary_appended m (Some d) t.temporary (λ c f. let same : d ≡ c = cc f in ap (λ (y : Cache). y.segment) (sym same) ∙ temporary);
+            temporary = temporary;
             fits = omega (arith, long);
             apart = source_apart;
             unlocked = unlocked m ports t x.cache.0 unseen;

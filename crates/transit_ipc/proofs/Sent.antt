@@ -1,33 +1,25 @@
 -- A send is answered: refused at once, or by what its calls of the manager came to.
-use Rattle.std.proofs.Common.{◌≡◌, ◌⊎◌, ◌==◌, ℕ, zero, suc, ◌^◌, ◌<◌, ◌≤◌, true, false, List, [], ◌∷◌, ◌++◌, length, set, Option, Some, None, refl, sym, ap, subst, ◌∙◌, arith, Bool}
-use Rattle.std.specs.Prelude.{Ok, Err, IsSome, Result, slice_get, ◌||◌, nat_le}
+use Rattle.std.proofs.Common.{◌≡◌, inl, inr, ◌⊎◌, ◌==◌, ℕ, zero, suc, ◌^◌, ◌<◌, ◌≤◌, true, false, List, [], ◌∷◌, ◌++◌, length, set, Option, Some, None, refl, sym, ap, subst, ◌∙◌, arith, Bool}
+use Rattle.std.specs.Prelude.{Ok, Err, IsSome, Result, slice_get}
 use Rattle.std.specs.Bool.{IsTrue}
 use Rattle.std.specs.VecDeque.{deque_capacity}
 use Rattle.std.proofs.lemmas.Bool.Decides.{nat_tests}
 use Rattle.std.proofs.lemmas.Option.{slice_get_within}
-use Rattle.vm_ids.specs.Counting.{MapperCounts}
-use Rattle.vm_ids.specs.Held.{Segments, segments_of}
 use Rattle.vm_ids.specs.declared.command.Command.TheVariants as vm_commands
-use Rattle.vm_ids.specs.declared.command.Extent.{Extent}
 use Rattle.vm_ids.specs.declared.command.PortCommand.{PortCommand}
 use Rattle.vm_ids.specs.declared.command.PortCommand.TheVariants as commands
-use Rattle.vm_ids.specs.declared.numbers.CacheId.{CacheId}
-use Rattle.vm_ids.specs.declared.numbers.PortId.{PortId}
 use Rattle.vm_ids.specs.declared.refusal.Refusal.TheVariants as refusals
 use Rattle.vm_ids.specs.declared.reply.Reply.TheVariants as replies
-use Rattle.vm_ids.specs.declared.reply.Trouble.{Trouble}
 use Rattle.vm_ids.specs.declared.reply.Trouble.TheVariants as troubles
-use Rattle.vm_model.specs.Answering.{Answer, is_mapped}
-use Rattle.vm_model.specs.Machine.{Cache, Machine, cache_of}
-use Rattle.vm_model.specs.Outcome.{OutcomeAt}
-use Rattle.vm_model.specs.declared.limits.TheConstants.{MOST_MADE}
 use Rattle.vm_model.proofs.Parts.Lists.{is_there}
 use Rattle.vm_model.proofs.Parts.ListParts.{numbered_past}
-use Rattle.vm_port.specs.declared.traits.mapper.Mapper.{Ghosts as GhostsOfMapper}
-use Rattle.gmi_calls.specs.Calling.{CallDone, Fits, MapperCall, done_by}
-use Rattle.gmi_calls.specs.Managing.{meanings_of}
-use Rattle.gmi_calls.specs.declared.gmi.Gmi.{Ghosts as GhostsOfGmi}
 use Rattle.gmi_calls.proofs.Still.{without_mapper}
+use Rattle.interface_callers.proofs.Words.{Answer, Cache, CacheId, CallDone, Extent, Fits, GhostsOfGmi, GhostsOfMapper, Machine, MapperCall, MapperCounts, OutcomeAt, PortId, Segments, Trouble, cache_of, done_by, is_mapped, meanings_of, segments_of}
+use Rattle.interface_callers.proofs.Blanks.{without}
+use Rattle.interface_callers.proofs.Copies.{copied_at}
+use Rattle.interface_callers.proofs.Temporary.{destroy_done}
+use Rattle.interface_callers.proofs.Making.{IsMade, IsUnmade, few_caches, fresh_cache, made_at, made_number, unmade_at}
+use Rattle.std.proofs.lemmas.List.{length-replicate}
 use Rattle.transit_ipc.specs.Answering.{put_last}
 use Rattle.transit_ipc.specs.Calling.{PortCall}
 use Rattle.transit_ipc.specs.Inner.{sent_span}
@@ -41,12 +33,9 @@ use Rattle.transit_ipc.specs.declared.port.Port.{Port}
 use Rattle.transit_ipc.specs.declared.table.Ports.{Ports}
 use Rattle.transit_ipc.proofs.Appending.{appended, at_last, last_replaced, next_of, seen_sent, seen_taken, still_there, temporary_appended, tied_sent, tied_taken}
 use Rattle.transit_ipc.proofs.Calls.{call_is}
-use Rattle.transit_ipc.proofs.Copying.{copied_at}
-use Rattle.transit_ipc.proofs.Emptying.{without}
 use Rattle.transit_ipc.proofs.Going.{Goes, goes_none, goes_on, mapped_alive, port_call, tied_none, tied_plain}
 use Rattle.transit_ipc.proofs.Hiding.{length_seen}
 use Rattle.transit_ipc.proofs.Sending.{Ends, HasSent, ends, full, many, may, no_memory, nobody, unmapped}
-use Rattle.transit_ipc.proofs.Temporary.{IsMade, LacksRoom, destroyed_at, temp_at}
 
 -- what stands at a place
 pub found_at : {A : Type 0} (xs : List A) (i : ℕ) → i < length xs → (x : A) × (slice_get xs i ≡ Some x)
@@ -85,10 +74,11 @@ module _ {Manager X Chooser : Type 0} (M : GhostsOfMapper X) (G : GhostsOfGmi Ma
       pub has_room : length p.messages.items < deque_capacity p.messages
       has_room = omega (arith, less, t.roomy place p there)
 
-      lacks : (trouble : Trouble) → LacksRoom m e.pages trouble → (h : Segments) (rises : MapperCounts) → Outcome seen command h (Err trouble) seen rises
-      lacks troubles.Memory lack h rises = no_memory m ports t port e place p there at free lack h rises
-      lacks (troubles.Refused refusals.TooMany) lack h rises = many m ports t port e place p there at free lack
-      lacks trouble lack h rises = absurd lack
+      lacks : (trouble : Trouble) (n : Machine) → IsUnmade m e.pages (Err trouble) n → (h : Segments) (rises : MapperCounts) → Outcome seen command h (Err trouble) seen rises
+      lacks trouble n l h rises = elim l.why [
+        | inl w ↦ subst (λ (x : Trouble). Outcome seen command h (Err x) seen rises) (let both : Err trouble ≡ Err troubles.Memory = w.0 in let is : trouble ≡ troubles.Memory = cc both in sym is) (no_memory m ports t port e place p there at free w.1 h rises)
+        | inr w ↦ subst (λ (x : Trouble). Outcome seen command h (Err x) seen rises) (let both : Err trouble ≡ Err (troubles.Refused refusals.TooMany) = w.0 in let is : trouble ≡ troubles.Refused refusals.TooMany = cc both in sym is) (many m ports t port e place p there at free w.1)
+      ]
 
       abbrev made_call : Manager → Answer → Type 0
       made_call gmi a = CallDone (meanings_of G) old.gmi (vm_commands.MakeTemp e.pages) a gmi
@@ -100,49 +90,51 @@ module _ {Manager X Chooser : Type 0} (M : GhostsOfMapper X) (G : GhostsOfGmi Ma
           let g0 = goes_none M G old before can in
           let it = call_is M G old.gmi new.gmi before before (vm_commands.MakeTemp e.pages) (Err trouble) [] g0.able call in
           let later : Machine = G.machine new.gmi (M.held before) in
-          let was = temp_at (segments_of (M.held before)) m later (G.forest old.gmi (M.held before)) e.pages (Err trouble) it.rises it.is.outcome in
-          let tied : AreTied later ports = subst (λ (x : Machine). AreTied x ports) (sym was.0) t in
+          let was = unmade_at (segments_of (M.held before)) m (G.forest old.gmi (M.held before)) e.pages trouble later it.rises it.is.outcome in
+          let tied : AreTied later ports = subst (λ (x : Machine). AreTied x ports) (sym was.next) t in
           let tied_now : AreTied later new.ports.items = subst (λ (ps : List Port). AreTied later ps) (sym items) tied in
-          let same : ports_seen later new.ports.items ≡ seen = λ i. ports_seen (was.0 i) (items i) in
+          let same : ports_seen later new.ports.items ≡ seen = λ i. ports_seen (was.next i) (items i) in
           let g1 = goes_on M G old before can before before old.gmi new.gmi 0 g0 (vm_commands.MakeTemp e.pages) (Err trouble) call (tied_none later ports tied) in
           port_call M G old before can before new 1 (omega arith) g1 tied_now command (Err trouble) (λ rises. tt) tt
-          (λ h rises. subst (λ (y : PortMachine). Outcome seen command h (Err trouble) y rises) (sym same) (lacks trouble was.1 h rises))
+          (λ h rises. subst (λ (y : PortMachine). Outcome seen command h (Err trouble) y rises) (sym same) (lacks trouble later was h rises))
 
       module _ (gmi : Manager) (cache : CacheId) (done : made_call gmi (Ok (replies.Cache cache))) where
         abbrev call : MapperCall M (meanings_of G) before old.gmi (vm_commands.MakeTemp e.pages) (Ok (replies.Cache cache)) before gmi
         call = without_mapper M (meanings_of G) before old.gmi can.valid (vm_commands.MakeTemp e.pages) (Ok (replies.Cache cache)) gmi done
 
-        made : IsMade m (G.machine gmi (M.held before)) e.pages cache
+        made : IsMade (segments_of (M.held before)) m e.pages (Ok (replies.Cache cache)) (G.machine gmi (M.held before))
         made =
             let it = call_is M G old.gmi gmi before before (vm_commands.MakeTemp e.pages) (Ok (replies.Cache cache)) [] ((goes_none M G old before can).able) call in
-            temp_at (segments_of (M.held before)) m (G.machine gmi (M.held before)) (G.forest old.gmi (M.held before)) e.pages (Ok cache) it.rises it.is.outcome
+            made_at (segments_of (M.held before)) m (G.forest old.gmi (M.held before)) e.pages (replies.Cache cache) (G.machine gmi (M.held before)) it.rises it.is.outcome
+
+        abbrev fresh : Cache
+        fresh = fresh_cache (segments_of (M.held before)) m.page_bytes e.pages
+
+        number : cache.0 ≡ next_of m
+        number = made_number (segments_of (M.held before)) m (G.machine gmi (M.held before)) e.pages cache made
+
+        long : length fresh.pages ≡ e.pages
+        long = length-replicate e.pages _
 
         -- the table has a place for its number
         pub has_place : (ps : List Port) (table : List Bool) → ps ≡ ports → IsTable ps table → cache.0 < length table
         has_place ps table same t =
-            omega (arith, made.number, either_false (nat_le MOST_MADE (length m.caches)) _ made.room few, t.covers (omega (arith, ap (λ (xs : List Port). length xs) same, slice_get_within ports place p there)))
-          where
-            few : nat_le MOST_MADE (length m.caches) ≡ false → length m.caches < MOST_MADE
-            few is = grind (arith, nat_tests)
-
-            either_false : {P : Type 0} (a b : Bool) → (a || b) ≡ false → (a ≡ false → P) → P
-            either_false true b is then = absurd (cc is)
-            either_false false b is then = then refl
+            omega (arith, number, few_caches m e.pages made.room, t.covers (omega (arith, ap (λ (xs : List Port). length xs) same, slice_get_within ports place p there)))
 
         abbrev with_cache : Machine
-        with_cache = appended m (Some made.fresh)
+        with_cache = appended m (Some fresh)
 
-        temporary : (c : Cache) → Some made.fresh ≡ Some c → c.segment ≡ None
-        temporary c f = let same : made.fresh ≡ c = cc f in ap (λ (y : Cache). y.segment) (sym same) ∙ made.segment
+        temporary : (c : Cache) → Some fresh ≡ Some c → c.segment ≡ None
+        temporary c f = let same : fresh ≡ c = cc f in ap (λ (y : Cache). y.segment) (sym same)
 
         alive : (k : ℕ) → IsTrue (is_mapped m k) → IsSome (cache_of with_cache k)
         alive k is =
             let c = is_there (cache_of m k) (mapped_alive m ports t k is) in
-            subst (λ (o : Option Cache). IsSome o) (sym (still_there m (Some made.fresh) k c.0 c.1)) refl
+            subst (λ (o : Option Cache). IsSome o) (sym (still_there m (Some fresh) k c.0 c.1)) refl
 
         pub goes_made : Goes M G old before can before gmi 1
         goes_made = goes_on M G old before can before before old.gmi gmi 0 (goes_none M G old before can) (vm_commands.MakeTemp e.pages) (Ok (replies.Cache cache)) call
-            (subst (λ (x : Machine). AreTied x []) (sym made.is) (tied_plain with_cache (temporary_appended m (Some made.fresh) t.temporary temporary) alive))
+            (subst (λ (x : Machine). AreTied x []) (sym made.next) (tied_plain with_cache (temporary_appended m (Some fresh) t.temporary temporary) alive))
 
         pub made_few : G.made old.gmi ≤ 2 ^ 61 → G.made gmi ≤ 2 ^ 62
         made_few few = omega (arith, few, goes_made.made)
@@ -158,16 +150,16 @@ module _ {Manager X Chooser : Type 0} (M : GhostsOfMapper X) (G : GhostsOfGmi Ma
           n = G.machine next (M.held after)
 
           abbrev EndsSo : Result (Unit {0}) Trouble → Type 0
-          EndsSo r = Ends m ports t port e place p there at free made.room x made.number made.fresh made.segment made.many r n
+          EndsSo r = Ends m ports t port e place p there at free made.room x number fresh refl long r n
 
           ended : EndsSo result
           ended =
               let it = call_is M G gmi next before after (vm_commands.Copy (sent_span ports x e)) (done_by result) [] goes_made.able copy in
               let told : Option Segments = segments_of (M.held after) in
               let outcome : OutcomeAt told with_cache (G.forest gmi (M.held before)) (vm_commands.Copy (sent_span ports x e)) (done_by result) n it.rises =
-              subst (λ (y : Machine). OutcomeAt told y (G.forest gmi (M.held before)) (vm_commands.Copy (sent_span ports x e)) (done_by result) n it.rises) made.is it.is.outcome in
-              ends m ports t port e place p there at free made.room x made.number made.fresh made.segment made.many result n
-              (copied_at told with_cache (sent_span ports x e) made.fresh (may m ports t port e place p there at free made.room x made.number made.fresh made.segment made.many) (G.forest gmi (M.held before)) result n it.rises outcome)
+              subst (λ (y : Machine). OutcomeAt told y (G.forest gmi (M.held before)) (vm_commands.Copy (sent_span ports x e)) (done_by result) n it.rises) made.next it.is.outcome in
+              ends m ports t port e place p there at free made.room x number fresh refl long result n
+              (copied_at told with_cache (sent_span ports x e) fresh (may m ports t port e place p there at free made.room x number fresh refl long) (G.forest gmi (M.held before)) result n it.rises outcome)
 
           goes_copied : AreTied n [] → Goes M G old before can after next 2
           goes_copied tied = goes_on M G old before can before after gmi next 1 goes_made (vm_commands.Copy (sent_span ports x e)) (done_by result) copy tied
@@ -178,11 +170,11 @@ module _ {Manager X Chooser : Type 0} (M : GhostsOfMapper X) (G : GhostsOfGmi Ma
             → PortCall M G before old command (Ok replies.Done) after new
         send_done some after new copy q items depth room pushed =
             let later : Machine = G.machine new.gmi (M.held after) in
-            let h : HasSent m ports t port e place p there at free made.room x made.number made.fresh made.segment made.many later = ended some after new.gmi (Ok tt) copy in
-            let tied : AreTied (appended m (Some h.cache)) (set ports place q) = tied_sent m ports t place p q there depth room x pushed made.number h.cache h.segment some h.pages less in
+            let h : HasSent m ports t port e place p there at free made.room x number fresh refl long later = ended some after new.gmi (Ok tt) copy in
+            let tied : AreTied (appended m (Some h.cache)) (set ports place q) = tied_sent m ports t place p q there depth room x pushed number h.cache h.segment some h.pages less in
             let tied_now : AreTied later new.ports.items = subst (λ (ps : List Port). AreTied later ps) (sym items) (subst (λ (y : Machine). AreTied y (set ports place q)) (sym h.is) tied) in
             let same : ports_seen later new.ports.items ≡ put_port (take_number seen) port.0 (put_last h.cache.pages (port_seen m p)) =
-            (λ i. ports_seen (h.is i) (items i)) ∙ seen_sent m ports t place p q there depth room x pushed made.number h.cache port.0 at in
+            (λ i. ports_seen (h.is i) (items i)) ∙ seen_sent m ports t place p q there depth room x pushed number h.cache port.0 at in
             port_call M G old before can after new 2 (omega arith) (goes_copied some after new.gmi (Ok tt) copy (tied_none later new.ports.items tied_now)) tied_now command (Ok replies.Done) (λ rises. tt) tt
             (λ g rises. subst (λ (y : PortMachine). Outcome seen command g (Ok replies.Done) y rises) (sym same) (h.outcome g rises))
 
@@ -191,7 +183,7 @@ module _ {Manager X Chooser : Type 0} (M : GhostsOfMapper X) (G : GhostsOfGmi Ma
           stays = ended some after next (Err trouble) copy
 
           tied_still : AreTied (G.machine next (M.held after)) []
-          tied_still = subst (λ (y : Machine). AreTied y []) (sym stays.0) (tied_plain with_cache (temporary_appended m (Some made.fresh) t.temporary temporary) alive)
+          tied_still = subst (λ (y : Machine). AreTied y []) (sym stays.0) (tied_plain with_cache (temporary_appended m (Some fresh) t.temporary temporary) alive)
 
           pub goes_failed : Goes M G old before can after next 2
           goes_failed = goes_copied some after next (Err trouble) copy tied_still
@@ -208,12 +200,12 @@ module _ {Manager X Chooser : Type 0} (M : GhostsOfMapper X) (G : GhostsOfGmi Ma
               let it = call_is M G next new.gmi after last (vm_commands.Destroy cache) a [] goes_failed.able destroy in
               let n : Machine = G.machine next (M.held after) in
               let later : Machine = G.machine new.gmi (M.held last) in
-              let there_still : cache_of n cache.0 ≡ Some made.fresh = ap (λ (y : Machine). cache_of y cache.0) stays.0 ∙ at_last m (Some made.fresh) cache.0 made.number in
-              let free_still : is_mapped n cache.0 ≡ false = ap (λ (y : Machine). is_mapped y cache.0) stays.0 ∙ unmapped m ports t cache.0 (never_seen cache.0 made.number) in
+              let there_still : cache_of n cache.0 ≡ Some fresh = ap (λ (y : Machine). cache_of y cache.0) stays.0 ∙ at_last m (Some fresh) cache.0 number in
+              let free_still : is_mapped n cache.0 ≡ false = ap (λ (y : Machine). is_mapped y cache.0) stays.0 ∙ unmapped m ports t cache.0 (never_seen cache.0 number) in
               let is : later ≡ appended m None =
-              destroyed_at (segments_of (M.held last)) n (G.forest next (M.held after)) cache made.fresh there_still tied_still.temporary free_still a later it.rises it.is.outcome
+              (destroy_done (segments_of (M.held last)) n (G.forest next (M.held after)) cache fresh there_still refl free_still a later it.rises it.is.outcome).next
               ∙ ap (λ (y : Machine). without y cache.0) stays.0
-              ∙ last_replaced m (Some made.fresh) None cache.0 made.number in
+              ∙ last_replaced m (Some fresh) None cache.0 number in
               let tied : AreTied later ports = subst (λ (y : Machine). AreTied y ports) (sym is) (tied_taken m ports t) in
               let tied_now : AreTied later new.ports.items = subst (λ (ps : List Port). AreTied later ps) (sym items) tied in
               let same : ports_seen later new.ports.items ≡ take_number seen = (λ i. ports_seen (is i) (items i)) ∙ seen_taken m ports t in

@@ -2,22 +2,20 @@
 use Rattle.std.proofs.Common.{◌≡◌, ◌≢◌, ◌⊎◌, inl, inr, ◌==◌, ℕ, suc, Bool, false, List, [], ◌∷◌, set, drop, Some, refl, sym, ap, ◌∙◌, arith}
 use Rattle.std.specs.List.{list_any}
 use Rattle.std.specs.Prelude.{◌||◌, slice_get}
-use Rattle.std.proofs.lemmas.Bool.Decides.{nat_tests}
 use Rattle.vm_model.proofs.Parts.ListParts.{get_drop}
+use Rattle.interface_callers.proofs.Lists.{either}
 use Rattle.transit_ipc.specs.Transit.{is_transit}
 use Rattle.transit_ipc.specs.Tying.{AreApart, Waits}
 use Rattle.transit_ipc.specs.declared.port.Message.{Message}
 use Rattle.transit_ipc.specs.declared.port.Port.{Port}
-use Rattle.transit_ipc.proofs.Messages.{either, has_number, hidden_waits}
+use Rattle.transit_ipc.proofs.Counting.{other_number}
+use Rattle.transit_ipc.proofs.Messages.{has_number, hidden_waits}
 use Rattle.transit_ipc.proofs.Replacing.{hidden_as, waits_or}
 
 -- without its first message a list has the same others
 any_rest : (n : ℕ) (x : Message) (ms : List Message) → slice_get ms 0 ≡ Some x → (x.cache.0 == n) ≡ false → list_any (has_number n) (drop 1 ms) ≡ list_any (has_number n) ms
 any_rest n x [] first other = refl
 any_rest n x (y ∷ ms) first other = let same : y ≡ x = cc first in ap (λ (b : Bool). b || list_any (has_number n) ms) (sym (ap (has_number n) same ∙ other))
-
-other_number : (n k : ℕ) → k ≢ n → (n == k) ≡ false
-other_number n k apart = grind (arith, nat_tests)
 
 module _ (ports : List Port) (place : ℕ) (p q : Port) (there : slice_get ports place ≡ Some p) (x : Message) (first : slice_get p.messages.items 0 ≡ Some x) (rest : q.messages.items ≡ drop 1 p.messages.items) where
   abbrev later : List Port

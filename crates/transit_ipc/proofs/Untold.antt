@@ -1,21 +1,12 @@
 -- Steps of ports where the mapper doesn't tell what it holds, and what is told after a call.
-use Rattle.std.proofs.Common.{◌≡◌, ◌==◌, ℕ, suc, ◌+◌, ◌-◌, Bool, true, false, cond, List, [], ◌∷◌, Option, Some, None, refl, ap, subst, ◌∙◌, arith}
+use Rattle.std.proofs.Common.{◌≡◌, ℕ, ◌+◌, Bool, true, false, List, [], ◌∷◌, Option, Some, None, refl, sym, ap, subst, ◌∙◌}
 use Rattle.std.specs.Prelude.{All, IsSome, option_and_then, slice_get}
-use Rattle.std.specs.Option.{option_map_or}
 use Rattle.std.proofs.lemmas.List.Elements.{All-cons, All-head, All-tail}
-use Rattle.vm_ids.specs.Counting.{MapperCounts}
-use Rattle.vm_ids.specs.Held.{Segments}
-use Rattle.vm_ids.specs.declared.command.Command.{Command}
 use Rattle.vm_ids.specs.declared.command.PortCommand.{PortCommand}
 use Rattle.vm_ids.specs.declared.command.PortCommand.TheVariants.{Plain}
-use Rattle.vm_model.specs.Answering.{Answer}
-use Rattle.vm_model.specs.Machine.{Cache, Machine, cache_named}
 use Rattle.vm_model.specs.Outcome as plain
-use Rattle.vm_model.specs.Outcome.{HasWholePages, IsAlike, IsWhole, OutcomeAt, blank, blank_cache}
-use Rattle.vm_model.specs.PageForest.{PageForest}
-use Rattle.vm_model.specs.Pushing.{PushRule, page_named, segments_after}
-use Rattle.vm_model.proofs.Parts.ListParts.{at_some}
-use Rattle.gmi_calls.specs.Untold.{UntoldStep}
+use Rattle.interface_callers.proofs.Words.{Answer, Cache, Command, HasWholePages, IsAlike, IsWhole, Machine, MapperCounts, OutcomeAt, PageForest, PushRule, Segments, UntoldStep, blank, cache_named, page_named}
+use Rattle.interface_callers.proofs.Naming.{after_none, named_cache}
 use Rattle.transit_ipc.specs.Outcome.{Outcome}
 use Rattle.transit_ipc.specs.Seen.{but_for, ports_seen}
 use Rattle.transit_ipc.specs.Stepping.{FindsAllBytes, StepAt, WholeStep, forget}
@@ -74,25 +65,15 @@ step_called before (Some h) m n ports later tied f c a rises command leads o = l
 
 -- No segment changes
 
-none_named : (seg : ℕ) (cs : List (Option Cache)) → ((i : ℕ) (c : Cache) → slice_get cs i ≡ Some (Some c) → c.segment ≡ None) → cache_named cs seg ≡ None
-none_named seg [] temporary = refl
-none_named seg (None ∷ cs) temporary = none_named seg cs (λ i c e. temporary (suc i) c e)
-none_named seg (Some c ∷ cs) temporary =
-    ap (λ (o : Option ℕ). cond (option_map_or (λ s. s == seg) o false) (Some c) (cache_named cs seg)) (temporary 0 c refl)
-    ∙ none_named seg cs (λ i c e. temporary (suc i) c e)
-
 module _ (m : Machine) (ports : List Port) (tied : AreTied m ports) where
-  no_segment : (i : ℕ) (c : Cache) → slice_get m.caches i ≡ Some (Some c) → c.segment ≡ None
-  no_segment i c e = tied.temporary (suc i) c (at_some m.caches (suc i) (omega arith) ∙ ap (option_and_then (λ (x : Option Cache). x)) (ap (slice_get m.caches) (let k : suc i - 1 ≡ i = omega arith in k) ∙ e))
-
   no_page : (seg page : ℕ) → page_named m seg page ≡ None
-  no_page seg page = ap (option_and_then (λ (c : Cache). slice_get c.pages page)) (none_named seg m.caches no_segment)
-
-  after_none : (pushes : List (ℕ × ℕ)) → segments_after m pushes None ≡ None
-  after_none [] = refl
-  after_none (p ∷ ps) = after_none ps
+  no_page seg page = by (cache_named m.caches seg) refl
+    where
+      by : (o : Option Cache) → cache_named m.caches seg ≡ o → option_and_then (λ (c : Cache). slice_get c.pages page) (cache_named m.caches seg) ≡ None
+      by None e = ap (option_and_then (λ (c : Cache). slice_get c.pages page)) e
+      by (Some c) e = let n = named_cache m seg c e in absurd (let wrong : Some seg ≡ None = sym n.2 ∙ tied.temporary n.0 c n.1 in cc wrong)
 
   pub segments_stay : (before now : Option Segments) (pushes : List (ℕ × ℕ)) → PushRule m before pushes now → now ≡ before
-  segments_stay None now pushes rule = rule.pushed ∙ after_none pushes
+  segments_stay None now pushes rule = rule.pushed ∙ after_none m pushes
   segments_stay (Some s) now [] rule = rule.pushed
   segments_stay (Some s) now (p ∷ ps) rule = absurd (let wrong : IsSome (let none : Option (List ℕ) = None in none) = subst IsSome (no_page p.0 p.1) rule.may.0.0 in cc wrong)

@@ -7,22 +7,13 @@ use Rattle.std.proofs.lemmas.Bool.Decides.{nat_tests}
 use Rattle.std.proofs.lemmas.List.{length-take-le}
 use Rattle.std.proofs.lemmas.Option.{slice_get_within}
 use Rattle.std.proofs.Math.Seq.{drop-append_seam, take-append_seam}
-use Rattle.vm_ids.specs.Held.{Segments}
-use Rattle.vm_ids.specs.declared.command.Command.{Command}
-use Rattle.vm_ids.specs.Counting.{MapperCounts}
-use Rattle.vm_ids.specs.declared.command.Extent.{Extent}
 use Rattle.vm_ids.specs.declared.command.PortCommand.{PortCommand}
 use Rattle.vm_ids.specs.declared.command.PortCommand.TheVariants as commands
-use Rattle.vm_ids.specs.declared.numbers.CacheId.{CacheId}
-use Rattle.vm_ids.specs.declared.numbers.PageNo.{PageNo}
-use Rattle.vm_ids.specs.declared.numbers.PortId.{PortId}
 use Rattle.vm_ids.specs.declared.reply.Trouble.TheVariants as troubles
 use Rattle.vm_model.specs.Answering as plain
-use Rattle.vm_model.specs.Answering.{Answer, overwrite, passes_end, put_cache, put_pages}
-use Rattle.vm_model.specs.Machine.{Cache, cache_of}
-use Rattle.vm_model.specs.PageForest.{plain_forest}
 use Rattle.vm_model.proofs.Parts.ListParts.{numbered_set}
 use Rattle.vm_model.proofs.Parts.Lists.{get_set_other, get_set_same}
+use Rattle.interface_callers.proofs.Words.{Answer, Cache, CacheId, Command, Extent, MapperCounts, PageNo, PortId, Segments, cache_of, overwrite, passes_end, plain_forest, put_cache, put_pages}
 use Rattle.transit_ipc.specs.Answering.{Answered, answer_of, empty_port, make_port_of, pages_of, plain_of, put_last, receive_of, send_of, without_first}
 use Rattle.transit_ipc.specs.Laws.{MessagesAreInOrder, first_length, pages_held, received, received_by, sent, sent_by}
 use Rattle.transit_ipc.specs.Outcome.{Outcome, Stays}

@@ -1,5 +1,5 @@
 use Rattle.std.proofs.Common.{◌-◌, List, Option, None, refl, sym, ap, ◌∙◌, arith}
-use Rattle.vm_model.specs.Machine.{numbered}
+use Rattle.interface_callers.proofs.Words.{numbered}
 use Rattle.mix_process.specs.declared.process.Process.{Process}
 use Rattle.mix_process.proofs.Ending.{end_able, exit_nobody, exited, written_back}
 use Rattle.mix_process.proofs.mix.Mix.exit.Goals as goal

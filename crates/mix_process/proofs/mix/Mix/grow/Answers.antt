@@ -1,9 +1,8 @@
 use Rattle.std.proofs.Common.{sym, subst, arith}
 use Rattle.std.specs.Prelude.{Err}
 use Rattle.vm_ids.specs.declared.command.MixCommand.TheVariants.{Grow}
-use Rattle.vm_ids.specs.declared.refusal.Refusal.{Refusal}
 use Rattle.vm_ids.specs.declared.reply.Trouble.TheVariants.{Refused}
-use Rattle.gmi_calls.specs.Calling.{done_by}
+use Rattle.interface_callers.proofs.Words.{Refusal, done_by}
 use Rattle.mix_process.specs.Calling.{MixCall}
 use Rattle.mix_process.proofs.Fitted.{handed_on}
 use Rattle.mix_process.proofs.Growing.{data_few, grew, grow_nobody, grow_too_large, may_grow}

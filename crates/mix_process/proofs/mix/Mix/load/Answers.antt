@@ -1,5 +1,5 @@
 use Rattle.std.proofs.Common.{List, Option, sym, ap, ◌∙◌}
-use Rattle.vm_model.specs.Machine.{numbered}
+use Rattle.interface_callers.proofs.Words.{numbered}
 use Rattle.mix_process.specs.declared.process.Process.{Process}
 use Rattle.mix_process.proofs.Single.{load_called, load_nobody}
 use Rattle.mix_process.proofs.mix.Mix.load.Goals as goal

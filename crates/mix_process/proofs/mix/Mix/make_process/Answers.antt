@@ -1,7 +1,7 @@
 use Rattle.std.proofs.Common.{◌++◌, ◌∷◌, [], List, Option, Some, ap, ◌∙◌}
 use Rattle.std.proofs.lemmas.Result.{err_from_is_err_and}
 use Rattle.vm_ids.specs.declared.reply.Reply.TheVariants as replies
-use Rattle.vm_model.specs.Answering.{answer_by}
+use Rattle.interface_callers.proofs.Words.{answer_by}
 use Rattle.mix_process.specs.declared.process.Process.{Process}
 use Rattle.mix_process.proofs.Begun.{begun, no_room, not_begun}
 use Rattle.mix_process.proofs.mix.Mix.make_process.Goals as goal

@@ -1,6 +1,5 @@
 use Rattle.std.proofs.Common.{List, [], Option, length, sym, subst}
-use Rattle.vm_model.specs.Machine.{numbered}
-use Rattle.vm_ids.specs.Held.{segments_of}
+use Rattle.interface_callers.proofs.Words.{numbered, segments_of}
 use Rattle.mix_process.specs.Outcome.{usage_of}
 use Rattle.mix_process.specs.Seen.{processes_seen}
 use Rattle.mix_process.specs.Tying.{AreAble, none_spare}

@@ -2,7 +2,7 @@ use Rattle.std.proofs.Common.{◌++◌, ◌∷◌, [], List, ap, ◌∙◌}
 use Rattle.std.specs.Prelude.{option_map}
 use Rattle.std.proofs.lemmas.Result.{err_from_is_err_and}
 use Rattle.vm_ids.specs.declared.reply.Reply.TheVariants as replies
-use Rattle.vm_model.specs.Answering.{answer_by}
+use Rattle.interface_callers.proofs.Words.{answer_by}
 use Rattle.mix_process.specs.Starting.{image_for}
 use Rattle.mix_process.specs.declared.mix.Image.{Image}
 use Rattle.mix_process.proofs.Images.{found, is_none, no_entry, not_opened, was_opened}

@@ -1,5 +1,5 @@
 use Rattle.std.proofs.Common.{List, Option, sym, ap, ◌∙◌}
-use Rattle.vm_model.specs.Machine.{numbered}
+use Rattle.interface_callers.proofs.Words.{numbered}
 use Rattle.mix_process.specs.declared.process.Process.{Process}
 use Rattle.mix_process.proofs.Single.{store_called, store_nobody}
 use Rattle.mix_process.proofs.mix.Mix.store.Goals as goal

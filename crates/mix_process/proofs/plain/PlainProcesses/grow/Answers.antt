@@ -2,7 +2,7 @@ use Rattle.std.proofs.Common.{◌≡◌, ◌+◌, ◌≤◌, List, Option, Some,
 use Rattle.std.specs.Prelude.{option_map}
 use Rattle.std.proofs.lemmas.Bool.Decides.{nat_tests}
 use Rattle.vm_ids.specs.declared.reply.Reply.TheVariants as replies
-use Rattle.vm_model.specs.Machine.{numbered}
+use Rattle.interface_callers.proofs.Words.{numbered}
 use Rattle.mix_process.specs.Answering.{grown_by, put_process, reply}
 use Rattle.mix_process.specs.ProcessMachine.{Process, ProcessMachine, process_of}
 use Rattle.mix_process.specs.declared.area.TheConstants.{MOST_DATA}

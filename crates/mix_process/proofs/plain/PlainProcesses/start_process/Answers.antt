@@ -1,6 +1,6 @@
 use Rattle.std.proofs.Common.{◌≡◌, ◌+◌, ◌≤◌, ℕ, List, Some, length, ap, sym, subst, ◌∙◌, arith}
 use Rattle.std.specs.Prelude.{option_map}
-use Rattle.vm_model.specs.Machine.{Page}
+use Rattle.interface_callers.proofs.Words.{Page}
 use Rattle.mix_process.specs.Answering.{Answered, add_process, process_from}
 use Rattle.mix_process.specs.Plain.{IsAnswered}
 use Rattle.mix_process.specs.ProcessMachine.{ProcessMachine, image_in, image_of}

@@ -1,6 +1,6 @@
 use Rattle.std.proofs.Common.{◌≡◌, ◌++◌, replicate}
 use Rattle.vm_ids.specs.declared.numbers.TheConstants.{PAGE}
-use Rattle.vm_model.specs.Machine.{zero_page}
+use Rattle.interface_callers.proofs.Words.{zero_page}
 use Rattle.mix_process.proofs.plain.page.add_zeros.Given as goal
 
 abbrev pub invariant-loop-page : goal.invariant-loop-page

@@ -1,4 +1,4 @@
-use Rattle.gmi_calls.specs.Calling.{done_by}
+use Rattle.interface_callers.proofs.Words.{done_by}
 use Rattle.seg_manager.proofs.Served.{copy_served}
 use Rattle.seg_manager.proofs.manager.SegManager.copy_pages.Goals as goal
 

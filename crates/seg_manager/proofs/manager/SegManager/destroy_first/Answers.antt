@@ -1,7 +1,7 @@
 use Rattle.std.proofs.Common.{drop, ap, sym, refl}
 use Rattle.std.proofs.result.Match.{err_is}
 use Rattle.std.proofs.lemmas.Option.{get_or_from_slice_get}
-use Rattle.gmi_calls.specs.Calling.{done_by}
+use Rattle.interface_callers.proofs.Words.{done_by}
 use Rattle.seg_manager.proofs.Thinned.{failed_first, first_rest, gone_first, thins_one}
 use Rattle.seg_manager.proofs.manager.SegManager.destroy_first.Goals as goal
 

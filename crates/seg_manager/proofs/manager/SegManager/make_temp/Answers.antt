@@ -3,8 +3,8 @@ use Rattle.std.proofs.result.Match.{err_is}
 use Rattle.std.specs.Prelude.{Ok, Err}
 use Rattle.vm_ids.specs.declared.command.Command.TheVariants.{MakeTemp}
 use Rattle.vm_ids.specs.declared.reply.Reply.TheVariants as replies
-use Rattle.gmi_calls.specs.Managing.{meanings_of}
 use Rattle.gmi_calls.proofs.Still.{without_mapper}
+use Rattle.interface_callers.proofs.Words.{meanings_of}
 use Rattle.seg_manager.proofs.Temped.{temp_credit, temp_served}
 use Rattle.seg_manager.proofs.Temping.{temp_leaves}
 use Rattle.seg_manager.proofs.Thinned.{trying_none}

@@ -1,7 +1,6 @@
 use Rattle.std.proofs.Common.{[], ◌∙◌}
+use Rattle.interface_callers.proofs.Words.{Machine, segments_of}
 use Rattle.transit_ipc.specs.Seen.{ports_seen}
-use Rattle.vm_ids.specs.Held.{segments_of}
-use Rattle.vm_model.specs.Machine.{Machine}
 use Rattle.transit_ipc.proofs.Beginning.{able_bare}
 use Rattle.transit_ipc.proofs.Making.{all_seen}
 use Rattle.transit_ipc.proofs.table.Ports.new.Goals as goal

@@ -1,9 +1,8 @@
 use Rattle.std.proofs.Common.{◌≤◌, ◌^◌, slice_get, set, Ok, Err, sym, ap, subst, ◌∙◌, arith}
 use Rattle.std.proofs.result.Match.{err_is}
-use Rattle.gmi_calls.specs.Calling.{Fits, MapperCall, done_by}
-use Rattle.gmi_calls.specs.Managing.{meanings_of}
 use Rattle.vm_ids.specs.declared.command.Command.TheVariants as vm_commands
 use Rattle.vm_ids.specs.declared.reply.Trouble.TheVariants.{Refused}
+use Rattle.interface_callers.proofs.Words.{Fits, MapperCall, done_by, meanings_of}
 use Rattle.transit_ipc.specs.Tying.{AreApart}
 use Rattle.transit_ipc.specs.declared.table.Ports.{Ports}
 use Rattle.transit_ipc.proofs.Received.{moved_few, moved_fits, receive_done, receive_empty, receive_failed, receive_nobody, some_pages}
