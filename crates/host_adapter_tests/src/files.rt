@@ -1,7 +1,7 @@
 // Segments and a swap area in files.
 use crate::folders::{mapper_over, new_folder, path_in};
 use crate::running::is_replied;
-use crate::steps::{Step, first_wrong};
+use crate::steps::{Run, Step, all_hold, hold};
 use std::os::unix::fs::symlink;
 use std::{fs, io};
 use vm_ids::{PAGE, PageNo, SegId, SlotId};
@@ -38,7 +38,7 @@ fn files_are_segments_of_whole_pages(rt: HostRuntime) -> io::Result<()> {
         Step::PushOut(NO_FILE, FRONT, 9, Err(Failed)),
         Step::Size(NO_FILE, Ok(None)),
     ];
-    assert_eq!(&rt; first_wrong(&mut mapper, &steps), None);
+    assert!(&rt; hold(&mut mapper, &steps));
     fs::remove_dir_all(&rt, folder)
 }
 
@@ -51,14 +51,14 @@ fn a_segment_is_the_file_that_was_opened(rt: HostRuntime) -> io::Result<()> {
     fs::write(&rt, other.as_str(), [9u8; 1024].as_slice())?;
     let mut mapper = mapper_over(&rt, &folder, 512)?;
     let opens = [Step::Size(SEG, Ok(Some(1)))];
-    assert_eq!(&rt; first_wrong(&mut mapper, &opens), None);
+    assert!(&rt; hold(&mut mapper, &opens));
     fs::rename(&rt, other.as_str(), file.as_str())?;
     let steps = [
         Step::PullIn(SEG, FRONT, Ok((7, 7))),
         Step::Size(SEG, Ok(Some(2))),
         Step::PullIn(SEG, FRONT, Ok((9, 9))),
     ];
-    assert_eq!(&rt; first_wrong(&mut mapper, &steps), None);
+    assert!(&rt; hold(&mut mapper, &steps));
     fs::remove_dir_all(&rt, folder)
 }
 
@@ -69,7 +69,7 @@ fn a_segment_that_was_cut_is_no_zeros(rt: HostRuntime) -> io::Result<()> {
     fs::write(&rt, file.as_str(), [7u8; 1024].as_slice())?;
     let mut mapper = mapper_over(&rt, &folder, 512)?;
     let opens = [Step::Size(SEG, Ok(Some(2)))];
-    assert_eq!(&rt; first_wrong(&mut mapper, &opens), None);
+    assert!(&rt; hold(&mut mapper, &opens));
     fs::write(&rt, file.as_str(), [7u8; 1000].as_slice())?;
     let steps = [
         Step::PullIn(SEG, FRONT, Ok((7, 7))),
@@ -78,7 +78,7 @@ fn a_segment_that_was_cut_is_no_zeros(rt: HostRuntime) -> io::Result<()> {
         Step::Size(SEG, Ok(Some(2))),
         Step::PushOut(SEG, BACK, 9, Ok(())),
     ];
-    assert_eq!(&rt; first_wrong(&mut mapper, &steps), None);
+    assert!(&rt; hold(&mut mapper, &steps));
     fs::remove_dir_all(&rt, folder)
 }
 
@@ -88,24 +88,20 @@ fn a_segment_is_written_by_one_run(rt: HostRuntime) -> io::Result<()> {
     fs::write(&rt, path_in(&rt, &folder, "seg.1")?, [7u8; 512].as_slice())?;
     let mut one = mapper_over(&rt, &folder, 512)?;
     let mut other = mapper_over(&rt, &folder, 512)?;
-    let writes = [
-        Step::Size(SEG, Ok(Some(1))),
-        Step::GetWriteAccess(SEG, FRONT, Ok(true)),
+    let steps = [
+        (Run::One, Step::Size(SEG, Ok(Some(1)))),
+        (Run::One, Step::GetWriteAccess(SEG, FRONT, Ok(true))),
+        (Run::Other, Step::Size(SEG, Err(Failed))),
+        (Run::One, Step::Size(SEG, Ok(Some(1)))),
+        (Run::Other, Step::Size(SEG, Ok(Some(1)))),
+        (Run::One, Step::GetWriteAccess(SEG, FRONT, Err(Failed))),
+        (Run::One, Step::PullIn(SEG, FRONT, Ok((7, 7)))),
     ];
-    assert_eq!(&rt; first_wrong(&mut one, &writes), None);
-    let waits = [Step::Size(SEG, Err(Failed))];
-    assert_eq!(&rt; first_wrong(&mut other, &waits), None);
-    let reads = [Step::Size(SEG, Ok(Some(1)))];
-    assert_eq!(&rt; first_wrong(&mut one, &reads), None);
-    assert_eq!(&rt; first_wrong(&mut other, &reads), None);
-    let shares = [
-        Step::GetWriteAccess(SEG, FRONT, Err(Failed)),
-        Step::PullIn(SEG, FRONT, Ok((7, 7))),
-    ];
-    assert_eq!(&rt; first_wrong(&mut one, &shares), None);
+    assert!(&rt; all_hold(&mut one, &mut other, &steps));
     fs::remove_dir_all(&rt, folder)
 }
 
+// The name of the swap area is taken, first by a file and then by a link that leads nowhere.
 #[test]
 fn a_swap_area_is_of_one_run_alone(rt: HostRuntime) -> io::Result<()> {
     let folder = new_folder(&rt, "swap")?;
@@ -114,21 +110,20 @@ fn a_swap_area_is_of_one_run_alone(rt: HostRuntime) -> io::Result<()> {
     let mut other = mapper_over(&rt, &folder, 512)?;
     fs::write(&rt, swap.as_str(), "mine")?;
     let fills = [
-        Step::SwapIn(SlotId(0), Err(Failed)),
-        Step::SwapOut(SlotId(5), 8, Ok(())),
+        (Run::One, Step::SwapIn(SlotId(0), Err(Failed))),
+        (Run::One, Step::SwapOut(SlotId(5), 8, Ok(()))),
     ];
-    assert_eq!(&rt; first_wrong(&mut one, &fills), None);
+    assert!(&rt; all_hold(&mut one, &mut other, &fills));
     assert_eq!(&rt; fs::read(&rt, swap.as_str())?.len(), 4);
     fs::remove_file(&rt, swap.as_str())?;
     symlink(&rt, "nowhere", swap.as_str())?;
-    let fills_too = [Step::SwapOut(SlotId(5), 9, Ok(()))];
-    assert_eq!(&rt; first_wrong(&mut other, &fills_too), None);
-    fs::remove_file(&rt, swap.as_str())?;
     let reads = [
-        Step::SwapIn(SlotId(5), Ok((8, 8))),
-        Step::SwapIn(SlotId(6), Err(Failed)),
+        (Run::Other, Step::SwapOut(SlotId(5), 9, Ok(()))),
+        (Run::One, Step::SwapIn(SlotId(5), Ok((8, 8)))),
+        (Run::One, Step::SwapIn(SlotId(6), Err(Failed))),
     ];
-    assert_eq!(&rt; first_wrong(&mut one, &reads), None);
+    assert!(&rt; all_hold(&mut one, &mut other, &reads));
+    fs::remove_file(&rt, swap.as_str())?;
     fs::remove_dir(&rt, folder)
 }
 
@@ -137,7 +132,7 @@ fn a_swap_area_is_in_a_folder(rt: HostRuntime) -> io::Result<()> {
     let folder = new_folder(&rt, "nowhere")?;
     let mut mapper = mapper_over(&rt, &path_in(&rt, &folder, "none")?, 512)?;
     let fills = [Step::SwapOut(SlotId(5), 8, Err(Failed))];
-    assert_eq!(&rt; first_wrong(&mut mapper, &fills), None);
+    assert!(&rt; hold(&mut mapper, &fills));
     fs::remove_dir(&rt, folder)
 }
 

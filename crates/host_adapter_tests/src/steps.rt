@@ -53,15 +53,45 @@ impl Step {
     }
 }
 
-// The place of the first of these calls that answers something else.
-pub(crate) fn first_wrong(mapper: &mut FileMapper<'_>, steps: &[Step]) -> Option<usize>
+// Whether each of these calls answers what it has to.
+pub(crate) fn hold(mapper: &mut FileMapper<'_>, steps: &[Step]) -> bool
     requires { mapper.old.page_bytes ≡ 512 }
     ensures { mapper.new.page_bytes ≡ mapper.old.page_bytes }
 {
-    for (place, step) in steps.iter().enumerate() {
+    for step in steps {
         if !step.holds(mapper) {
-            return Some(place);
+            return false;
         }
     }
-    None
+    true
+}
+
+// Whose mapper is called, where two runs use the same files.
+#[derive(Clone, Copy)]
+pub(crate) enum Run {
+    One,
+    Other,
+}
+
+// Whether each of these calls of two mappers answers what it has to.
+pub(crate) fn all_hold(
+    one: &mut FileMapper<'_>,
+    other: &mut FileMapper<'_>,
+    steps: &[(Run, Step)],
+) -> bool
+    requires one { one.old.page_bytes ≡ 512 }
+    requires other { other.old.page_bytes ≡ 512 }
+    ensures one { one.new.page_bytes ≡ one.old.page_bytes }
+    ensures other { other.new.page_bytes ≡ other.old.page_bytes }
+{
+    for (run, step) in steps {
+        let holds = match run {
+            Run::One => step.holds(one),
+            Run::Other => step.holds(other),
+        };
+        if !holds {
+            return false;
+        }
+    }
+    true
 }
