@@ -24,10 +24,6 @@ use Rattle.mix_process.specs.declared.process.Part.{Part}
 use Rattle.mix_process.specs.declared.process.Process.{Process}
 use Rattle.mix_process.proofs.Ties.Alike.{blank_pages}
 
--- Lists
-
--- Machines without bytes
-
 -- What is seen of them
 
 map_chosen : (f : Page → Page) (b : Bool) (xs : List Page) → map f (cond b xs []) ≡ cond b (map f xs) []

@@ -54,8 +54,6 @@ get_middle : {A : Type 0} (xs : List A) (x : A) (ys : List A) → slice_get (xs 
 get_middle [] x ys = refl
 get_middle (y ∷ xs) x ys = get_middle xs x ys
 
--- Caches with numbers
-
 -- A cache becomes one like it
 
 module _ (m : Machine) (number : ℕ) (c d : Cache) (there : cache_of m number ≡ Some c) (like : IsLike c d) where

@@ -12,6 +12,7 @@ use Rattle.vm_ids.specs.declared.reply.Trouble.TheVariants as troubles
 use Rattle.gmi_calls.proofs.Rising.{rise_none}
 use Rattle.gmi_calls.proofs.Still.{without_mapper}
 use Rattle.interface_callers.proofs.Words.{ActorId, Answer, CallDone, GhostsOfGmi, GhostsOfMapper, Machine, MapperCall, Mapping, OutcomeAt, RegionId, Segments, Trouble, maps_in, meanings_of, no_counts, region_of, segment_of, segments_of}
+use Rattle.interface_callers.proofs.Mapped.{maps_then}
 use Rattle.seg_manager.specs.Calling.{Serves}
 use Rattle.seg_manager.specs.Inner.{mapping_shown, place_from, shown}
 use Rattle.seg_manager.specs.Seen.{maps, openings_in}
@@ -22,7 +23,7 @@ use Rattle.seg_manager.specs.declared.tables.Mapped.{Mapped}
 use Rattle.seg_manager.specs.declared.tables.Named.{Named}
 use Rattle.seg_manager.proofs.Calling.CallAgain.{backed_next, call_is, forest, m, n}
 use Rattle.seg_manager.proofs.Seeing.View.{is_hidden}
-use Rattle.seg_manager.proofs.Calling.MapRow.{IsAdded, map_added, map_answered, map_same, maps_then}
+use Rattle.seg_manager.proofs.Calling.MapRow.{IsAdded, map_added, map_answered, map_same}
 use Rattle.seg_manager.proofs.Lookup.RegionNoted.{noted_added, noted_insert, put_noted}
 use Rattle.seg_manager.proofs.Calling.PassedOn.{IsAnswered, IsHiding, shown_visible}
 use Rattle.seg_manager.proofs.Calling.Served.{answered_call}

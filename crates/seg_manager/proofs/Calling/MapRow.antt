@@ -1,7 +1,6 @@
 -- A region is mapped: how the machine below answers that, and what is seen of it then.
-use Rattle.std.proofs.Common.{◌≡◌, inl, inr, ◌==◌, ℕ, zero, suc, ◌+◌, ◌-◌, ◌≤◌, Bool, true, false, cond, List, [], ◌∷◌, set, Option, Some, None, refl, sym, ap, subst, ◌∙◌, arith}
+use Rattle.std.proofs.Common.{◌≡◌, inl, inr, ◌==◌, ℕ, ◌+◌, ◌-◌, ◌≤◌, Bool, false, List, set, Option, Some, None, refl, sym, ap, subst, ◌∙◌, arith}
 use Rattle.std.specs.Prelude.{◌||◌, Ok, Err, nat_lt, not, option_and_then, slice_get}
-use Rattle.std.specs.List.{list_any}
 use Rattle.std.specs.Option.{option_map_or}
 use Rattle.std.proofs.lemmas.Bool.{cases_eq, eq-eqb, ne_eqb}
 use Rattle.vm_ids.specs.declared.command.Command.TheVariants.{Map}
@@ -11,10 +10,11 @@ use Rattle.vm_model.specs.Answering as plain
 use Rattle.vm_model.specs.Outcome as plain_outcome
 use Rattle.vm_model.proofs.Parts.ListParts.{at_some}
 use Rattle.vm_model.proofs.Parts.Lists.{numbered_place}
-use Rattle.interface_callers.proofs.Words.{Actor, ActorId, Answer, Cache, IsAlike, Machine, MapperCounts, Mapping, OutcomeAt, PageForest, Refusal, Region, Reply, Segments, Trouble, add_region, cache_of, insert_region, is_mapped, maps_in, region_of}
+use Rattle.interface_callers.proofs.Words.{Actor, ActorId, Answer, Cache, IsAlike, Machine, MapperCounts, Mapping, OutcomeAt, PageForest, Refusal, Reply, Segments, Trouble, add_region, cache_of, insert_region, is_mapped, region_of}
 use Rattle.interface_callers.proofs.Answers.{alike_err}
 use Rattle.interface_callers.proofs.Hiding.{map_lifts}
 use Rattle.interface_callers.proofs.Rows.{map_row}
+use Rattle.interface_callers.proofs.Mapped.{maps_then}
 use Rattle.seg_manager.specs.Inner.{mapping_shown}
 use Rattle.seg_manager.specs.ReferenceMachine.{goes, used}
 use Rattle.seg_manager.specs.Seen.{is_kept}
@@ -23,37 +23,6 @@ use Rattle.seg_manager.proofs.Seeing.ReferenceComes.{GoAlike, used_all}
 use Rattle.seg_manager.proofs.Seeing.View.{is_hidden, mapped_stays, references, view}
 use Rattle.seg_manager.proofs.Calling.PassedOn.{IsAnswered, IsHiding, IsQuiet, quiet_self, resumed, shown_visible, storing}
 use Rattle.seg_manager.proofs.Seeing.SameSegments.{stored_alike}
-
--- What is mapped then
-
-or_swap : (a b c : Bool) → (a || (b || c)) ≡ (b || (a || c))
-or_swap true true c = refl
-or_swap true false c = refl
-or_swap false b c = refl
-
-or_first : (a b c : Bool) → ((a || b) || c) ≡ (a || (b || c))
-or_first true b c = refl
-or_first false b c = refl
-
-any_inserted : (q : ℕ) (r : Region) (rs : Actor) → list_any (λ (x : Region). x.cache == q) (insert_region r rs) ≡ ((r.cache == q) || list_any (λ (x : Region). x.cache == q) rs)
-any_inserted q r [] = refl
-any_inserted q r (x ∷ xs) = by (nat_lt r.start x.start) (any_inserted q r xs)
-  where
-    by : (b : Bool) → list_any (λ (x : Region). x.cache == q) (insert_region r xs) ≡ ((r.cache == q) || list_any (λ (x : Region). x.cache == q) xs)
-        → list_any (λ (x : Region). x.cache == q) (cond b (r ∷ x ∷ xs) (x ∷ insert_region r xs)) ≡ ((r.cache == q) || list_any (λ (x : Region). x.cache == q) (x ∷ xs))
-    by true e = refl
-    by false e = ap (λ (b : Bool). (x.cache == q) || b) e ∙ or_swap (x.cache == q) (r.cache == q) (list_any (λ (x : Region). x.cache == q) xs)
-
-any_set : {A : Type 0} (p : A → Bool) (b : Bool) (xs : List A) (i : ℕ) (u v : A) → slice_get xs i ≡ Some u → p v ≡ (b || p u) → list_any p (set xs i v) ≡ (b || list_any p xs)
-any_set p b [] i u v e f = absurd (cc e)
-any_set {A} p b (x ∷ xs) zero u v e f =
-    let is : x ≡ u = cc e in
-    ap (λ (c : Bool). c || list_any p xs) (f ∙ ap (λ (w : A). b || p w) (sym is)) ∙ or_first b (p x) (list_any p xs)
-any_set p b (x ∷ xs) (suc i) u v e f = ap (λ (c : Bool). p x || c) (any_set p b xs i u v e f) ∙ or_swap (p x) b (list_any p xs)
-
--- the cache that it maps, and what was mapped before
-pub maps_then : (actors : List (Option Actor)) (i : ℕ) (rs : Actor) (r : Region) → slice_get actors i ≡ Some (Some rs) → (q : ℕ) → list_any (maps_in q) (set actors i (Some (insert_region r rs))) ≡ ((r.cache == q) || list_any (maps_in q) actors)
-maps_then actors i rs r here q = any_set (maps_in q) (r.cache == q) actors i (Some rs) (Some (insert_region r rs)) here (any_inserted q r rs)
 
 -- The row
 

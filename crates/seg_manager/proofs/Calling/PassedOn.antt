@@ -11,8 +11,9 @@ use Rattle.vm_model.specs.Answering as plain
 use Rattle.vm_model.specs.Outcome as plain_outcome
 use Rattle.vm_model.proofs.Parts.Lists.{numbered_place}
 use Rattle.interface_callers.proofs.Words.{Actor, ActorId, Answer, Cache, CacheId, Command, FaultAt, IsNotRefused, Machine, MapperCounts, MayLackMemory, NotRefusedButFor, PageForest, Refusal, Reply, Segments, Span, cache_of, forest_shown, overwrite, page_at, put_cache, put_page, put_pages}
-use Rattle.interface_callers.proofs.Hiding.{actor_lifts, actor_mapped, copy_faults, copy_lifts, lift, load_faults, load_lifts, page_out_faults, shown_at, store_faults, store_lifts, visible}
+use Rattle.interface_callers.proofs.Hiding.{actor_lifts, copy_faults, copy_lifts, lift, load_faults, load_lifts, page_out_faults, shown_at, store_faults, store_lifts, visible}
 use Rattle.interface_callers.proofs.Rows.{actor_row, copy_row, load_row, store_row}
+use Rattle.interface_callers.proofs.Mapped.{actor_mapped}
 use Rattle.seg_manager.specs.Answering.{Answered, answer_of}
 use Rattle.seg_manager.specs.Calling.{IsPassed}
 use Rattle.seg_manager.specs.Inner.{shown, span_shown}

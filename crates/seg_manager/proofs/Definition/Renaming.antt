@@ -3,12 +3,12 @@ use Rattle.std.proofs.Common.{◌≡◌, ◌≢◌, ◌==◌, ◌⊎◌, inl, in
 use Rattle.std.specs.Prelude.{◌&&◌, ◌||◌, count_by, filter, is_some, nat_le, nat_lt, not, option_map, Result, Ok, Err}
 use Rattle.std.specs.List.{list_any}
 use Rattle.std.specs.Option.{option_or}
-use Rattle.std.proofs.lemmas.Bool.{cases_eq, eq-eqb, ne_eqb}
+use Rattle.std.proofs.lemmas.Bool.{cases_eq, eq-eqb, ne_eqb, or_right, or_left}
 use Rattle.std.proofs.lemmas.List.Sums.{sum_by-cons}
 use Rattle.vm_ids.specs.declared.refusal.Refusal.TheVariants.{Crosses}
 use Rattle.vm_model.specs.Regions.{region_among, region_with}
 use Rattle.interface_callers.proofs.Words.{Actor, Place, Refusal, Region, holds, insert_region, locks, locks_any, maps_in, place_of_actor, placed, region_at, without_region}
-use Rattle.interface_callers.proofs.Lists.{one_of, or_true}
+use Rattle.interface_callers.proofs.Lists.{one_of}
 use Rattle.seg_manager.specs.Limits.{Renaming, renamed_actors, renamed_region, with_pair}
 use Rattle.seg_manager.proofs.Lookup.Entries.{fun_same}
 
@@ -145,12 +145,6 @@ module _ (r : Renaming) where
     pub locked_renamed : (cache page : ℕ) (xs : List (Option Actor)) → list_any (locks_any (r cache) page) (renamed_actors r xs) ≡ list_any (locks_any cache page) xs
     locked_renamed cache page xs = any_map (locks_any cache page) (locks_any (r cache) page) (option_map (map f)) (locks_renamed cache page) xs
 
--- Truth of an or
-
-or_left : (a b : Bool) → a ≡ true → (a || b) ≡ true
-or_left true b e = refl
-or_left false b e = absurd (cc e)
-
 -- The same of two renamings that agree at the caches of these regions
 
 module _ (r s : Renaming) where
@@ -158,14 +152,14 @@ module _ (r s : Renaming) where
   regions_agree [] agree = refl
   regions_agree (x ∷ rs) agree = λ i.
       record x { cache = agree x.cache (or_left (x.cache == x.cache) (list_any (λ (y : Region). y.cache == x.cache) rs) (eq-eqb x.cache x.cache refl)) i }
-      ∷ regions_agree rs (λ k e. agree k (or_true (x.cache == k) (list_any (λ (y : Region). y.cache == k) rs) e)) i
+      ∷ regions_agree rs (λ k e. agree k (or_right (x.cache == k) (list_any (λ (y : Region). y.cache == k) rs) e)) i
 
   pub actors_agree : (xs : List (Option Actor)) → ((k : ℕ) → list_any (maps_in k) xs ≡ true → r k ≡ s k) → renamed_actors r xs ≡ renamed_actors s xs
   actors_agree [] agree = refl
   actors_agree (None ∷ xs) agree = ap (λ (ys : List (Option Actor)). None ∷ ys) (actors_agree xs agree)
   actors_agree (Some rs ∷ xs) agree = λ i.
       Some (regions_agree rs (λ k e. agree k (or_left (list_any (λ (y : Region). y.cache == k) rs) (list_any (maps_in k) xs) e)) i)
-      ∷ actors_agree xs (λ k e. agree k (or_true (list_any (λ (y : Region). y.cache == k) rs) (list_any (maps_in k) xs) e)) i
+      ∷ actors_agree xs (λ k e. agree k (or_right (list_any (λ (y : Region). y.cache == k) rs) (list_any (maps_in k) xs) e)) i
 
 -- What is mapped once actors changed
 
@@ -182,13 +176,13 @@ module _ {A : Type 0} (p : A → Bool) where
   any_set [] i x e = inr e
   any_set (y ∷ xs) zero x e = elim (one_of (p x) (list_any p xs) e) [
     | inl q ↦ inl q
-    | inr q ↦ inr (or_true (p y) (list_any p xs) q)
+    | inr q ↦ inr (or_right (p y) (list_any p xs) q)
   ]
   any_set (y ∷ xs) (suc i) x e = elim (one_of (p y) (list_any p (set xs i x)) e) [
     | inl q ↦ inr (ap (λ (b : Bool). b || list_any p xs) q)
     | inr q ↦ elim (any_set xs i x q) [
       | inl s ↦ inl s
-      | inr s ↦ inr (or_true (p y) (list_any p xs) s)
+      | inr s ↦ inr (or_right (p y) (list_any p xs) s)
     ]
   ]
 
@@ -198,13 +192,13 @@ module _ {A : Type 0} (p : A → Bool) where
     where
       by : (b : Bool) → (list_any p (filter keep xs) ≡ true → list_any p xs ≡ true) → list_any p (cond b (x ∷ filter keep xs) (filter keep xs)) ≡ true → (p x || list_any p xs) ≡ true
       by true rest e = any_more (p x) (filter keep xs) xs rest e
-      by false rest e = or_true (p x) (list_any p xs) (rest e)
+      by false rest e = or_right (p x) (list_any p xs) (rest e)
 
   pub any_change : (g : A → A) → ((x : A) → p (g x) ≡ true → p x ≡ true) → (xs : List A) → list_any p (map g xs) ≡ true → list_any p xs ≡ true
   any_change g f [] e = e
   any_change g f (x ∷ xs) e = elim (one_of (p (g x)) (list_any p (map g xs)) e) [
     | inl q ↦ ap (λ (b : Bool). b || list_any p xs) (f x q)
-    | inr q ↦ or_true (p x) (list_any p xs) (any_change g f xs q)
+    | inr q ↦ or_right (p x) (list_any p xs) (any_change g f xs q)
   ]
 
 pub any_insert : (p : Region → Bool) (x : Region) (rs : Actor) → list_any p (insert_region x rs) ≡ true → (p x ≡ true) ⊎ (list_any p rs ≡ true)
@@ -217,7 +211,7 @@ any_insert p x (y ∷ rs) e = by (nat_lt x.start y.start) (any_insert p x rs) e
       | inl q ↦ inr (ap (λ (b : Bool). b || list_any p rs) q)
       | inr q ↦ elim (rest q) [
         | inl s ↦ inl s
-        | inr s ↦ inr (or_true (p y) (list_any p rs) s)
+        | inr s ↦ inr (or_right (p y) (list_any p rs) s)
       ]
     ]
 

@@ -1,8 +1,7 @@
 -- What an opening finds is what the cache of the segment held when its last reference went.
-use Rattle.std.proofs.Common.{◌≡◌, ◌==◌, ◌⊎◌, inl, inr, ℕ, zero, suc, ◌+◌, ◌-◌, ◌<◌, ◌≤◌, Bool, true, false, cond, List, [], ◌∷◌, length, Option, Some, None, refl, sym, ap, subst, ◌∙◌, arith}
-use Rattle.std.specs.Prelude.{Ok, Err, is_some, option_and_then, slice_get}
+use Rattle.std.proofs.Common.{◌≡◌, ◌==◌, ◌⊎◌, inl, inr, ℕ, ◌+◌, ◌-◌, ◌<◌, ◌≤◌, Bool, true, false, cond, List, [], ◌∷◌, length, Option, Some, None, refl, sym, ap, subst, ◌∙◌, arith}
+use Rattle.std.specs.Prelude.{Ok, Err, is_some, option_and_then}
 use Rattle.std.specs.List.{AllByRecursion}
-use Rattle.std.specs.Option.{option_map_or}
 use Rattle.std.proofs.lemmas.Bool.{eq-eqb, eqb-true}
 use Rattle.std.proofs.lemmas.Bool.Decides.{nat_tests}
 use Rattle.vm_ids.specs.declared.command.Command.TheVariants as plain_commands
@@ -12,10 +11,12 @@ use Rattle.vm_ids.specs.declared.refusal.Refusal.TheVariants as refusals
 use Rattle.vm_ids.specs.declared.reply.Reply.TheVariants as replies
 use Rattle.vm_ids.specs.declared.reply.Trouble.TheVariants as troubles
 use Rattle.vm_model.specs.Answering as plain
-use Rattle.vm_model.proofs.Outcomes.Rows.{each_ok, each_some, each_unless}
+use Rattle.vm_model.proofs.Outcomes.Rows.{each_some, each_unless}
 use Rattle.vm_model.proofs.Parts.ListParts.{at_some}
 use Rattle.vm_model.proofs.Parts.Lists.{at_number}
-use Rattle.interface_callers.proofs.Words.{Answer, Cache, Machine, MapperCounts, Mapping, Page, PageForest, Reply, SegId, Segments, Span, cache_named, cache_of, is_named_by, numbered, opened, overwrite, page_at, put_cache, put_page, temporary}
+use Rattle.interface_callers.proofs.Words.{Answer, Cache, Machine, MapperCounts, Mapping, Page, PageForest, Reply, SegId, Segments, Span, cache_named, cache_of, is_named_by, numbered, opened, temporary}
+use Rattle.std.proofs.lemmas.Option.{slice_get_past}
+use Rattle.interface_callers.proofs.Rows.{actor_row, copy_row, load_row, map_row, store_row}
 use Rattle.seg_manager.specs.Answering.{Answered, MayHave, answer_of, close_of, leaving, make_temp_of, open_anew, open_by, open_of, refuse, reply}
 use Rattle.seg_manager.specs.Laws.{Chain, ReopensAsItWas, Step, cache_for, opens}
 use Rattle.seg_manager.specs.Outcome.{Outcome}
@@ -42,50 +43,19 @@ module _ (seg : ℕ) (m : Machine) where
   K a = Keeps m a.answer a.next
 
   actor_stays : S (plain.make_actor_of m)
-  unfolding plain.make_actor_of
-  actor_stays = each_unless S _ _ m _ refl (λ few. refl)
+  actor_stays = actor_row S m (λ r. refl) refl
 
   copy_stays : (s : Span) (h : Segments) → S (plain.copy_of m s h)
-  unfolding plain.copy_of
-  copy_stays s h =
-      each_some S _ _ m _ refl (λ source from.
-      each_some S _ _ m _ refl (λ destination to.
-      each_unless S _ _ m _ refl (λ inside.
-      each_unless S _ _ m _ refl (λ apart.
-      each_unless S _ _ m _ refl (λ unlocked.
-      each_unless S _ _ m _ refl (λ allowed.
-      set_named seg m.caches (s.to.0 - 1) (Some destination) _ (at_number m.caches s.to.0 destination to) refl))))))
+  copy_stays s h = copy_row S m (λ r. refl) s h (λ source destination from to. set_named seg m.caches (s.to.0 - 1) (Some destination) _ (at_number m.caches s.to.0 destination to) refl)
 
   map_stays : (actor : ℕ) (p : Mapping) → S (plain.map_of m actor p)
-  unfolding plain.map_of
-  map_stays actor p =
-      each_some S _ _ m _ refl (λ regions alive.
-      each_some S _ _ m _ refl (λ cache there.
-      each_unless S _ _ m _ refl (λ aligned.
-      each_unless S _ _ m _ refl (λ low.
-      each_unless S _ _ m _ refl (λ inside.
-      each_unless S _ _ m _ refl (λ apart.
-      each_unless S _ _ m _ refl (λ few. refl)))))))
+  map_stays actor p = map_row S m (λ r. refl) actor p (λ rs c here there. refl)
 
   load_stays : (actor address bytes : ℕ) → S (plain.load_of m actor address bytes)
-  unfolding plain.load_of
-  load_stays actor address bytes = each_ok S _ m _ (λ r. refl) (λ p is. refl)
-
-  -- what is written to a cache leaves its segment
-  put_stays : (n : ℕ) (o : Option Cache) (change : Cache → Cache) → cache_of m n ≡ o → ((c : Cache) → (change c).segment ≡ c.segment)
-      → has_named seg (option_map_or (λ c. put_cache m n (change c)) o m).caches ≡ has_named seg m.caches
-  put_stays n None change there same = refl
-  put_stays n (Some c) change there same =
-      set_named seg m.caches (n - 1) (Some c) (Some (change c)) (at_number m.caches n c there)
-      (ap (λ (s : Option ℕ). option_map_or (λ x. x == seg) s false) (sym (same c)))
+  load_stays actor address bytes = load_row S m (λ r. refl) actor address bytes (λ r. refl)
 
   store_stays : (actor address : ℕ) (bytes : List ℕ) (h : Segments) → S (plain.store_of m actor address bytes h)
-  unfolding plain.store_of
-  store_stays actor address bytes h =
-      each_ok S _ m _ (λ r. refl) (λ p is.
-      each_unless S _ _ m _ refl (λ writable.
-      each_unless S _ _ m _ refl (λ allowed.
-      put_stays p.region.cache (cache_of m p.region.cache) (put_page p.page (overwrite p.byte bytes (page_at m p))) refl (λ c. refl))))
+  store_stays actor address bytes h = store_row S m (λ r. refl) actor address bytes h refl (λ p e c there. set_named seg m.caches (p.region.cache - 1) (Some c) _ (at_number m.caches p.region.cache c there) refl)
 
   exit_keeps : (actor : ℕ) → K (plain.exit_actor_of m actor)
   unfolding plain.exit_actor_of
@@ -117,11 +87,6 @@ stands seg m next e = inl (record {
   named = ap (λ (x : ReferenceMachine). has_named seg x.memory.caches) e;
   stored = ap (λ (x : ReferenceMachine). x.stored seg) e;
 })
-
-slice_get_past : {A : Type 0} (xs : List A) (i : ℕ) → length xs ≤ i → slice_get xs i ≡ None
-slice_get_past [] i h = refl
-slice_get_past (x ∷ xs) zero h = absurd (omega (arith, h))
-slice_get_past (x ∷ xs) (suc i) h = slice_get_past xs i (omega (arith, h))
 
 -- a number that was never given is that of no cache
 pub past : (cs : List (Option Cache)) (n : ℕ) → length cs < n → numbered cs n ≡ None

@@ -3,7 +3,7 @@ use Rattle.std.proofs.Common.{◌≡◌, ◌≢◌, ◌==◌, ℕ, suc, ◌+◌,
 use Rattle.std.specs.Prelude.{◌||◌, nat_lt, not, option_and_then, option_map, slice_get}
 use Rattle.std.specs.List.{position_from}
 use Rattle.std.specs.Option.{option_map_or}
-use Rattle.std.proofs.lemmas.Bool.{cases_eq, eq-eqb, eqb-true, ne_eqb}
+use Rattle.std.proofs.lemmas.Bool.{cases_eq, eq-eqb, eqb-true, ne_eqb, or_parts}
 use Rattle.std.proofs.lemmas.Bool.Decides.{nat_tests}
 use Rattle.std.proofs.lemmas.List.{length-set}
 use Rattle.vm_model.proofs.Parts.Lists.{numbered_place}
@@ -26,10 +26,6 @@ use Rattle.seg_manager.proofs.Leaves.CloseCall.{number_found}
 use Rattle.seg_manager.proofs.Seeing.StoredPages.{apart_by, named_self, stored_one}
 
 -- Kept no longer
-
-or_parts : (a b : Bool) → (a || b) ≡ false → (a ≡ false) × (b ≡ false)
-or_parts true b e = absurd (cc e)
-or_parts false b e = (refl, e)
 
 abbrev pub others_kept : ℕ → List Kept → List Kept
 others_kept n ks = filter (λ k. not (is_of n k)) ks

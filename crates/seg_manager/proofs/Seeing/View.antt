@@ -4,7 +4,8 @@ use Rattle.std.specs.Prelude.{◌||◌, nat_lt, not}
 use Rattle.std.specs.Option.{option_map_or}
 use Rattle.vm_model.proofs.Parts.Lists.{numbered_place}
 use Rattle.interface_callers.proofs.Words.{Cache, Machine, cache_of, is_mapped, put_cache}
-use Rattle.interface_callers.proofs.Hiding.{IsView, actor_mapped}
+use Rattle.interface_callers.proofs.Hiding.{IsView}
+use Rattle.interface_callers.proofs.Mapped.{actor_mapped}
 use Rattle.seg_manager.specs.ReferenceMachine.{ReferenceMachine, goes, used, used_at}
 use Rattle.seg_manager.proofs.Seeing.WhichGo.{Caches, numbered_used, set_used, used_same}
 

@@ -2,12 +2,12 @@
 use Rattle.std.proofs.Common.{◌≡◌, ◌≢◌, inl, inr, ℕ, ◌+◌, ◌-◌, ◌≤◌, Bool, true, false, List, length, take, drop, replicate, Option, Some, None, refl, sym, ap, subst, ◌∙◌, arith}
 use Rattle.std.specs.Prelude.{◌||◌, Ok, Err, Result, is_some, nat_lt, option_map}
 use Rattle.std.specs.Option.{option_map_or}
-use Rattle.std.proofs.lemmas.Bool.Decides.{nat_tests}
 use Rattle.std.proofs.lemmas.List.{length-drop, length-map, length-replicate, length-take-le, set-set}
 use Rattle.vm_ids.specs.declared.command.Command.TheVariants as commands
 use Rattle.vm_ids.specs.declared.refusal.Refusal.TheVariants as refusals
 use Rattle.vm_ids.specs.declared.reply.Reply.TheVariants as replies
 use Rattle.vm_model.proofs.Parts.Lists.{length-overwrite}
+use Rattle.vm_model.proofs.Outcomes.Lying.{not_past}
 use Rattle.interface_callers.proofs.Words.{Answer, Answered, Cache, IsNotRefused, Machine, MapperCounts, OutcomeAt, Page, PageForest, Segments, Span, Trouble, blank, blank_cache, cache_of, done_by, is_any_denied, is_any_locked, is_locked_page, move_of, overlaps_itself, passes_an_end, passes_end, put_cache, put_pages, put_span, reply, unless, with_some, zero_page, zero_source}
 use Rattle.interface_callers.proofs.Alike.{AllTemporary, HasShape, IsLike, blank_shape, shape_back, shape_cache, shape_put, shape_self, shape_then, still_temporary, whole_shape}
 use Rattle.interface_callers.proofs.Blanks.{as_many, blank_at, blank_span, blank_without, emptied, whole_cache, without}
@@ -86,9 +86,6 @@ finish_row m s c = by (cache_of m s.to.0)
 
 -- as many pages stay
 
-fits_inside : (n k : ℕ) → nat_lt n k ≡ false → k ≤ n
-fits_inside n k e = grind (arith, nat_tests)
-
 put_like : (first : ℕ) (pages : List Page) (d : Cache) → first + length pages ≤ length d.pages → IsLike d (put_pages first pages d)
 put_like first pages d h = record { segment = refl; many = length-overwrite first pages d.pages h }
 
@@ -98,7 +95,7 @@ module _ (m : Machine) (s : Span) (c : Cache) (may : MayMove m s c) where
 
   pub span_like : (d : Cache) → cache_of m s.to.0 ≡ Some d → passes_end d s.to_page.0 s.pages ≡ false → HasShape m (put_span m s c d)
   span_like d to fits = shape_put m s.to.0 d (put_pages s.to_page.0 (take s.pages (drop s.from_page.0 c.pages)) d) to
-      (put_like s.to_page.0 (take s.pages (drop s.from_page.0 c.pages)) d (omega (arith, many, fits_inside (length d.pages) (s.to_page.0 + s.pages) fits)))
+      (put_like s.to_page.0 (take s.pages (drop s.from_page.0 c.pages)) d (omega (arith, many, not_past (length d.pages) (s.to_page.0 + s.pages) fits)))
 
   zeros_like : (x : Machine) → HasShape m x → HasShape m (zero_source x s)
   zeros_like x l =

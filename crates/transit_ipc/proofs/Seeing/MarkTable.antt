@@ -3,13 +3,13 @@ use Rattle.std.proofs.Common.{◌≡◌, ◌≢◌, inl, inr, ℕ, zero, suc, �
 use Rattle.std.specs.Prelude.{◌==◌, ◌||◌, slice_get}
 use Rattle.std.specs.List.{list_any}
 use Rattle.std.specs.Option.{option_map_or}
-use Rattle.std.proofs.lemmas.Bool.{cases_eq}
+use Rattle.std.proofs.lemmas.Bool.{cases_eq, or_right}
 use Rattle.std.proofs.lemmas.Bool.Decides.{nat_tests}
 use Rattle.std.proofs.lemmas.List.{length-set}
 use Rattle.std.proofs.lemmas.List.Folds.{list_any-append}
 use Rattle.vm_model.proofs.Parts.Lists.{get_set_other, get_set_same}
 use Rattle.interface_callers.proofs.Words.{MOST_MADE}
-use Rattle.interface_callers.proofs.Lists.{or_false, or_true}
+use Rattle.interface_callers.proofs.Lists.{or_false}
 use Rattle.transit_ipc.specs.Transit.{IsTable, is_marked, is_transit, waits_in}
 use Rattle.transit_ipc.specs.Tying.{AreApart}
 use Rattle.transit_ipc.specs.declared.port.Message.{Message}
@@ -78,7 +78,7 @@ module _ (ports : List Port) (table : List Bool) (t : IsTable ports table) (plac
       waits_now n = ap (λ (ms : List Message). list_any (has_number n) ms) pushed ∙ list_any-append (has_number n) p.messages.items (x ∷ [])
 
       or_last : (b c : Bool) → c ≡ true → (b || (c || false)) ≡ true
-      or_last b true e = or_true b true refl
+      or_last b true e = or_right b true refl
       or_last b false e = absurd (cc e)
 
       last : (n : ℕ) → x.cache.0 ≡ n → (waits_in n p || ((x.cache.0 == n) || false)) ≡ true

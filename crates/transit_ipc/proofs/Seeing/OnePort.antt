@@ -1,24 +1,17 @@
 -- One port becomes another: which messages wait, and which caches they hide.
 use Rattle.std.proofs.Common.{◌≡◌, ◌≢◌, ◌⊎◌, inl, inr, ℕ, zero, suc, ◌+◌, ◌<◌, ◌≤◌, Bool, true, false, cond, List, [], ◌∷◌, length, set, Option, Some, None, refl, sym, ap, ◌∙◌, arith}
-use Rattle.std.specs.Prelude.{◌||◌, slice_get}
-use Rattle.std.specs.List.{list_any}
+use Rattle.std.specs.Prelude.{slice_get}
 use Rattle.std.proofs.lemmas.Bool.{cases_eq}
 use Rattle.std.proofs.lemmas.Option.{slice_get_within}
 use Rattle.vm_model.proofs.Parts.Lists.{get_set_other, get_set_same}
 use Rattle.interface_callers.proofs.Words.{Cache}
 use Rattle.interface_callers.proofs.Lists.{any_at}
+use Rattle.interface_callers.proofs.Mapped.{any_set}
 use Rattle.transit_ipc.specs.Seen.{but_for}
 use Rattle.transit_ipc.specs.Transit.{is_transit, waits_in}
 use Rattle.transit_ipc.specs.Tying.{Waits}
 use Rattle.transit_ipc.specs.declared.port.Message.{Message}
 use Rattle.transit_ipc.specs.declared.port.Port.{Port}
-
--- Lists
-
-any_set : {A : Type 0} (f : A → Bool) (xs : List A) (i : ℕ) (x y : A) → slice_get xs i ≡ Some x → f y ≡ f x → list_any f (set xs i y) ≡ list_any f xs
-any_set f [] i x y e s = absurd (cc e)
-any_set f (z ∷ xs) zero x y e s = let same : z ≡ x = cc e in ap (λ (b : Bool). b || list_any f xs) (s ∙ ap f (sym same))
-any_set f (z ∷ xs) (suc i) x y e s = ap (λ (b : Bool). f z || b) (any_set f xs i x y e s)
 
 -- The ports
 
@@ -45,7 +38,7 @@ module _ (ports : List Port) (place : ℕ) (p q : Port) (there : slice_get ports
 
   -- a cache that the new port hides as the old one did
   pub hidden_as : (n : ℕ) → waits_in n q ≡ waits_in n p → is_transit replaced n ≡ is_transit ports n
-  hidden_as n same = any_set (waits_in n) ports place p q there same
+  hidden_as n same = any_set (waits_in n) false ports place p q there same
 
   pub hidden_by : (n : ℕ) → waits_in n q ≡ true → is_transit replaced n ≡ true
   hidden_by n is = any_at (waits_in n) replaced place q (get_set_same ports place q within) is

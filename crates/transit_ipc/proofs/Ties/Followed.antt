@@ -1,16 +1,14 @@
 -- What may change in the manager's machine while the ports stay tied to it.
-use Rattle.std.proofs.Common.{◌≡◌, ◌≢◌, ◌⊎◌, inl, inr, ℕ, ◌+◌, ◌-◌, ◌≤◌, Bool, true, false, cond, List, [], ◌∷◌, ◌++◌, length, set, Option, Some, None, refl, sym, ap, subst, ◌∙◌}
+use Rattle.std.proofs.Common.{◌≡◌, ◌⊎◌, inl, inr, ℕ, ◌+◌, ◌-◌, ◌≤◌, false, List, [], ◌∷◌, ◌++◌, length, Option, Some, None, refl, sym, ap, subst, ◌∙◌}
 use Rattle.std.specs.Bool.{IsTrue}
-use Rattle.std.specs.Prelude.{◌==◌, ◌||◌, IsSome, nat_lt, slice_get}
-use Rattle.std.specs.List.{list_any}
+use Rattle.std.specs.Prelude.{◌==◌, IsSome, slice_get}
 use Rattle.std.proofs.lemmas.Bool.{cases_eq, eqb-true}
-use Rattle.std.proofs.lemmas.List.Folds.{list_any-append}
-use Rattle.std.proofs.lemmas.Option.{slice_get_within}
-use Rattle.vm_model.proofs.Parts.Lists.{get_set_other, get_set_same, numbered_place}
+use Rattle.vm_model.proofs.Parts.Lists.{numbered_place}
 use Rattle.vm_model.proofs.Parts.ListParts.{numbered_push, numbered_pushed, numbered_set, numbered_set_other}
-use Rattle.interface_callers.proofs.Words.{Actor, Cache, Machine, Mapping, Region, add_region, blank, cache_of, insert_region, is_mapped, maps_in, put_cache, region_of, temporary}
+use Rattle.interface_callers.proofs.Words.{Actor, Cache, Machine, Mapping, Region, add_region, blank, cache_of, is_mapped, put_cache, region_of, temporary}
 use Rattle.interface_callers.proofs.Alike.{blank_shape, shape_back}
-use Rattle.interface_callers.proofs.Lists.{any_at, one_of, or_true}
+use Rattle.interface_callers.proofs.Lists.{one_of}
+use Rattle.interface_callers.proofs.Mapped.{actor_mapped, maps_then}
 use Rattle.transit_ipc.specs.Seen.{memory_seen}
 use Rattle.transit_ipc.specs.Transit.{is_transit}
 use Rattle.transit_ipc.specs.Tying.{AreTied, IsMessage, Waits}
@@ -19,7 +17,7 @@ use Rattle.transit_ipc.specs.declared.port.Port.{Port}
 use Rattle.transit_ipc.proofs.Ties.NewCache.{messages_with_cache, with_cache}
 use Rattle.transit_ipc.proofs.Seeing.Seen.{numbered_seen, seen_cache}
 use Rattle.transit_ipc.proofs.Ties.Alike.{some_shown, tied_like}
-use Rattle.transit_ipc.proofs.Seeing.Messages.{any_found, seen_apart}
+use Rattle.transit_ipc.proofs.Seeing.Messages.{seen_apart}
 
 -- From one machine to the next: the messages that wait have their pages, no cache is gone, no
 -- segment names one, and what regions map then is mapped before or seen before.
@@ -67,16 +65,12 @@ module _ (ports : List Port) (m : Machine) (tied : AreTied m ports) where
   kept_messages y same i j x w = let is : IsMessage m x = tied.messages i j x w in
       record { cache = is.cache; there = same i j x w ∙ is.there; some = is.some; many = is.many }
 
-  or_neither : (b : Bool) → (b || false) ≡ true → b ≡ true
-  or_neither true e = refl
-  or_neither false e = e
-
   -- an actor without regions
   pub followed_actor : IsFollowed ports m (record m { actors = m.actors ++ Some [] ∷ [] })
   followed_actor = record {
     messages = kept_messages (record m { actors = m.actors ++ Some [] ∷ [] }) (λ i j x w. refl);
     alive = λ n h. h;
-    mapped = λ n is. inl (or_neither (is_mapped m n) (sym (list_any-append (maps_in n) m.actors (Some [] ∷ [])) ∙ is));
+    mapped = λ n is. inl (sym (actor_mapped m.actors n) ∙ is);
     temporary = tied.temporary;
   }
 
@@ -123,44 +117,17 @@ module _ (ports : List Port) (m : Machine) (tied : AreTied m ports) where
       at_put n e = ap (cache_of (put_cache m k d)) e ∙ numbered_set m.caches k c (Some d) there
 
   -- a region of a cache that is seen
-
-  abbrev maps : ℕ → Actor → Bool
-  maps n rs = list_any (λ (r : Region). r.cache == n) rs
-
-  inserted : (n : ℕ) (r : Region) (rs : Actor) → maps n (insert_region r rs) ≡ true → (r.cache ≡ n) ⊎ (maps n rs ≡ true)
-  inserted n r [] e = inl (eqb-true r.cache n (or_neither (r.cache == n) e))
-  inserted n r (x ∷ xs) e = by (nat_lt r.start x.start) e (inserted n r xs)
-    where
-      by : (b : Bool) → maps n (cond b (r ∷ x ∷ xs) (x ∷ insert_region r xs)) ≡ true → (maps n (insert_region r xs) ≡ true → (r.cache ≡ n) ⊎ (maps n xs ≡ true)) → (r.cache ≡ n) ⊎ (maps n (x ∷ xs) ≡ true)
-      by true is rest = elim (one_of (r.cache == n) (maps n (x ∷ xs)) is) [ inl s ↦ inl (eqb-true r.cache n s) | inr s ↦ inr s ]
-      by false is rest = elim (one_of (x.cache == n) (maps n (insert_region r xs)) is) [
-        | inl s ↦ inr (ap (λ (b : Bool). b || maps n xs) s)
-        | inr s ↦ elim (rest s) [ inl same ↦ inl same | inr s ↦ inr (or_true (x.cache == n) (maps n xs) s) ]
-      ]
-
   pub followed_map : (actor : ℕ) (rs : Actor) (p : Mapping) (c : Cache) → slice_get m.actors (actor - 1) ≡ Some (Some rs) → cache_of m p.extent.cache.0 ≡ Some c → is_transit ports p.extent.cache.0 ≡ false
       → IsFollowed ports m (add_region m actor rs p)
   followed_map actor rs p c here there seen = record {
     messages = kept_messages (add_region m actor rs p) (λ i j x w. refl);
     alive = λ n h. h;
-    mapped = λ n is. (let f = any_found (maps_in n) (set m.actors (actor - 1) (Some more)) is in by n f.place f.it f.there f.passes (cases_eq f.place (actor - 1)));
+    mapped = λ n is. elim (one_of (fresh.cache == n) (is_mapped m n) (sym (maps_then m.actors (actor - 1) rs fresh here n) ∙ is)) [
+      | inl same ↦ inr (subst (λ (k : ℕ). IsSome (cache_of (memory_seen m ports) k)) (eqb-true fresh.cache n same) (subst IsSome (sym (seen_cache m ports p.extent.cache.0 seen ∙ there)) refl))
+      | inr was ↦ inl was
+    ];
     temporary = tied.temporary;
   }
     where
       fresh : Region
       fresh = region_of (m.regions_made + 1) p
-
-      more : Actor
-      more = insert_region fresh rs
-
-      mine : (n : ℕ) → (fresh.cache ≡ n) ⊎ (maps n rs ≡ true) → IsTrue (is_mapped m n) ⊎ IsSome (cache_of (memory_seen m ports) n)
-      mine n (inl e) = inr (subst (λ (k : ℕ). IsSome (cache_of (memory_seen m ports) k)) e (subst IsSome (sym (seen_cache m ports p.extent.cache.0 seen ∙ there)) refl))
-      mine n (inr e) = inl (any_at (maps_in n) m.actors (actor - 1) (Some rs) here e)
-
-      by : (n i : ℕ) (it : Option Actor) → slice_get (set m.actors (actor - 1) (Some more)) i ≡ Some it → maps_in n it ≡ true → (i ≡ actor - 1) ⊎ (i ≢ actor - 1)
-          → IsTrue (is_mapped m n) ⊎ IsSome (cache_of (memory_seen m ports) n)
-      by n i it e is (inl same) =
-          let both : Some (Some more) ≡ Some it = sym (get_set_same m.actors (actor - 1) (Some more) (slice_get_within m.actors (actor - 1) (Some rs) here)) ∙ ap (slice_get (set m.actors (actor - 1) (Some more))) (sym same) ∙ e in
-          let put : Some more ≡ it = cc both in
-          mine n (inserted n fresh rs (ap (maps_in n) put ∙ is))
-      by n i it e is (inr other) = inl (any_at (maps_in n) m.actors i it (sym (get_set_other m.actors (actor - 1) i (Some more) other) ∙ e) is)
