@@ -1,53 +1,19 @@
 -- Some caches of a machine are hidden, so that a command that is passed on finds them not: it is
 -- answered as over the caches that are seen.
 use Rattle.std.proofs.Common.{◌≡◌, ◌==◌, ℕ, ◌+◌, ◌-◌, Bool, true, false, cond, List, [], ◌∷◌, ◌++◌, length, set, take, drop, Option, Some, None, refl, sym, ap, subst, ◌∙◌}
-use Rattle.std.specs.Prelude.{◌*◌, ◌%◌, ◌^◌, ◌||◌, nat_le, nat_lt, Result, Ok, Err, is_some, not, option_and_then, slice_get, unwrap_or}
+use Rattle.std.specs.Prelude.{◌*◌, ◌%◌, ◌^◌, nat_le, nat_lt, Result, Ok, Err, is_some, not, option_and_then, slice_get, unwrap_or}
 use Rattle.std.specs.Bool.{IsTrue}
 use Rattle.std.specs.List.{list_any, range_with_len}
 use Rattle.std.specs.Option.{option_map_or}
 use Rattle.std.specs.Result.{IsOkAnd}
 use Rattle.vm_ids.specs.declared.command.Command.TheVariants.{Copy, Load, PageOut, Store}
 use Rattle.vm_ids.specs.declared.refusal.Refusal.TheVariants as refusals
-use Rattle.vm_ids.specs.declared.refusal.Refusal.TheVariants.{Crosses}
 use Rattle.vm_ids.specs.declared.reply.FaultAt.TheVariants as faults
 use Rattle.vm_ids.specs.declared.reply.Reply.TheVariants as replies
 use Rattle.vm_model.specs.Answering as plain
 use Rattle.vm_model.proofs.Parts.Lists.{numbered_place}
-use Rattle.vm_ids.proofs.Places.{same_number}
-use Rattle.interface_callers.proofs.Words.{Actor, ActorId, Cache, CacheId, FaultAt, IsFirstAsked, IsNamed, Machine, MapperCounts, Mapping, MayFault, MOST_MADE, Page, PageForest, Place, Refusal, Region, Segments, Span, actor_of, cache_of, denies, holds, is_denied_page, is_mapped, maps_in, numbered, overwrite, page_at, place, place_in, place_of_actor, placed, put_cache, put_page, region_at, write_at}
-use Rattle.interface_callers.proofs.Lists.{any_at, or_true}
-
--- What is accessed is mapped
-
--- the first region is the one, or another is
-first_maps : (here : Bool) (x r : Region) (rs : Actor) (o : Option Region) → cond here (Some x) o ≡ Some r → (o ≡ Some r → list_any (λ (y : Region). y.cache == r.cache) rs ≡ true) → list_any (λ (y : Region). y.cache == r.cache) (x ∷ rs) ≡ true
-first_maps true x r rs o e others =
-    let same : x ≡ r = cc e in
-    ap (λ (b : Bool). b || list_any (λ (y : Region). y.cache == r.cache) rs) (ap (λ (y : Region). y.cache == r.cache) same ∙ same_number r.cache)
-first_maps false x r rs o e others = or_true (x.cache == r.cache) (list_any (λ (y : Region). y.cache == r.cache) rs) (others e)
-
-region_maps : (page_bytes address : ℕ) (rs : Actor) (r : Region) → region_at page_bytes address rs ≡ Some r → list_any (λ (x : Region). x.cache == r.cache) rs ≡ true
-region_maps page_bytes address [] r e = absurd (cc e)
-region_maps page_bytes address (x ∷ rs) r e = first_maps (holds page_bytes address x) x r rs (region_at page_bytes address rs) e (region_maps page_bytes address rs r)
-
-placed_at : (page_bytes address : ℕ) (rs : Actor) (o : Option Region) (p : Place) → region_at page_bytes address rs ≡ o → placed page_bytes address o ≡ Ok p → list_any (λ (x : Region). x.cache == p.region.cache) rs ≡ true
-placed_at page_bytes address rs None p is e = absurd (cc e)
-placed_at page_bytes address rs (Some r) p is e =
-    let region : r ≡ p.region = ap (λ (q : Place). q.region) (let s : place_in page_bytes address r ≡ p = cc e in s) in
-    subst (λ (x : Region). list_any (λ (y : Region). y.cache == x.cache) rs ≡ true) region (region_maps page_bytes address rs r is)
-
-among_at : (page_bytes : ℕ) (rs : Actor) (address : ℕ) (crosses : Bool) (p : Place) → cond crosses (Err Crosses) (placed page_bytes address (region_at page_bytes address rs)) ≡ Ok p
-    → list_any (λ (x : Region). x.cache == p.region.cache) rs ≡ true
-among_at page_bytes rs address true p e = absurd (cc e)
-among_at page_bytes rs address false p e = placed_at page_bytes address rs _ p refl e
-
-actor_maps : (m : Machine) (actor address length : ℕ) (o : Option Actor) (p : Place) → actor_of m actor ≡ o → place_of_actor m.page_bytes o address length ≡ Ok p → is_mapped m p.region.cache ≡ true
-actor_maps m actor address length None p is e = absurd (cc e)
-actor_maps m actor address length (Some rs) p is e =
-    any_at (maps_in p.region.cache) m.actors (actor - 1) (Some rs) (numbered_place m.actors actor rs is).1 (among_at m.page_bytes rs address _ p e)
-
-place_maps : (m : Machine) (actor address length : ℕ) (p : Place) → place m actor address length ≡ Ok p → is_mapped m p.region.cache ≡ true
-place_maps m actor address length p e = actor_maps m actor address length (actor_of m actor) p refl e
+use Rattle.interface_callers.proofs.Words.{Actor, ActorId, Cache, CacheId, FaultAt, IsFirstAsked, IsNamed, Machine, MapperCounts, Mapping, MayFault, MOST_MADE, Page, PageForest, Place, Refusal, Segments, Span, actor_of, cache_of, denies, is_denied_page, is_mapped, numbered, overwrite, page_at, place, put_cache, put_page, write_at}
+use Rattle.interface_callers.proofs.Mapped.{place_maps}
 
 -- The caches that are seen of a machine, which of them are hidden, and of which machines this is
 -- said. One that is put is hidden as the one before it; what is mapped is seen.
@@ -57,11 +23,6 @@ pub record IsView (caches : Machine → List (Option Cache)) (hidden : Machine �
   pub put : (m : Machine) (n : ℕ) (c d : Cache) → cache_of m n ≡ Some c → d.segment ≡ c.segment → hidden m n ≡ false → caches (put_cache m n d) ≡ set (caches m) (n - 1) (Some d)
   pub mapped : (m : Machine) → IsFit m → (n : ℕ) → is_mapped m n ≡ true → hidden m n ≡ false
   pub actor : (m : Machine) → caches (record m { actors = m.actors ++ Some [] ∷ [] }) ≡ caches m
-
--- an actor without regions maps nothing
-pub actor_mapped : (actors : List (Option Actor)) (k : ℕ) → list_any (maps_in k) (actors ++ Some [] ∷ []) ≡ list_any (maps_in k) actors
-actor_mapped [] k = refl
-actor_mapped (a ∷ actors) k = ap (λ (b : Bool). maps_in k a || b) (actor_mapped actors k)
 
 -- a cache by its number, and by 0 where it isn't to be found
 abbrev pub shown_at : Bool → CacheId → CacheId

@@ -16,7 +16,8 @@ pub mod Rows
 pub mod Making
 pub mod Temporary
 pub mod Copies
--- Some caches are hidden from the commands that are passed on.
+-- Some caches are hidden from the commands that are passed on; what is mapped is seen.
+pub mod Mapped
 pub mod Hiding
 -- The manager can be called again.
 pub mod Calls

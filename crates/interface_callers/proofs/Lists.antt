@@ -5,12 +5,9 @@ use Rattle.std.specs.List.{AllByRecursion, list_any}
 use Rattle.std.proofs.lemmas.Bool.Decides.{nat_tests}
 use Rattle.std.proofs.lemmas.List.{drop-map, drop_all, length-map, map-append, take-map}
 use Rattle.interface_callers.proofs.Words.{numbered, overwrite}
+use Rattle.std.proofs.lemmas.Bool.{or_right}
 
 -- Tests
-
-pub or_true : (a b : Bool) → b ≡ true → (a || b) ≡ true
-or_true true b e = refl
-or_true false b e = e
 
 pub or_false : (a b : Bool) → b ≡ false → (a || b) ≡ a
 or_false true b e = refl
@@ -27,7 +24,7 @@ either false = inr refl
 pub any_at : {A : Type 0} (test : A → Bool) (xs : List A) (i : ℕ) (x : A) → slice_get xs i ≡ Some x → test x ≡ true → list_any test xs ≡ true
 any_at test [] i x there e = absurd (cc there)
 any_at test (y ∷ xs) zero x there e = let same : y ≡ x = cc there in ap (λ (b : Bool). b || list_any test xs) (ap test same ∙ e)
-any_at test (y ∷ xs) (suc i) x there e = or_true (test y) (list_any test xs) (any_at test xs i x there e)
+any_at test (y ∷ xs) (suc i) x there e = or_right (test y) (list_any test xs) (any_at test xs i x there e)
 
 pub none_any : {A : Type 0} (test : A → Bool) (xs : List A) → ((i : ℕ) (x : A) → slice_get xs i ≡ Some x → test x ≡ false) → list_any test xs ≡ false
 none_any test [] h = refl

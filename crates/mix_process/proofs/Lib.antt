@@ -1,49 +1,14 @@
-pub mod Played
-pub mod Rows
-pub mod Lists
-pub mod Areas
-pub mod Lasting
-pub mod Looking
-pub mod Seeing
-pub mod Shapes
-pub mod Untold
-pub mod Pushes
-pub mod Loading
-pub mod Putting
-pub mod Storing
-pub mod Having
-pub mod Single
-pub mod Temporary
-pub mod Clearing
-pub mod Able
-pub mod Calls
-pub mod Destroying
-pub mod Ending
-pub mod Taking
-pub mod Mapping
-pub mod Regions
-pub mod Using
-pub mod Joining
-pub mod Mapped
-pub mod Filling
-pub mod Filled
-pub mod Fitted
-pub mod Owning
-pub mod Growing
-pub mod Booting
-pub mod Starting
-pub mod Beginning
-pub mod Passing
-pub mod Imaging
-pub mod Keeping
-pub mod Images
-pub mod Begun
-pub mod Back
-pub mod Copied
-pub mod Counts
-pub mod Inheriting
-pub mod Forking
-pub mod Executing
-pub mod ExecSteps
-pub mod Executed
-pub mod PlainRows
+-- What the definitions of processes say by themselves.
+pub mod Definition
+-- Where an address lies in a process, and what is loaded and stored there.
+pub mod Reading
+-- How the processes stay tied to the machine that their manager stands for.
+pub mod Ties
+-- What a call of the manager comes to, and that it can be called again.
+pub mod Calling
+-- A process gets one part more, or one less.
+pub mod Adding
+-- A process is begun, and gets what it starts with.
+pub mod Starts
+-- What each command of processes comes to.
+pub mod Commands

@@ -1,56 +1,16 @@
-pub mod Named
-pub mod RingSteps
-pub mod Rings
-pub mod Placed
-pub mod Linking
-pub mod Naming
-pub mod Played
-pub mod Reopening
-pub mod Going
-pub mod Pushed
-pub mod Entries
-pub mod Lesser
-pub mod Destroyed
-pub mod Calls
-pub mod Pushing
-pub mod Thinned
-pub mod Trimmed
-pub mod Storing
-pub mod Steps
-pub mod Unused
-pub mod Stated
-pub mod Closing
-pub mod Leaving
-pub mod Finding
-pub mod Releasing
-pub mod Coming
-pub mod Opening
-pub mod Acquiring
-pub mod Opened
-pub mod Anew
-pub mod Tried
-pub mod Unopened
-pub mod Beginning
-pub mod Starting
-pub mod Lifting
-pub mod Temping
-pub mod Dropping
-pub mod LeavingRows
-pub mod RegionsLeft
-pub mod Parting
-pub mod Temporary
-pub mod Live
-pub mod Staying
-pub mod Lacking
-pub mod Failing
-pub mod Temped
-pub mod Shapes
-pub mod Passed
-pub mod Served
-pub mod Mapping
-pub mod Noting
-pub mod Adding
-pub mod Renaming
-pub mod Alike
-pub mod AlikeRows
-pub mod Limits
+-- What the definitions of segments say by themselves, and the laws of two runs.
+pub mod Definition
+-- What is found by segments and by caches, and the order of the caches that are kept.
+pub mod Lookup
+-- Which caches nothing refers to, and what is seen without them.
+pub mod Seeing
+-- What a call of the manager below comes to, and that it can be called again.
+pub mod Calling
+-- Caches that are kept are destroyed, and make room for another.
+pub mod Room
+-- A segment is opened: for the first time, or once more.
+pub mod Opens
+-- A temporary cache is made.
+pub mod Temps
+-- References go: with an actor, a region, or an opening.
+pub mod Leaves

@@ -1,28 +1,10 @@
-pub mod Played
-pub mod Waiting
-pub mod Rows
-pub mod Making
-pub mod Hiding
-pub mod Messages
-pub mod Counting
-pub mod Fresh
-pub mod Followed
-pub mod Lifting
-pub mod Passed
-pub mod Untold
-pub mod Calls
-pub mod Beginning
-pub mod Shapes
-pub mod Replacing
-pub mod Appending
-pub mod Emptying
-pub mod Moving
-pub mod Sending
-pub mod Going
-pub mod Taking
-pub mod Marking
-pub mod Removing
-pub mod Sent
-pub mod Receiving
-pub mod Received
-pub mod Answered
+-- What the definitions of ports say by themselves.
+pub mod Definition
+-- Which caches are hidden, since messages wait in them, and what is seen of the others.
+pub mod Seeing
+-- How the ports stay tied to the machine that their manager stands for.
+pub mod Ties
+-- What a call of the manager comes to, and that it can be called again.
+pub mod Calling
+-- What each command of ports comes to.
+pub mod Commands

@@ -1,4 +1,4 @@
-use Rattle.mix_process.proofs.Lasting.{forks_are_of_one_moment, loads_are_of_bytes}
+use Rattle.mix_process.proofs.Definition.Lasting.{forks_are_of_one_moment, loads_are_of_bytes}
 use Rattle.mix_process.proofs.laws.forking.Goals as goal
 
 pub returns-clause-forks_are_of_one_moment : goal.returns-clause-forks_are_of_one_moment

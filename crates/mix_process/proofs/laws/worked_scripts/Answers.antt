@@ -1,4 +1,4 @@
-use Rattle.mix_process.proofs.Played.{forked_and_grown, refused_processes}
+use Rattle.mix_process.proofs.Definition.Played.{forked_and_grown, refused_processes}
 use Rattle.mix_process.proofs.laws.worked_scripts.Goals as goal
 
 pub returns-clause-forked_and_grown : goal.returns-clause-forked_and_grown

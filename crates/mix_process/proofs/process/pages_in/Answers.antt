@@ -3,7 +3,7 @@ use Rattle.std.proofs.lemmas.List.{take-append-drop}
 use Rattle.mix_process.specs.Seen.{pages_in, same_area}
 use Rattle.mix_process.specs.declared.area.Area.{Area}
 use Rattle.mix_process.specs.declared.process.Part.{Part}
-use Rattle.mix_process.proofs.Looking.{pages-append}
+use Rattle.mix_process.proofs.Reading.Looking.{pages-append}
 use Rattle.mix_process.proofs.process.pages_in.Goals as goal
 use Rattle.mix_process.proofs.process.pages_in.Goals.{then-is_same, else-is_same}
 

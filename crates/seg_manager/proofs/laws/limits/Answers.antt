@@ -1,4 +1,4 @@
-use Rattle.seg_manager.proofs.Limits.{equal_runs_answer_equally, runs_are_alike}
+use Rattle.seg_manager.proofs.Definition.Limits.{equal_runs_answer_equally, runs_are_alike}
 use Rattle.seg_manager.proofs.laws.limits.Goals as goal
 
 pub returns-clause-runs_are_alike : goal.returns-clause-runs_are_alike

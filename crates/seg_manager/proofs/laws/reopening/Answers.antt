@@ -1,4 +1,4 @@
-use Rattle.seg_manager.proofs.Reopening.{reopens_as_it_was}
+use Rattle.seg_manager.proofs.Definition.Reopening.{reopens_as_it_was}
 use Rattle.seg_manager.proofs.laws.reopening.Goals as goal
 
 pub returns : goal.returns

@@ -1,4 +1,4 @@
-use Rattle.seg_manager.proofs.Played.{kept_cache_comes_again, nothing_is_kept}
+use Rattle.seg_manager.proofs.Definition.Played.{kept_cache_comes_again, nothing_is_kept}
 use Rattle.seg_manager.proofs.laws.worked_scripts.Goals as goal
 
 pub returns-clause-kept_cache_comes_again : goal.returns-clause-kept_cache_comes_again

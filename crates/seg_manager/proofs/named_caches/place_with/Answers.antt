@@ -1,7 +1,7 @@
 use Rattle.std.proofs.Common.{◌≡◌, ◌+◌, ◌-◌, ◌/◌, ◌<◌, arith, ap, sym, ◌∙◌, length}
 use Rattle.std.specs.Prelude.{slice_get}
 use Rattle.std.proofs.lemmas.Option.{slice_get-get_or}
-use Rattle.seg_manager.proofs.Named.{at_least, none_at, none_before}
+use Rattle.seg_manager.proofs.Lookup.Named.{at_least, none_at, none_before}
 use Rattle.seg_manager.proofs.named_caches.place_with.Goals as goal
 
 pub loop-first-preserved-then-caches-middle : goal.loop-first-preserved-then-caches-middle

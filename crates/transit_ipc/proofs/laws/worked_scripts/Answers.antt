@@ -1,4 +1,4 @@
-use Rattle.transit_ipc.proofs.Played.{messages_in_order, refused_messages}
+use Rattle.transit_ipc.proofs.Definition.Played.{messages_in_order, refused_messages}
 use Rattle.transit_ipc.proofs.laws.worked_scripts.Goals as goal
 
 pub returns-clause-messages_in_order : goal.returns-clause-messages_in_order

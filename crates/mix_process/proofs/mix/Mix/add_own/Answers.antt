@@ -1,7 +1,7 @@
 use Rattle.std.proofs.Common.{refl}
 use Rattle.mix_process.specs.Adding.{IsAdded}
-use Rattle.mix_process.proofs.Fitted.{handed_on}
-use Rattle.mix_process.proofs.Owning.{added, made_few, made_then, may_fill, not_added, not_taken}
+use Rattle.mix_process.proofs.Adding.FilledAndMapped.{handed_on}
+use Rattle.mix_process.proofs.Adding.OwnPagesAdded.{added, made_few, made_then, may_fill, not_added, not_taken}
 use Rattle.mix_process.proofs.mix.Mix.add_own.Goals as goal
 
 pub returns-in_err-cache : goal.returns-in_err-cache

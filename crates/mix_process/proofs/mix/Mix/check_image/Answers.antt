@@ -1,7 +1,7 @@
 use Rattle.std.proofs.Common.{Err, subst, sym, ap, ◌∙◌}
 use Rattle.vm_ids.specs.declared.reply.Reply.TheVariants as replies
 use Rattle.mix_process.specs.Starting.{Checks}
-use Rattle.mix_process.proofs.Imaging.{checked_err, checked_ok}
+use Rattle.mix_process.proofs.Starts.ImageCalls.{checked_err, checked_ok}
 use Rattle.mix_process.proofs.mix.Mix.check_image.Goals as goal
 use Rattle.mix_process.proofs.mix.Mix.check_image.Goals.{in-Ok, in-Err}
 

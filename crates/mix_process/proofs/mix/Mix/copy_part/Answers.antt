@@ -1,5 +1,5 @@
 use Rattle.std.proofs.Common.{sym}
-use Rattle.mix_process.proofs.Copied.{added, mapped, may_add, may_map}
+use Rattle.mix_process.proofs.Adding.PartCopied.{added, mapped, may_add, may_map}
 use Rattle.mix_process.proofs.mix.Mix.copy_part.Goals as goal
 
 pub add_own-requires-clause-may : goal.add_own-requires-clause-may

@@ -1,7 +1,7 @@
 use Rattle.std.proofs.Common.{arith}
 use Rattle.std.proofs.lemmas.Result.{err_from_is_err_and}
-use Rattle.mix_process.proofs.Counts.{few_parts}
-use Rattle.mix_process.proofs.Inheriting.{all_copied, fewer_left, made_yet, may_copy, none_copied, not_copied, one_copied, parent_within, part_is, run}
+use Rattle.mix_process.proofs.Ties.Counts.{few_parts}
+use Rattle.mix_process.proofs.Starts.PartsInherited.{all_copied, fewer_left, made_yet, may_copy, none_copied, not_copied, one_copied, parent_within, part_is, run}
 use Rattle.mix_process.proofs.mix.Mix.copy_parts.Goals as goal
 
 pub loop-part-init : goal.loop-part-init

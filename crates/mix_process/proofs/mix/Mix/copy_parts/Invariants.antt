@@ -1,7 +1,7 @@
 use Rattle.std.proofs.Common.{◌-◌, length}
 use Rattle.mix_process.specs.Copying.{MayInherit}
 use Rattle.mix_process.specs.declared.process.Process.{Process}
-use Rattle.mix_process.proofs.Inheriting.{AreCopying, parts_at}
+use Rattle.mix_process.proofs.Starts.PartsInherited.{AreCopying, parts_at}
 use Rattle.mix_process.proofs.mix.Mix.copy_parts.Given as goal
 
 abbrev pub invariant-loop-part : goal.invariant-loop-part

@@ -1,7 +1,7 @@
 use Rattle.std.proofs.Common.{List, sym, subst}
 use Rattle.mix_process.specs.Inner.{AreCleared}
 use Rattle.mix_process.specs.declared.process.Part.{Part}
-use Rattle.mix_process.proofs.Destroying.{cleared_none, cleared_one, cleared_skip}
+use Rattle.mix_process.proofs.Adding.OwnDestroyed.{cleared_none, cleared_one, cleared_skip}
 use Rattle.mix_process.proofs.mix.Mix.destroy_own.Goals as goal
 
 pub loop-part-init : goal.loop-part-init

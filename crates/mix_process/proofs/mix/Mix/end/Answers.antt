@@ -1,4 +1,4 @@
-use Rattle.mix_process.proofs.Ending.{able_then, apart_then, is_ended, made_then, own_then}
+use Rattle.mix_process.proofs.Commands.Exit.{able_then, apart_then, is_ended, made_then, own_then}
 use Rattle.mix_process.proofs.mix.Mix.end.Goals as goal
 
 pub destroy_own-requires-clause-able : goal.destroy_own-requires-clause-able

@@ -1,6 +1,6 @@
 use Rattle.std.proofs.Common.{sym}
 use Rattle.std.proofs.lemmas.Result.{err_from_is_err_and}
-use Rattle.mix_process.proofs.Executed.{finished, image_cache, large, last_alive, made_now, may_load, not_begun, not_checked, not_opened}
+use Rattle.mix_process.proofs.Commands.Exec.{finished, image_cache, large, last_alive, made_now, may_load, not_begun, not_checked, not_opened}
 use Rattle.mix_process.proofs.mix.Mix.exec.Goals as goal
 
 pub returns-then-is_too_large : goal.returns-then-is_too_large

@@ -1,7 +1,7 @@
 use Rattle.std.proofs.Common.{◌-◌, List, Option, None, refl, sym, ap, ◌∙◌, arith}
 use Rattle.interface_callers.proofs.Words.{numbered}
 use Rattle.mix_process.specs.declared.process.Process.{Process}
-use Rattle.mix_process.proofs.Ending.{end_able, exit_nobody, exited, written_back}
+use Rattle.mix_process.proofs.Commands.Exit.{end_able, exit_nobody, exited, written_back}
 use Rattle.mix_process.proofs.mix.Mix.exit.Goals as goal
 
 pub returns-in-None : goal.returns-in-None

@@ -1,7 +1,7 @@
 use Rattle.std.proofs.Common.{Option, sym, subst}
 use Rattle.std.specs.Prelude.{Ok}
 use Rattle.mix_process.specs.Adding.{IsFilled, IsSourceOf, Source}
-use Rattle.mix_process.proofs.Filled.{fill_none, fill_some}
+use Rattle.mix_process.proofs.Adding.SpareFilled.{fill_none, fill_some}
 use Rattle.mix_process.proofs.mix.Mix.fill.Goals as goal
 
 pub returns-in_default : goal.returns-in_default

@@ -1,5 +1,5 @@
 use Rattle.mix_process.specs.Adding.{FillsAndMaps}
-use Rattle.mix_process.proofs.Fitted.{fitted, handed_on, made_few, may_map, unfilled}
+use Rattle.mix_process.proofs.Adding.FilledAndMapped.{fitted, handed_on, made_few, may_map, unfilled}
 use Rattle.mix_process.proofs.mix.Mix.fill_and_map.Goals as goal
 
 pub returns-in_err-fill : goal.returns-in_err-fill

@@ -1,6 +1,6 @@
 use Rattle.std.proofs.Common.{arith}
 use Rattle.std.proofs.lemmas.Result.{err_from_is_err_and}
-use Rattle.mix_process.proofs.Forking.{finished, last_alive, may_inherit, nobody, not_forked}
+use Rattle.mix_process.proofs.Commands.Fork.{finished, last_alive, may_inherit, nobody, not_forked}
 use Rattle.mix_process.proofs.mix.Mix.fork.Goals as goal
 
 pub returns-in_err-parent : goal.returns-in_err-parent

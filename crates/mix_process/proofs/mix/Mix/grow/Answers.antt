@@ -4,8 +4,8 @@ use Rattle.vm_ids.specs.declared.command.MixCommand.TheVariants.{Grow}
 use Rattle.vm_ids.specs.declared.reply.Trouble.TheVariants.{Refused}
 use Rattle.interface_callers.proofs.Words.{Refusal, done_by}
 use Rattle.mix_process.specs.Calling.{MixCall}
-use Rattle.mix_process.proofs.Fitted.{handed_on}
-use Rattle.mix_process.proofs.Growing.{data_few, grew, grow_nobody, grow_too_large, may_grow}
+use Rattle.mix_process.proofs.Adding.FilledAndMapped.{handed_on}
+use Rattle.mix_process.proofs.Commands.Grow.{data_few, grew, grow_nobody, grow_too_large, may_grow}
 use Rattle.mix_process.proofs.mix.Mix.grow.Goals as goal
 
 pub returns-in_err-place : goal.returns-in_err-place

@@ -1,7 +1,7 @@
 use Rattle.std.proofs.Common.{List, Option, sym, ap, ◌∙◌}
 use Rattle.interface_callers.proofs.Words.{numbered}
 use Rattle.mix_process.specs.declared.process.Process.{Process}
-use Rattle.mix_process.proofs.Single.{load_called, load_nobody}
+use Rattle.mix_process.proofs.Calling.OneCall.{load_called, load_nobody}
 use Rattle.mix_process.proofs.mix.Mix.load.Goals as goal
 
 pub returns-in-None : goal.returns-in-None

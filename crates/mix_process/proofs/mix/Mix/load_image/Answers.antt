@@ -5,8 +5,8 @@ use Rattle.interface_callers.proofs.Words.{Machine}
 use Rattle.mix_process.specs.Loaded.{IsLoaded, MayLoad}
 use Rattle.mix_process.specs.declared.process.Part.{Part}
 use Rattle.mix_process.specs.declared.process.Process.{Process}
-use Rattle.mix_process.proofs.Fitted.{handed_on}
-use Rattle.mix_process.proofs.Booting.{data_adds, data_may, made1, made2, no_data, no_text, stack_adds, stack_may, stacked, text_maps, text_may}
+use Rattle.mix_process.proofs.Adding.FilledAndMapped.{handed_on}
+use Rattle.mix_process.proofs.Starts.ImageLoaded.{data_adds, data_may, made1, made2, no_data, no_text, stack_adds, stack_may, stacked, text_maps, text_may}
 use Rattle.mix_process.proofs.mix.Mix.load_image.Goals as goal
 
 -- the last place

@@ -1,7 +1,7 @@
 use Rattle.std.proofs.Common.{◌++◌, ◌∷◌, [], Option, Err, sym, ap, subst, ◌∙◌}
 use Rattle.mix_process.specs.Starting.{IsMadeOrTakenBack}
 use Rattle.mix_process.specs.declared.process.Process.{Process}
-use Rattle.mix_process.proofs.Back.{last_able, taken_back}
+use Rattle.mix_process.proofs.Starts.TakenBack.{last_able, taken_back}
 use Rattle.mix_process.proofs.mix.Mix.made_or_taken_back.Goals as goal
 
 pub end-requires-clause-able : goal.end-requires-clause-able

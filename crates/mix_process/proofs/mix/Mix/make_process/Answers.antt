@@ -3,7 +3,7 @@ use Rattle.std.proofs.lemmas.Result.{err_from_is_err_and}
 use Rattle.vm_ids.specs.declared.reply.Reply.TheVariants as replies
 use Rattle.interface_callers.proofs.Words.{answer_by}
 use Rattle.mix_process.specs.declared.process.Process.{Process}
-use Rattle.mix_process.proofs.Begun.{begun, no_room, not_begun}
+use Rattle.mix_process.proofs.Starts.ActorBegun.{begun, no_room, not_begun}
 use Rattle.mix_process.proofs.mix.Mix.make_process.Goals as goal
 
 pub returns-in_err-reserve : goal.returns-in_err-reserve

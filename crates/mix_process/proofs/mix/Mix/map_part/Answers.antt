@@ -1,7 +1,7 @@
 use Rattle.std.proofs.Common.{refl, subst}
 use Rattle.mix_process.specs.Adding.{MapsInto}
 use Rattle.mix_process.specs.declared.process.Process.{Process}
-use Rattle.mix_process.proofs.Mapped.{maps_part, read_there}
+use Rattle.mix_process.proofs.Adding.PartMapped.{maps_part, read_there}
 use Rattle.mix_process.proofs.mix.Mix.map_part.Goals as goal
 
 pub returns : goal.returns

@@ -5,7 +5,7 @@ use Rattle.mix_process.specs.Seen.{processes_seen}
 use Rattle.mix_process.specs.Tying.{AreAble, none_spare}
 use Rattle.mix_process.specs.declared.mix.Image.{Image}
 use Rattle.mix_process.specs.declared.process.Process.{Process}
-use Rattle.mix_process.proofs.Beginning.{bare_able}
+use Rattle.mix_process.proofs.Ties.EmptyStart.{bare_able}
 use Rattle.mix_process.proofs.mix.Mix.new.Goals as goal
 
 pub returns-clause-can : goal.returns-clause-can

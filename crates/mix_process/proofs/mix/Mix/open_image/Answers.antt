@@ -5,7 +5,7 @@ use Rattle.vm_ids.specs.declared.reply.Reply.TheVariants as replies
 use Rattle.interface_callers.proofs.Words.{answer_by}
 use Rattle.mix_process.specs.Starting.{image_for}
 use Rattle.mix_process.specs.declared.mix.Image.{Image}
-use Rattle.mix_process.proofs.Images.{found, is_none, no_entry, not_opened, was_opened}
+use Rattle.mix_process.proofs.Starts.ImageOpened.{found, is_none, no_entry, not_opened, was_opened}
 use Rattle.mix_process.proofs.mix.Mix.open_image.Goals as goal
 
 pub returns-in-Some : goal.returns-in-Some

@@ -1,4 +1,4 @@
-use Rattle.mix_process.proofs.Single.{page_out_called}
+use Rattle.mix_process.proofs.Calling.OneCall.{page_out_called}
 use Rattle.mix_process.proofs.mix.Mix.page_out.Goals as goal
 
 pub returns : goal.returns

@@ -1,7 +1,7 @@
 use Rattle.std.proofs.Common.{List, Option, sym, ap, ◌∙◌}
 use Rattle.interface_callers.proofs.Words.{numbered}
 use Rattle.mix_process.specs.declared.process.Process.{Process}
-use Rattle.mix_process.proofs.Single.{store_called, store_nobody}
+use Rattle.mix_process.proofs.Calling.OneCall.{store_called, store_nobody}
 use Rattle.mix_process.proofs.mix.Mix.store.Goals as goal
 
 pub returns-in-None : goal.returns-in-None

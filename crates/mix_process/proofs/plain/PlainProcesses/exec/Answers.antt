@@ -2,7 +2,7 @@ use Rattle.std.proofs.Common.{◌≡◌, ℕ, length, ap, ◌∙◌, arith}
 use Rattle.mix_process.specs.ProcessMachine.{ProcessMachine}
 use Rattle.mix_process.specs.contracts.plain.PlainProcesses.{the_view}
 use Rattle.mix_process.specs.declared.plain.PlainProcesses.TheInside.{Inside}
-use Rattle.mix_process.proofs.PlainRows.{taken_back}
+use Rattle.mix_process.proofs.Definition.PlainRows.{taken_back}
 use Rattle.mix_process.proofs.plain.PlainProcesses.exec.Goals as goal
 
 -- as many images as are seen

@@ -6,7 +6,7 @@ use Rattle.interface_callers.proofs.Words.{numbered}
 use Rattle.mix_process.specs.Answering.{grown_by, put_process, reply}
 use Rattle.mix_process.specs.ProcessMachine.{Process, ProcessMachine, process_of}
 use Rattle.mix_process.specs.declared.area.TheConstants.{MOST_DATA}
-use Rattle.mix_process.proofs.Growing.{grow_done}
+use Rattle.mix_process.proofs.Commands.Grow.{grow_done}
 use Rattle.mix_process.proofs.plain.PlainProcesses.grow.Goals as goal
 
 pub returns : goal.returns

@@ -4,7 +4,7 @@ use Rattle.interface_callers.proofs.Words.{Page}
 use Rattle.mix_process.specs.Answering.{Answered, add_process, process_from}
 use Rattle.mix_process.specs.Plain.{IsAnswered}
 use Rattle.mix_process.specs.ProcessMachine.{ProcessMachine, image_in, image_of}
-use Rattle.mix_process.proofs.PlainRows.{ends_good}
+use Rattle.mix_process.proofs.Definition.PlainRows.{ends_good}
 use Rattle.mix_process.proofs.plain.PlainProcesses.start_process.Goals as goal
 
 pub returns : goal.returns

@@ -2,7 +2,7 @@ use Rattle.std.proofs.Common.{ap, sym, subst, cond, ◌==◌, ◌∙◌, ◌++�
 use Rattle.seg_manager.specs.Keeps.{AreOnce}
 use Rattle.seg_manager.specs.Linked.{changed_at, end_set, link_of, with_after}
 use Rattle.seg_manager.specs.Ring.{items_of}
-use Rattle.seg_manager.proofs.Rings.{items_are, not_linked, ring_more, ring_of}
+use Rattle.seg_manager.proofs.Lookup.Rings.{items_are, not_linked, ring_more, ring_of}
 use Rattle.seg_manager.proofs.kept_caches.KeptCaches.push.Goals as goal
 
 pub insert-requires-clause-none : goal.insert-requires-clause-none

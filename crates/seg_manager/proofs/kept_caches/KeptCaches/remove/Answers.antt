@@ -2,7 +2,7 @@ use Rattle.std.proofs.Common.{ap, sym, ◌∙◌}
 use Rattle.std.specs.Prelude.{filter, not}
 use Rattle.seg_manager.specs.Inner.{is_of}
 use Rattle.seg_manager.specs.Ring.{items_of}
-use Rattle.seg_manager.proofs.Rings.{items_are, none_less, ring_less, ring_of}
+use Rattle.seg_manager.proofs.Lookup.Rings.{items_are, none_less, ring_less, ring_of}
 use Rattle.seg_manager.proofs.kept_caches.KeptCaches.remove.Goals as goal
 
 pub invariant_of-self : goal.invariant_of-self

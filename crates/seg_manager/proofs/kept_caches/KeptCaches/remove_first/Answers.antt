@@ -2,7 +2,7 @@ use Rattle.std.proofs.Common.{ap, sym, ◌∙◌}
 use Rattle.std.specs.Prelude.{drop, filter, not}
 use Rattle.seg_manager.specs.Inner.{is_of}
 use Rattle.seg_manager.specs.Ring.{items_of}
-use Rattle.seg_manager.proofs.Rings.{first_less}
+use Rattle.seg_manager.proofs.Lookup.Rings.{first_less}
 use Rattle.seg_manager.proofs.kept_caches.KeptCaches.remove_first.Goals as goal
 
 pub returns-in-Some-clause-items : goal.returns-in-Some-clause-items

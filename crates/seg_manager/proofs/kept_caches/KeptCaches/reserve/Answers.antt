@@ -1,6 +1,6 @@
 use Rattle.std.proofs.Common.{sym, subst}
 use Rattle.seg_manager.specs.Ring.{IsRing, items_of}
-use Rattle.seg_manager.proofs.Rings.{ring_of, ring_roomy}
+use Rattle.seg_manager.proofs.Lookup.Rings.{ring_of, ring_roomy}
 use Rattle.seg_manager.proofs.kept_caches.KeptCaches.reserve.Goals as goal
 
 pub invariant_of-self : goal.invariant_of-self

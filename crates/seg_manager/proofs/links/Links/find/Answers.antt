@@ -1,6 +1,6 @@
 use Rattle.std.proofs.Common.{arith, ap, sym, ◌∙◌}
 use Rattle.seg_manager.specs.Linked.{link_of}
-use Rattle.seg_manager.proofs.Placed.{found_at, place_within}
+use Rattle.seg_manager.proofs.Lookup.Placed.{found_at, place_within}
 use Rattle.seg_manager.proofs.links.Links.find.Goals as goal
 
 pub index-requires : goal.index-requires

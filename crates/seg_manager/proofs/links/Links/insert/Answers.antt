@@ -1,7 +1,7 @@
 use Rattle.std.proofs.Common.{◌≡◌, ◌<◌, Some, arith, ap, sym, ◌∙◌, length, cond, ◌==◌, ◌++◌, ◌∷◌, [], subst}
 use Rattle.std.specs.FinMap as map
 use Rattle.seg_manager.specs.Linked.{ArePlaced, link_at, link_of}
-use Rattle.seg_manager.proofs.Placed.{links_more, place_free, placed_more, unplaced}
+use Rattle.seg_manager.proofs.Lookup.Placed.{links_more, place_free, placed_more, unplaced}
 use Rattle.seg_manager.proofs.links.Links.insert.Goals as goal
 
 pub overflow_cast-place : goal.overflow_cast-place

@@ -1,5 +1,5 @@
 use Rattle.std.proofs.Common.{ap, arith}
-use Rattle.seg_manager.proofs.Placed.{placed_none}
+use Rattle.seg_manager.proofs.Lookup.Placed.{placed_none}
 use Rattle.seg_manager.proofs.links.Links.new.Goals as goal
 
 pub invariant_of-result : goal.invariant_of-result

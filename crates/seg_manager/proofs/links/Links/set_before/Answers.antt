@@ -1,6 +1,6 @@
 use Rattle.std.proofs.Common.{arith, refl, sym, ◌∙◌}
 use Rattle.seg_manager.specs.Linked.{changed_at, link_of, with_before}
-use Rattle.seg_manager.proofs.Placed.{links_set, place_within, placed_set, read_at}
+use Rattle.seg_manager.proofs.Lookup.Placed.{links_set, place_within, placed_set, read_at}
 use Rattle.seg_manager.proofs.links.Links.set_before.Goals as goal
 
 pub index_mut-requires : goal.index_mut-requires

@@ -4,7 +4,7 @@ use Rattle.std.specs.FinMap as map
 use Rattle.std.proofs.lemmas.Bool.{cases_eq}
 use Rattle.std.proofs.lemmas.Option.{slice_get-get_or}
 use Rattle.seg_manager.specs.Linked.{link_of}
-use Rattle.seg_manager.proofs.Placed.{found_at, links_less, moved_gone, moved_here, moved_same, named_at, one_number, place_within, placed_less, read_at, remove_other, remove_same}
+use Rattle.seg_manager.proofs.Lookup.Placed.{found_at, links_less, moved_gone, moved_here, moved_same, named_at, one_number, place_within, placed_less, read_at, remove_other, remove_same}
 use Rattle.seg_manager.proofs.links.Links.take.Goals as goal
 
 pub overflow_sub-last : goal.overflow_sub-last

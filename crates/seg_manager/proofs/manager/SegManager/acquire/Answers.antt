@@ -1,7 +1,7 @@
 use Rattle.std.proofs.Common.{refl}
 use Rattle.seg_manager.specs.Inner.{first_of}
-use Rattle.seg_manager.proofs.Acquiring.{acquired_by}
-use Rattle.seg_manager.proofs.Finding.{place_below}
+use Rattle.seg_manager.proofs.Opens.AgainCall.{acquired_by}
+use Rattle.seg_manager.proofs.Lookup.Finding.{place_below}
 use Rattle.seg_manager.proofs.manager.SegManager.acquire.Goals as goal
 
 pub open_again-requires : goal.open_again-requires

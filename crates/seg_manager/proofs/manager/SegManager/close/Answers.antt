@@ -1,7 +1,7 @@
 use Rattle.std.proofs.Common.{refl, sym, subst, arith}
 use Rattle.std.proofs.lemmas.Option.{get_or_from_slice_get}
 use Rattle.seg_manager.specs.Inner.{Closes, first_of}
-use Rattle.seg_manager.proofs.Finding.{closes, none_left, not_noted, place_below}
+use Rattle.seg_manager.proofs.Lookup.Finding.{closes, none_left, not_noted, place_below}
 use Rattle.seg_manager.proofs.manager.SegManager.close.Goals as goal
 
 pub returns-in_default-clause-closed : goal.returns-in_default-clause-closed

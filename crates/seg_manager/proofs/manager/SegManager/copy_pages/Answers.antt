@@ -1,5 +1,5 @@
 use Rattle.interface_callers.proofs.Words.{done_by}
-use Rattle.seg_manager.proofs.Served.{copy_served}
+use Rattle.seg_manager.proofs.Calling.Served.{copy_served}
 use Rattle.seg_manager.proofs.manager.SegManager.copy_pages.Goals as goal
 
 pub returns : goal.returns

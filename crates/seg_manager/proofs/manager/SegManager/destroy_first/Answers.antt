@@ -2,7 +2,7 @@ use Rattle.std.proofs.Common.{drop, ap, sym, refl}
 use Rattle.std.proofs.result.Match.{err_is}
 use Rattle.std.proofs.lemmas.Option.{get_or_from_slice_get}
 use Rattle.interface_callers.proofs.Words.{done_by}
-use Rattle.seg_manager.proofs.Thinned.{failed_first, first_rest, gone_first, thins_one}
+use Rattle.seg_manager.proofs.Room.Thinned.{failed_first, first_rest, gone_first, thins_one}
 use Rattle.seg_manager.proofs.manager.SegManager.destroy_first.Goals as goal
 
 pub returns-in_err-destroy : goal.returns-in_err-destroy

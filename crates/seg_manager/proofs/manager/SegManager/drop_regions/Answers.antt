@@ -1,8 +1,8 @@
 use Rattle.std.proofs.Common.{ap, arith, refl, sym, ◌∙◌}
 use Rattle.std.specs.List.{position_from}
 use Rattle.seg_manager.specs.Inner.{leaves}
-use Rattle.seg_manager.proofs.Dropping.{dropped_kept, dropped_regions, dropping_more, once_more, room_more}
-use Rattle.seg_manager.proofs.Finding.{place_below}
+use Rattle.seg_manager.proofs.Leaves.RegionsGone.{dropped_kept, dropped_regions, dropping_more, once_more, room_more}
+use Rattle.seg_manager.proofs.Lookup.Finding.{place_below}
 use Rattle.seg_manager.proofs.manager.SegManager.drop_regions.Goals as goal
 
 pub remove-mapped-requires : goal.remove-mapped-requires

@@ -1,5 +1,5 @@
 use Rattle.std.proofs.Common.{length}
-use Rattle.seg_manager.proofs.Dropping.{IsDropping}
+use Rattle.seg_manager.proofs.Leaves.RegionsGone.{IsDropping}
 use Rattle.seg_manager.proofs.manager.SegManager.drop_regions.Given as goal
 
 abbrev pub invariant-loop-place : goal.invariant-loop-place

@@ -5,10 +5,10 @@ use Rattle.vm_ids.specs.declared.command.Command.TheVariants.{MakeTemp}
 use Rattle.vm_ids.specs.declared.reply.Reply.TheVariants as replies
 use Rattle.gmi_calls.proofs.Still.{without_mapper}
 use Rattle.interface_callers.proofs.Words.{meanings_of}
-use Rattle.seg_manager.proofs.Temped.{temp_credit, temp_served}
-use Rattle.seg_manager.proofs.Temping.{temp_leaves}
-use Rattle.seg_manager.proofs.Thinned.{trying_none}
-use Rattle.seg_manager.proofs.Tried.{can_tried, made_tried, temp_row, tries_err, tries_more, tries_ok}
+use Rattle.seg_manager.proofs.Temps.TempCall.{temp_credit, temp_served}
+use Rattle.seg_manager.proofs.Temps.TempLeaves.{temp_leaves}
+use Rattle.seg_manager.proofs.Room.Thinned.{trying_none}
+use Rattle.seg_manager.proofs.Room.Tried.{can_tried, made_tried, temp_row, tries_err, tries_more, tries_ok}
 use Rattle.seg_manager.proofs.manager.SegManager.make_temp.Goals as goal
 
 pub loop-cache-init : goal.loop-cache-init

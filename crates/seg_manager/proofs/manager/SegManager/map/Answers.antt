@@ -2,7 +2,7 @@ use Rattle.std.proofs.Common.{◌∙◌, refl}
 use Rattle.std.proofs.result.Match.{err_is}
 use Rattle.std.specs.Prelude.{insert}
 use Rattle.seg_manager.specs.Inner.{place_from}
-use Rattle.seg_manager.proofs.Adding.{lacks_map, map_done, map_refused}
+use Rattle.seg_manager.proofs.Calling.MapCall.{lacks_map, map_done, map_refused}
 use Rattle.seg_manager.proofs.manager.SegManager.map.Goals as goal
 
 pub returns-in_err-reserve : goal.returns-in_err-reserve

@@ -1,4 +1,4 @@
-use Rattle.seg_manager.proofs.Starting.{begins, can_begin}
+use Rattle.seg_manager.proofs.Calling.EmptyStart.{begins, can_begin}
 use Rattle.seg_manager.proofs.manager.SegManager.new.Goals as goal
 
 pub returns-clause-can : goal.returns-clause-can

@@ -1,6 +1,6 @@
 use Rattle.std.proofs.Common.{refl}
 use Rattle.std.proofs.result.Match.{err_is}
-use Rattle.seg_manager.proofs.Beginning.{can_by, credit_by, lacks_by, named_by, not_by, ok_by, spare_by, start_anew}
+use Rattle.seg_manager.proofs.Opens.FirstCall.{can_by, credit_by, lacks_by, named_by, not_by, ok_by, spare_by, start_anew}
 use Rattle.seg_manager.proofs.manager.SegManager.open_anew.Goals as goal
 
 pub returns-in_err-reserve_cache : goal.returns-in_err-reserve_cache

@@ -1,8 +1,8 @@
 use Rattle.std.proofs.result.Match.{err_is}
 use Rattle.vm_ids.specs.declared.command.Command.TheVariants.{OpenSegment}
 use Rattle.seg_manager.specs.Inner.{first_of}
-use Rattle.seg_manager.proofs.Thinned.{trying_none}
-use Rattle.seg_manager.proofs.Tried.{can_tried, made_tried, none_noted, noted_none, open_leaves, open_row, tries_err, tries_more}
+use Rattle.seg_manager.proofs.Room.Thinned.{trying_none}
+use Rattle.seg_manager.proofs.Room.Tried.{can_tried, made_tried, none_noted, noted_none, open_leaves, open_row, tries_err, tries_more}
 use Rattle.seg_manager.proofs.manager.SegManager.open_segment.Goals as goal
 
 pub loop-cache-init : goal.loop-cache-init

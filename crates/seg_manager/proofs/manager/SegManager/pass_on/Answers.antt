@@ -1,4 +1,4 @@
-use Rattle.seg_manager.proofs.Served.{passed_served}
+use Rattle.seg_manager.proofs.Calling.Served.{passed_served}
 use Rattle.seg_manager.proofs.manager.SegManager.pass_on.Goals as goal
 
 pub returns : goal.returns

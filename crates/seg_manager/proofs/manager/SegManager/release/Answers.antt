@@ -1,5 +1,5 @@
 use Rattle.std.proofs.result.Match.{err_is}
-use Rattle.seg_manager.proofs.Releasing.{keep_may, keep_once_may, release_done, release_refused, trim_can, trim_made}
+use Rattle.seg_manager.proofs.Leaves.CloseCall.{keep_may, keep_once_may, release_done, release_refused, trim_can, trim_made}
 use Rattle.seg_manager.proofs.manager.SegManager.release.Goals as goal
 
 pub keep_unused-requires : goal.keep_unused-requires

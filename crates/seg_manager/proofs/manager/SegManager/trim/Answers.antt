@@ -1,5 +1,5 @@
 use Rattle.std.proofs.Common.{arith}
-use Rattle.seg_manager.proofs.Trimmed.{trimmed, trimmed_failed, trimming_more, trimming_none}
+use Rattle.seg_manager.proofs.Room.Trimmed.{trimmed, trimmed_failed, trimming_more, trimming_none}
 use Rattle.seg_manager.proofs.manager.SegManager.trim.Goals as goal
 
 pub loop-self-init : goal.loop-self-init

@@ -1,5 +1,5 @@
 use Rattle.std.proofs.Common.{length}
-use Rattle.seg_manager.proofs.Trimmed.{IsTrimming}
+use Rattle.seg_manager.proofs.Room.Trimmed.{IsTrimming}
 use Rattle.seg_manager.proofs.manager.SegManager.trim.Given as goal
 
 abbrev pub invariant-loop-self : goal.invariant-loop-self

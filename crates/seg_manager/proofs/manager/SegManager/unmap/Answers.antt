@@ -1,6 +1,6 @@
 use Rattle.std.proofs.result.Match.{err_is}
 use Rattle.seg_manager.specs.declared.tables.Leaving.TheVariants.{Region}
-use Rattle.seg_manager.proofs.Parting.{done_serves, drop_once, drop_room, refused_serves, trim_can, trim_made}
+use Rattle.seg_manager.proofs.Leaves.ExitOrUnmapCall.{done_serves, drop_once, drop_room, refused_serves, trim_can, trim_made}
 use Rattle.seg_manager.proofs.manager.SegManager.unmap.Goals as goal
 
 pub drop_regions-requires : goal.drop_regions-requires

@@ -2,8 +2,8 @@ use Rattle.std.proofs.Common.{Some, ap, sym, ◌∙◌, arith}
 use Rattle.std.specs.List.{position_from}
 use Rattle.std.proofs.lemmas.Option.{slice_get-get_or}
 use Rattle.seg_manager.specs.Inner.{first_with, named_with}
-use Rattle.seg_manager.proofs.Finding.{place_below}
-use Rattle.seg_manager.proofs.Named.{with_none, with_at}
+use Rattle.seg_manager.proofs.Lookup.Finding.{place_below}
+use Rattle.seg_manager.proofs.Lookup.Named.{with_none, with_at}
 use Rattle.seg_manager.proofs.named_caches.NamedCaches.named_with.Goals as goal
 
 pub index-requires : goal.index-requires

@@ -1,7 +1,7 @@
 use Rattle.std.proofs.Common.{ap, sym, ◌∙◌}
 use Rattle.std.specs.List.{position_from}
 use Rattle.seg_manager.specs.Inner.{first_of, first_with}
-use Rattle.seg_manager.proofs.Named.{first_none, first_same}
+use Rattle.seg_manager.proofs.Lookup.Named.{first_none, first_same}
 use Rattle.seg_manager.proofs.named_caches.NamedCaches.place_of.Goals as goal
 
 pub returns-in-Some : goal.returns-in-Some

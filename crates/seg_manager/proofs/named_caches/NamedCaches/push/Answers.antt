@@ -1,6 +1,6 @@
 use Rattle.std.proofs.Common.{◌==◌, Some, cond, ap, sym, subst, ◌∙◌, ◌++◌, ◌∷◌, []}
 use Rattle.seg_manager.specs.Names.{AreIndexed, AreNamed}
-use Rattle.seg_manager.proofs.Named.{cache_more}
+use Rattle.seg_manager.proofs.Lookup.Named.{cache_more}
 use Rattle.seg_manager.proofs.named_caches.NamedCaches.push.Goals as goal
 
 pub invariant_of-self : goal.invariant_of-self

@@ -4,8 +4,8 @@ use Rattle.std.specs.List.{position_from}
 use Rattle.std.proofs.lemmas.Option.{slice_get-get_or}
 use Rattle.seg_manager.specs.Inner.{first_with}
 use Rattle.seg_manager.specs.Names.{AreIndexed}
-use Rattle.seg_manager.proofs.Finding.{place_below}
-use Rattle.seg_manager.proofs.Named.{cache_less, named_less, others_none, others_there, with_at}
+use Rattle.seg_manager.proofs.Lookup.Finding.{place_below}
+use Rattle.seg_manager.proofs.Lookup.Named.{cache_less, named_less, others_none, others_there, with_at}
 use Rattle.seg_manager.proofs.named_caches.NamedCaches.remove.Goals as goal
 
 pub remove-named-requires : goal.remove-named-requires

@@ -1,7 +1,7 @@
 use Rattle.std.proofs.Common.{◌≡◌, ◌<◌, Some, refl, ap, sym, ◌∙◌, length, arith}
 use Rattle.std.specs.Prelude.{slice_get, slice_set}
 use Rattle.std.proofs.lemmas.Option.{get_or_from_slice_get, slice_get-get_or}
-use Rattle.seg_manager.proofs.Named.{cache_set, named_set}
+use Rattle.seg_manager.proofs.Lookup.Named.{cache_set, named_set}
 use Rattle.seg_manager.proofs.named_caches.NamedCaches.set_openings.Goals as goal
 
 pub invariant_of-self : goal.invariant_of-self

@@ -1,6 +1,6 @@
 use Rattle.std.proofs.Common.{refl}
 use Rattle.std.proofs.result.Match.{err_is}
-use Rattle.transit_ipc.proofs.Calls.{map_called, other_called}
+use Rattle.transit_ipc.proofs.Calling.CallAgain.{map_called, other_called}
 use Rattle.transit_ipc.proofs.table.Ports.answer.Goals as goal
 
 pub returns-in_ok-region-in-Map : goal.returns-in_ok-region-in-Map

@@ -1,5 +1,5 @@
 use Rattle.std.proofs.result.Match.{err_is}
-use Rattle.transit_ipc.proofs.Answered.{made_call}
+use Rattle.transit_ipc.proofs.Commands.MakePort.{made_call}
 use Rattle.transit_ipc.proofs.table.Ports.call.Goals as goal
 
 pub returns-in_ok-port-in-Port : goal.returns-in_ok-port-in-Port

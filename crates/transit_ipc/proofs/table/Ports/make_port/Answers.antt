@@ -1,7 +1,7 @@
 use Rattle.std.proofs.Common.{List, [], ◌∷◌, ◌++◌, refl, ap, ◌∙◌, arith}
 use Rattle.std.proofs.lemmas.Result.{err_from_is_err_and}
 use Rattle.transit_ipc.specs.declared.port.Port.{Port}
-use Rattle.transit_ipc.proofs.Making.{made_port, no_memory, refused_port}
+use Rattle.transit_ipc.proofs.Commands.PortMade.{made_port, no_memory, refused_port}
 use Rattle.transit_ipc.proofs.table.Ports.make_port.Goals as goal
 
 pub returns-then-made : goal.returns-then-made

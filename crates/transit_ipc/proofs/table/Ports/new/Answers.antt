@@ -1,8 +1,8 @@
 use Rattle.std.proofs.Common.{[], ◌∙◌}
 use Rattle.interface_callers.proofs.Words.{Machine, segments_of}
 use Rattle.transit_ipc.specs.Seen.{ports_seen}
-use Rattle.transit_ipc.proofs.Beginning.{able_bare}
-use Rattle.transit_ipc.proofs.Making.{all_seen}
+use Rattle.transit_ipc.proofs.Ties.EmptyStart.{able_bare}
+use Rattle.transit_ipc.proofs.Commands.PortMade.{all_seen}
 use Rattle.transit_ipc.proofs.table.Ports.new.Goals as goal
 
 pub returns-clause-begins : goal.returns-clause-begins

@@ -5,8 +5,8 @@ use Rattle.vm_ids.specs.declared.reply.Trouble.TheVariants.{Refused}
 use Rattle.interface_callers.proofs.Words.{Fits, MapperCall, done_by, meanings_of}
 use Rattle.transit_ipc.specs.Tying.{AreApart}
 use Rattle.transit_ipc.specs.declared.table.Ports.{Ports}
-use Rattle.transit_ipc.proofs.Received.{moved_few, moved_fits, receive_done, receive_empty, receive_failed, receive_nobody, some_pages}
-use Rattle.transit_ipc.proofs.Sent.{found_at}
+use Rattle.transit_ipc.proofs.Commands.Receive.{moved_few, moved_fits, receive_done, receive_empty, receive_failed, receive_nobody, some_pages}
+use Rattle.transit_ipc.proofs.Commands.Send.{found_at}
 use Rattle.transit_ipc.proofs.table.Ports.receive.Goals as goal
 
 pub returns-in_err-place : goal.returns-in_err-place

@@ -7,8 +7,8 @@ use Rattle.interface_callers.proofs.Words.{done_by}
 use Rattle.transit_ipc.specs.declared.port.Message.{Message}
 use Rattle.transit_ipc.specs.declared.port.Port.{Port}
 use Rattle.transit_ipc.specs.declared.table.Ports.{Ports}
-use Rattle.transit_ipc.proofs.Marking.{table_sent}
-use Rattle.transit_ipc.proofs.Sent.{failed_few, failed_fits, fits_still, found_at, has_place, has_room, made_few, send_done, send_failed, send_full, send_lacks, send_nobody}
+use Rattle.transit_ipc.proofs.Seeing.MarkTable.{table_sent}
+use Rattle.transit_ipc.proofs.Commands.Send.{failed_few, failed_fits, fits_still, found_at, has_place, has_room, made_few, send_done, send_failed, send_full, send_lacks, send_nobody}
 use Rattle.transit_ipc.proofs.table.Ports.send.Goals as goal
 
 pub returns-in_err-place : goal.returns-in_err-place

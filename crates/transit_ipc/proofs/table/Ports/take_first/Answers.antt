@@ -3,8 +3,8 @@ use Rattle.std.specs.VecDeque.{deque_capacity}
 use Rattle.std.proofs.lemmas.Option.{get_or_from_slice_get}
 use Rattle.transit_ipc.specs.declared.port.Message.{Message}
 use Rattle.transit_ipc.specs.declared.port.Port.{Port}
-use Rattle.transit_ipc.proofs.Marking.{first_within, table_same, table_taken}
-use Rattle.transit_ipc.proofs.Sent.{found_at}
+use Rattle.transit_ipc.proofs.Seeing.MarkTable.{first_within, table_same, table_taken}
+use Rattle.transit_ipc.proofs.Commands.Send.{found_at}
 use Rattle.transit_ipc.proofs.table.Ports.take_first.Goals as goal
 
 pub index_mut-requires-in-Some : goal.index_mut-requires-in-Some

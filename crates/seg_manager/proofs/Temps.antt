@@ -1,0 +1,4 @@
+-- A temporary cache is made.
+pub mod TempSeen
+pub mod TempLeaves
+pub mod TempCall
