@@ -17,6 +17,10 @@ use Rattle.gmi_calls.proofs.Called.{no_pull}
 use Rattle.flat_mm.specs.Alone.{AsksAlone, FlatCall}
 use Rattle.flat_mm.specs.Manager.{Manager, flat}
 
+-- where no page comes or goes, none is pulled
+pub none_pulled : {X : Type 0} (M : GhostsOfMapper X) (before : X) (p : Manager) (command : Command) (a : Answer) (after : X) (q : Manager) → FlatCall M NoPages before p command a after q → AccessCall M flat NoPull before p command a after q
+none_pulled M before p command a after q E = no_pull M flat before p command a after q E
+
 -- a command that is a call in which no page comes or goes
 pub asks_alone : {X : Type 0} (M : GhostsOfMapper X) (before : X) (p : Manager) (command named : Command) (a : Answer) (after : X) (q : Manager) → command ≡ named → ((rises : MapperCounts) → NoPages rises → AsksAlone named rises) → FlatCall M NoPages before p named a after q
     → FlatCall M (AsksAlone command) before p command a after q
