@@ -73,6 +73,19 @@ pub(crate) enum Run {
     Other,
 }
 
+// Whether a call of one of two mappers answers what it has to.
+fn holds_of(one: &mut FileMapper<'_>, other: &mut FileMapper<'_>, run: Run, step: &Step) -> bool
+    requires one { one.old.page_bytes ≡ 512 }
+    requires other { other.old.page_bytes ≡ 512 }
+    ensures one { one.new.page_bytes ≡ one.old.page_bytes }
+    ensures other { other.new.page_bytes ≡ other.old.page_bytes }
+{
+    match run {
+        Run::One => step.holds(one),
+        Run::Other => step.holds(other),
+    }
+}
+
 // Whether each of these calls of two mappers answers what it has to.
 pub(crate) fn all_hold(
     one: &mut FileMapper<'_>,
@@ -85,11 +98,7 @@ pub(crate) fn all_hold(
     ensures other { other.new.page_bytes ≡ other.old.page_bytes }
 {
     for (run, step) in steps {
-        let holds = match run {
-            Run::One => step.holds(one),
-            Run::Other => step.holds(other),
-        };
-        if !holds {
+        if !holds_of(one, other, *run, step) {
             return false;
         }
     }
