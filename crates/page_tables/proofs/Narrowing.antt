@@ -1,17 +1,17 @@
 -- Entries become read-only where they lead to frames that are picked.
-use Rattle.std.proofs.Common.{◌≡◌, ◌≢◌, ℕ, ◌+◌, ◌*◌, ◌<◌, ◌≤◌, ◌^◌, ◌==◌, ◌&&◌, ◌||◌, Bool, true, false, not, cond, List, [], ◌∷◌, suc, length, get_or, set, map, replicate, Option, Some, None, refl, sym, ap, ◌∙◌, subst, arith, inl, inr, ◌⊎◌, length-set, lt-ltb}
-use Rattle.std.specs.Prelude.{count_by, nat_lt, if◌then◌else◌}
+use Rattle.std.proofs.Common.{◌≡◌, ◌≢◌, ℕ, ◌+◌, ◌*◌, ◌<◌, ◌≤◌, ◌^◌, ◌==◌, ◌&&◌, ◌||◌, Bool, true, false, not, cond, List, [], ◌∷◌, suc, length, set, map, replicate, Option, Some, None, refl, sym, ap, ◌∙◌, subst, arith, inl, inr, ◌⊎◌, length-set, lt-ltb}
+use Rattle.std.specs.Prelude.{count_by, nat_lt}
 use Rattle.std.proofs.lemmas.Bool.{and_from, cases_eq, cases_Bool, cond-false, cond-true}
 use Rattle.std.proofs.lemmas.Bool.Decides.{nat_tests}
 use Rattle.std.proofs.lemmas.List.{ext_get_or, get_or-set_other, get_or-set_same, length-map, length-replicate, map-set, set-set}
 use Rattle.vm_ids.proofs.Places.{count_cons, count_some, other_number, same_all, same_number, true_below}
 use Rattle.page_tables.specs.Entries.{frame_row, is_for, is_in_frame, leads_to, read_only}
-use Rattle.page_tables.specs.FrameSets.{count_in, has}
+use Rattle.page_tables.specs.FrameSets.{has}
 use Rattle.page_tables.specs.Indexes.{listed_at, place_hash, place_list, place_row, IsIndexed}
 use Rattle.page_tables.specs.Membership.{list_of, Membership}
 use Rattle.page_tables.specs.Rows.{IsInRows}
 use Rattle.page_tables.specs.Translations.{entry_at, holds, is_written, narrowed, narrowed_in, read_only_at, Narrows}
-use Rattle.page_tables.specs.Writing.{is_used, IsKept, IsWriting}
+use Rattle.page_tables.specs.Writing.{is_used, IsKept}
 use Rattle.page_tables.specs.declared.entry.Entry.{Entry}
 use Rattle.page_tables.proofs.Dropping.{no_more, none_writable}
 use Rattle.page_tables.proofs.EntryPlaces.{held_below, on_list}
@@ -146,9 +146,10 @@ asking_picks old now new writing asked answer f is h e is_so = record {
       (was.0, other g apart ∙ was.1, was.2));
   done = λ g w none. elim (cases_eq g f) [
     | inl same ↦ (
-        let it : (is.frames g || (g == f)) ≡ true = ap (λ (b : Bool). is.frames g || b) (ap (λ (n : ℕ). n == f) same ∙ same_number f) ∙ or_true (is.frames g) in
-        (subst (λ (b : Bool). answer g b) (sym it) (subst (λ (n : ℕ). answer n true) (sym same) is_so),
-          ap (has asked) same ∙ (is.left f h).2 ∙ sym (ap not it)))
+        let it : (is.frames g || (g == f)) ≡ true = ap (λ (b : Bool). is.frames g || b) (ap (λ (n : ℕ). n == f) same ∙ same_number f) ∙ or_true (is.frames g) in (
+          subst (λ (b : Bool). answer g b) (sym it) (subst (λ (n : ℕ). answer n true) (sym same) is_so),
+          ap (has asked) same ∙ (is.left f h).2 ∙ sym (ap not it),
+        ))
     | inr apart ↦ (
         let it : is.frames g ≡ (is.frames g || (g == f)) = sym (other g apart) in
         let was = is.done g w (sym (get_or-set_other writing f g false false apart) ∙ none) in
@@ -174,9 +175,10 @@ asking_leaves old now writing asked answer f is h below not_so = record {
       (was.0, was.1, get_or-set_other asked f g true false apart ∙ was.2));
   done = λ g w none. elim (cases_eq g f) [
     | inl same ↦ (
-        let it : is.frames g ≡ false = ap is.frames same ∙ (is.left f h).1 in
-        (subst (λ (b : Bool). answer g b) (sym it) (subst (λ (n : ℕ). answer n false) (sym same) not_so),
-          ap (has (set asked f true)) same ∙ get_or-set_same asked f true false below ∙ sym (ap not it)))
+        let it : is.frames g ≡ false = ap is.frames same ∙ (is.left f h).1 in (
+          subst (λ (b : Bool). answer g b) (sym it) (subst (λ (n : ℕ). answer n false) (sym same) not_so),
+          ap (has (set asked f true)) same ∙ get_or-set_same asked f true false below ∙ sym (ap not it),
+        ))
     | inr other ↦ (
         let was = is.done g w (sym (get_or-set_other writing f g false false other) ∙ none) in
         (was.0, get_or-set_other asked f g true false other ∙ was.1))

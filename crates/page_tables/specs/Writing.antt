@@ -1,9 +1,8 @@
 -- The frames to which an entry for writing leads.
-use Rattle.std.specs.Prelude.{◌≡◌, ℕ, ◌+◌, ◌*◌, ◌^◌, ◌≤◌, Bool, true, false, List, length, map, replicate, Option, Some, None, count_by, nat_lt, if◌then◌else◌}
+use Rattle.std.specs.Prelude.{◌≡◌, ℕ, ◌+◌, ◌*◌, ◌^◌, ◌≤◌, Bool, true, false, List, length, replicate, Option, Some, None, count_by, nat_lt, if◌then◌else◌}
 use Rattle.vm_ids.specs.declared.numbers.FrameId.{FrameId}
 use Rattle.page_tables.specs.Entries.{frame_row}
 use Rattle.page_tables.specs.FrameSets.{has}
-use Rattle.page_tables.specs.Indexes.{listed_at}
 use Rattle.page_tables.specs.Membership.{is_on, Membership}
 use Rattle.page_tables.specs.declared.entry.Entry.{Entry}
 

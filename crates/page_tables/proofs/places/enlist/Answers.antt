@@ -1,4 +1,4 @@
-use Rattle.std.proofs.Common.{◌≡◌, ◌<◌, ℕ, Bool, true, List, length, set, Some, None, sym, ap, ◌∙◌, subst, arith}
+use Rattle.std.proofs.Common.{ℕ, Bool, List, length, set, Some, sym, ap, ◌∙◌, subst, arith}
 use Rattle.page_tables.specs.Indexes.{listed_at}
 use Rattle.page_tables.specs.Membership.{Membership}
 use Rattle.page_tables.specs.Writing.{IsWriting}
@@ -26,4 +26,4 @@ returns-in-Some-clause-writing c =
     subst (λ (m : Membership). IsWriting m c.insert.new.self) (sym (c.add.ensures ∙ ap (λ (k : ℕ). let m : Membership = record { lists = l.lists; on = set l.on c.args.place (Some k) } in m) c.place_list.ensures))
     (subst (λ (s : List Bool). IsWriting (record { lists = l.lists; on = set l.on c.args.place (listed_at c.args.entry) }) s) (sym c.insert.ensures)
     (enlisted_with l c.args.writing.now c.args.place c.args.entry c.in-Some.frame c.requires.writing c.requires.below c.requires.loose (sym c.in-Some.ensures)
-      (written_known c.args.entry c.in-Some.frame (length c.args.writing.now) (sym c.in-Some.ensures) c.requires.frame)))
+    (written_known c.args.entry c.in-Some.frame (length c.args.writing.now) (sym c.in-Some.ensures) c.requires.frame)))

@@ -1,4 +1,4 @@
-use Rattle.std.proofs.Common.{◌≡◌, ◌<◌, ℕ, Bool, true, false, List, length, set, refl, sym, ap, ◌∙◌, subst, arith, length-set}
+use Rattle.std.proofs.Common.{◌<◌, ℕ, Bool, true, false, List, length, set, refl, sym, ap, ◌∙◌, subst, arith, length-set}
 use Rattle.std.proofs.lemmas.List.{length-replicate}
 use Rattle.vm_ids.proofs.Places.{true_below}
 use Rattle.page_tables.specs.FrameSets.{count_in}

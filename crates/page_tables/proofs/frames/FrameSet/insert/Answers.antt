@@ -33,10 +33,11 @@ invariant_of-self c =
     let f : ℕ = c.args.frame.0 in
     let h = below places c.args.self.now f c.self.view_is c.requires in
     let none : place_in places f ≡ None = read_as places f c.index.result.now None h c.index.ensures ∙ nowhere c.index.result.now (c.is_none.ensures ∙ ap not c.if-is_none.true) in
-    let size : length frames ≡ c.len.result = omega (arith, c.len.ensures, c.self.inside.frames.ok.0) in
-    (subst (λ (xs : List ℕ). IsFrameSet xs (set places f (Some c.len.result))) (sym c.push_reserved.ensures.items)
-      (subst (λ (n : ℕ). IsFrameSet (frames ++ f ∷ []) (set places f (Some n))) size (put_in frames places f c.self.invariant.0 h none)),
-    omega (arith, c.self.invariant.1, c.push_reserved.ensures.capacity, length-set places f (Some c.len.result)))
+    let size : length frames ≡ c.len.result = omega (arith, c.len.ensures, c.self.inside.frames.ok.0) in (
+      subst (λ (xs : List ℕ). IsFrameSet xs (set places f (Some c.len.result))) (sym c.push_reserved.ensures.items)
+          (subst (λ (n : ℕ). IsFrameSet (frames ++ f ∷ []) (set places f (Some n))) size (put_in frames places f c.self.invariant.0 h none)),
+      omega (arith, c.self.invariant.1, c.push_reserved.ensures.capacity, length-set places f (Some c.len.result)),
+    )
 
 pub returns-then-is_none : goal.returns-then-is_none
 returns-then-is_none c = seen_in c.self.inside.places.items c.args.frame.0 c.len.result ∙ ap (λ (s : List Bool). set s c.args.frame.0 true) c.self.view_is

@@ -1,4 +1,4 @@
-use Rattle.std.proofs.Common.{◌≡◌, ◌≢◌, ◌<◌, ◌≤◌, ◌+◌, ◌-◌, ℕ, Bool, false, List, length, get_or, set, Option, Some, None, sym, ap, ◌∙◌, arith, length-set}
+use Rattle.std.proofs.Common.{◌≡◌, ◌<◌, ◌-◌, ℕ, Bool, false, List, length, get_or, set, Option, Some, None, sym, ap, ◌∙◌, arith, length-set}
 use Rattle.page_tables.specs.FrameSets.{place_in, IsFrameSet}
 use Rattle.page_tables.proofs.FrameSets.{known, read_last, read_place, seen_out, taken_out}
 use Rattle.page_tables.proofs.frames.FrameSet.remove.Goals as goal
@@ -34,12 +34,13 @@ invariant_of-self c =
     let some : p < length frames = (is.there f p stood).0 in
     let size : c.len.result ≡ length frames = omega (arith, c.len.ensures, c.self.inside.frames.ok.0) in
     let is_last = read_last frames last c.len.result size (omega (arith, some, size)) c.index-last.ensures in
-    let by = c.swap_remove-frame.ensures.by_index in
-    (taken_out frames new places f p last is stood is_last
-      (omega (arith, c.swap_remove-frame.ensures.len, c.self.inside.frames.ok.0, c.swap_remove-frame.new.self.ok.0))
-      (λ more. by.0 0 (omega (arith, more, c.self.inside.frames.ok.0)) ∙ ap (λ (k : ℕ). get_or frames (k - 1) 0) c.self.inside.frames.ok.0 ∙ sym is_last)
-      (λ k other within. by.1 k 0 other (omega (arith, within, c.self.inside.frames.ok.0))),
-    omega (arith, c.self.invariant.1, c.swap_remove-frame.ensures.capacity, length-set (set places last (Some p)) f None, length-set places last (Some p)))
+    let by = c.swap_remove-frame.ensures.by_index in (
+      taken_out frames new places f p last is stood is_last
+          (omega (arith, c.swap_remove-frame.ensures.len, c.self.inside.frames.ok.0, c.swap_remove-frame.new.self.ok.0))
+          (λ more. by.0 0 (omega (arith, more, c.self.inside.frames.ok.0)) ∙ ap (λ (k : ℕ). get_or frames (k - 1) 0) c.self.inside.frames.ok.0 ∙ sym is_last)
+          (λ k other within. by.1 k 0 other (omega (arith, within, c.self.inside.frames.ok.0))),
+      omega (arith, c.self.invariant.1, c.swap_remove-frame.ensures.capacity, length-set (set places last (Some p)) f None, length-set places last (Some p)),
+    )
 
 pub returns : goal.returns
 returns c =

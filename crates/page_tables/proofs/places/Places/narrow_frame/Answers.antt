@@ -1,4 +1,4 @@
-use Rattle.std.proofs.Common.{◌≡◌, ◌<◌, ◌==◌, ℕ, Bool, true, false, List, Option, length, map, sym, ap, ◌∙◌, subst, arith}
+use Rattle.std.proofs.Common.{◌≡◌, ◌==◌, ℕ, Bool, true, false, List, Option, map, sym, ap, ◌∙◌, subst, arith}
 use Rattle.vm_ids.proofs.Places.{true_below}
 use Rattle.page_tables.specs.Entries.{frame_row}
 use Rattle.page_tables.specs.FrameSets.{has}
@@ -21,10 +21,11 @@ invariant_of-self c =
     let p = c.self.inside in
     let f : ℕ = c.args.frame.0 in
     let has_it : has p.writing f ≡ true = sym c.contains.ensures ∙ c.if-contains.true in
-    let n = c.narrow.ensures in
-    (narrowed_indexed p.entries c.narrow.new.entries p.index p.by_frame c.narrow.new.by_frame (λ other. other == f) c.self.invariant.0 n.narrowed n.on n.lists,
-    subst (λ (s : List Bool). IsKept c.narrow.new.entries c.narrow.new.by_frame s p.asked) (sym c.remove.ensures)
-    (narrowed_kept p.entries c.narrow.new.entries p.by_frame c.narrow.new.by_frame p.writing p.asked f c.self.invariant.1 c.self.invariant.0.on_lists n.narrowed n.on n.lists has_it))
+    let n = c.narrow.ensures in (
+      narrowed_indexed p.entries c.narrow.new.entries p.index p.by_frame c.narrow.new.by_frame (λ other. other == f) c.self.invariant.0 n.narrowed n.on n.lists,
+      subst (λ (s : List Bool). IsKept c.narrow.new.entries c.narrow.new.by_frame s p.asked) (sym c.remove.ensures)
+          (narrowed_kept p.entries c.narrow.new.entries p.by_frame c.narrow.new.by_frame p.writing p.asked f c.self.invariant.1 c.self.invariant.0.on_lists n.narrowed n.on n.lists has_it),
+    )
 
 pub returns-else-contains : goal.returns-else-contains
 returns-else-contains c =

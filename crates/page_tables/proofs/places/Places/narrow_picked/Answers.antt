@@ -1,4 +1,4 @@
-use Rattle.std.proofs.Common.{◌≡◌, ◌≤◌, ◌+◌, ◌*◌, ℕ, Bool, List, Option, length, sym, ap, ◌∙◌, subst, arith}
+use Rattle.std.proofs.Common.{ℕ, Bool, List, Option, length, sym, ap, subst, arith}
 use Rattle.page_tables.specs.Translations.{Narrows}
 use Rattle.page_tables.specs.Writing.{IsKept}
 use Rattle.page_tables.specs.declared.entry.Entry.{Entry}
@@ -16,10 +16,11 @@ pub invariant_of-self : goal.invariant_of-self
 invariant_of-self g c =
     let p = c.self.inside in
     let n = c.narrow_picked.ensures in
-    let new = c.narrow_picked.new in
-    (narrowed_indexed p.entries new.entries p.index p.by_frame new.by_frame n.narrowed.frames c.self.invariant.0 n.narrowed.tables n.on n.lists,
-    subst (λ (s : List Bool). IsKept new.entries new.by_frame s c.swap.new.y) (sym c.swap.ensures.x_after)
-    (subst (λ (s : List Bool). IsKept new.entries new.by_frame new.asked s) (sym c.swap.ensures.y_after) n.kept))
+    let new = c.narrow_picked.new in (
+      narrowed_indexed p.entries new.entries p.index p.by_frame new.by_frame n.narrowed.frames c.self.invariant.0 n.narrowed.tables n.on n.lists,
+      subst (λ (s : List Bool). IsKept new.entries new.by_frame s c.swap.new.y) (sym c.swap.ensures.x_after)
+          (subst (λ (s : List Bool). IsKept new.entries new.by_frame new.asked s) (sym c.swap.ensures.y_after) n.kept),
+    )
 
 pub returns : goal.returns
 returns g c =

@@ -1,4 +1,4 @@
-use Rattle.std.proofs.Common.{◌≡◌, ◌<◌, ◌*◌, ℕ, Bool, false, List, Option, Some, None, length, set, replicate, subst, sym, ap, ◌∙◌, arith, length-set}
+use Rattle.std.proofs.Common.{◌≡◌, ◌<◌, ◌*◌, ℕ, false, List, Option, None, length, set, replicate, subst, sym, ap, ◌∙◌, arith, length-set}
 use Rattle.std.specs.Prelude.{IfSome}
 use Rattle.std.proofs.lemmas.List.{get_or-set_same, length-map}
 use Rattle.page_tables.specs.Indexes.{listed_at}
@@ -32,10 +32,11 @@ pub invariant_of-self : goal.invariant_of-self
 invariant_of-self c =
     let P : List (Option Entry) → Type 0 = λ xs. (c.args.place < length xs) × IfSome c.args.entry (λ e. entries_for (set xs c.args.place None) e.actor.0 e.page ≡ 0) in
     let now : P c.self.inside.entries = subst P (sym c.self.view_is) (c.requires.below, c.requires.alone) in
-    let same : length c.enlist.new.writing ≡ length c.self.inside.writing = c.enlist.ensures.frames ∙ c.delist.ensures.frames in
-    (rw (c.put.ensures, c.enlist.ensures.lists, c.delist.ensures.lists, c.reindex.ensures, c.unindex.ensures) (put_indexed c.self.inside.entries c.self.inside.index c.self.inside.by_frame c.args.place c.args.entry c.self.invariant.0 now.0 now.1),
+    let same : length c.enlist.new.writing ≡ length c.self.inside.writing = c.enlist.ensures.frames ∙ c.delist.ensures.frames in (
+      rw (c.put.ensures, c.enlist.ensures.lists, c.delist.ensures.lists, c.reindex.ensures, c.unindex.ensures) (put_indexed c.self.inside.entries c.self.inside.index c.self.inside.by_frame c.args.place c.args.entry c.self.invariant.0 now.0 now.1),
       record {
         sizes = omega (arith, c.self.invariant.1.sizes, same, ap (λ (xs : List (Option Entry)). length xs) c.put.ensures, length-set c.self.inside.entries c.args.place c.args.entry);
         exact = c.enlist.ensures.writing;
         none_asked = c.self.invariant.1.none_asked ∙ ap (λ (n : ℕ). replicate n false) (sym same);
-      })
+      },
+    )
