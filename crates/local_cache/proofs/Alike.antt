@@ -11,11 +11,10 @@ use Rattle.vm_ids.specs.declared.numbers.NodeId.{NodeId}
 use Rattle.local_cache.specs.Arena.{Cell}
 use Rattle.local_cache.specs.GoingOn.{run_goes_on}
 use Rattle.local_cache.specs.ManyNodes.{next_if}
-use Rattle.local_cache.specs.NodeCells.{Cells, is_page, run_cell}
-use Rattle.local_cache.specs.NodeTable.{AreSaidAlike, AreSaidBy, HasNumber, IsSayable, IsStandingAs, Table}
+use Rattle.local_cache.specs.NodeCells.{Cells, run_cell}
+use Rattle.local_cache.specs.LinkTable.{AreSaidAlike, HasNumber, IsSayable}
 use Rattle.local_cache.specs.PageNodes.{name_behind}
 use Rattle.local_cache.specs.Runs.{run, run_after}
-use Rattle.local_cache.specs.declared.runs.run.PlainState.TheVariants.{Absent}
 use Rattle.local_cache.specs.declared.runs.run.Run.{Run}
 use Rattle.local_cache.specs.declared.runs.run.RunName.TheVariants.{Working}
 
@@ -32,7 +31,7 @@ told_at m n k r begins tells less =
     ∙ ap (λ (j : ℕ). Some (run_cell (run_after r.value j))) far
 
 abbrev some_run : Run
-some_run = record { name = Working 0; own = Absent; parent = None; older = None; newer = None }
+some_run = record { name = Working 0; parent = None; older = None; newer = None }
 
 pub alike_none : (m : Cells) (n : ℕ) → AreSaidAlike m n 0
 alike_none m n = record {
@@ -74,15 +73,6 @@ alike_run m n k r begins tells few parent older newer = record {
   newer = λ j some less. number_below r.value.newer j k less newer;
 }
 
--- a node that stands alone as a run says
-pub standing : (t : Table) (n : ℕ) (c : Cell) (o : Option Run) → map.get t.cells n ≡ Some c → IsSome (map.get t.slots n) → IfSome o (λ r. run_cell r ≡ c) → IfSome o (λ r. is_page c.name ≡ true) → IfSome o (IsStandingAs t n)
-standing t n c None is alone says page = tt
-standing t n c (Some r) is alone says page = record {
-  said = is ∙ ap Some (sym says);
-  page = ap (λ (d : Cell). is_page d.name) says ∙ page;
-  alone = alone;
-}
-
 -- Members of a row
 
 pub name_here : (x : NodeName) → name_behind x 0 ≡ x
@@ -96,13 +86,3 @@ node_here (Some n) = (let e : n.0 + 0 ≡ n.0 = omega arith in λ i. Some (recor
 some_mapped : {A B : Type 0} (v : A → B) (o : Option A) → is_some (option_map v o) ≡ is_some o
 some_mapped v None = refl
 some_mapped v (Some x) = refl
-
--- one more node that stands alone
-pub said_first : (t : Table) (n : ℕ) (r : Run) → IsStandingAs t n r → AreSaidBy t n r 1
-said_first t n r one k less =
-    let zero_on : k ≡ 0 = omega (arith, less) in
-    let here : n ≡ n + k = omega (arith, less) in
-    let P : Run → Type 0 = λ x. IsStandingAs t n x in
-    let Q : ℕ → Type 0 = λ j. IsStandingAs t n (run_after r j) in
-    let R : ℕ → Type 0 = λ q. IsStandingAs t q (run_after r k) in
-    subst R here (subst Q (sym zero_on) (subst P (sym (run_goes_on.starts r)) one))

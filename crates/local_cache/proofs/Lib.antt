@@ -26,6 +26,8 @@ pub mod ManyNodes
 pub mod ArenaBy
 -- What is done so many times.
 pub mod Each
+-- Names and links joined with own states.
+pub mod Joined
 -- The thin nodes.
 pub mod Thinness
 -- Maps from numbers.

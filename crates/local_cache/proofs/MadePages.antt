@@ -13,7 +13,7 @@ use Rattle.mixed_map.proofs.Telling.{get_with}
 use Rattle.vm_ids.specs.declared.node_name.NodeName.TheVariants.{Live}
 use Rattle.vm_ids.specs.declared.numbers.CacheId.{CacheId}
 use Rattle.local_cache.specs.Arena.{Cell, new_cell}
-use Rattle.local_cache.specs.NodeCells.{Cells, run_cell}
+use Rattle.local_cache.specs.NodeCells.{Cells, bare_cell, owning, run_cell}
 use Rattle.local_cache.specs.NodeKeys.{key_at, page_key, page_number, working_number}
 use Rattle.local_cache.specs.NodeRuns.{AreNumbered}
 use Rattle.local_cache.specs.PageNodes.{ArePaged, PageNodes, made_first, with_new}
@@ -26,22 +26,26 @@ use Rattle.local_cache.proofs.PageRanges.{node_told, pages_of, pages_told}
 use Rattle.local_cache.proofs.PagesKept.{same_node}
 use Rattle.local_cache.proofs.RunAfter.{cell_after, run_cell_after}
 
-module _ (cache : CacheId) (s : OwnState) (r : Run) (is : run_cell r ≡ new_cell (Live cache (record { 0 = 0 })) s) where
+module _ (cache : CacheId) (s : OwnState) (r : Run) (is : run_cell r ≡ bare_cell (Live cache (record { 0 = 0 }))) where
+  -- what a run says, with the own state of all
+  abbrev pub told : Run → Cell
+  told v = owning s (run_cell v)
+
   abbrev base : ℕ
   base = page_number cache.0 0
 
   -- what the run says of each page's node
-  pub page_cell : (k : ℕ) → run_cell (run_after r k) ≡ new_cell (Live cache (record { 0 = k })) s
+  pub page_cell : (k : ℕ) → told (run_after r k) ≡ new_cell (Live cache (record { 0 = k })) s
   page_cell k =
       let e : 0 + k ≡ k = omega arith in
-      run_cell_after r k ∙ ap (λ (c : Cell). cell_after c k) is ∙ (λ i. new_cell (Live cache (record { 0 = e i })) s)
+      ap (owning s) (run_cell_after r k ∙ ap (λ (c : Cell). cell_after c k) is) ∙ (λ i. new_cell (Live cache (record { 0 = e i })) s)
 
   abbrev nodes : ℕ → Stretch Run
   nodes count = record { first = base; count = count; value = r }
 
   module _ (m : PageNodes) (whole : ℕ) where
     pub made_first_is : (count : ℕ) → made_first m cache s count ≡ record m {
-      cells = with_first run run_cell m.cells (nodes whole) count;
+      cells = with_first run told m.cells (nodes whole) count;
       pages = pages_from m.pages base (record { 0 = base }) count;
       room = m.room - count;
     }
@@ -52,7 +56,7 @@ module _ (cache : CacheId) (s : OwnState) (r : Run) (is : run_cell r ≡ new_cel
         let room : m.room - k - 1 ≡ m.room - suc k = omega arith in
         ap (λ (p : PageNodes). with_new p (record { 0 = page_number cache.0 k }) (Live cache (record { 0 = k })) s) (made_first_is k)
         ∙ (λ i. record m {
-          cells = map.insert (with_first run run_cell m.cells (nodes whole) k) (at i) (sym (page_cell k) i);
+          cells = map.insert (with_first run told m.cells (nodes whole) k) (at i) (sym (page_cell k) i);
           pages = map.insert (pages_from m.pages base (record { 0 = base }) k) (page i) (record { 0 = page i });
           room = room i;
         })
@@ -62,15 +66,15 @@ module _ (cache : CacheId) (s : OwnState) (r : Run) (is : run_cell r ≡ new_cel
       (vacant : (n : ℕ) → is_in (nodes count) n ≡ true → map.get cells n ≡ None)
       (free : (q : ℕ) → is_in (nodes count) q ≡ true → map.get pages q ≡ None) where
     abbrev come : Cells
-    come = with_stretch run run_cell cells (nodes count)
+    come = with_stretch run told cells (nodes count)
 
     page_of_node : (n : ℕ) → is_in (nodes count) n ≡ true → key_at page_key come n ≡ Some n
     page_of_node n h =
         let at : page_number cache.0 (n - base) ≡ n = omega (arith, low (nodes count) n h) in
-        ap (option_and_then page_key) (get_with run run_cell cells (nodes count) n ∙ cond-true _ _ _ h ∙ ap Some (page_cell (n - base))) ∙ ap Some at
+        ap (option_and_then page_key) (get_with run told cells (nodes count) n ∙ cond-true _ _ _ h ∙ ap Some (page_cell (n - base))) ∙ ap Some at
 
     other_node : (n : ℕ) → is_in (nodes count) n ≡ false → key_at page_key come n ≡ key_at page_key cells n
-    other_node n h = ap (option_and_then page_key) (get_with run run_cell cells (nodes count) n ∙ cond-false _ _ _ h)
+    other_node n h = ap (option_and_then page_key) (get_with run told cells (nodes count) n ∙ cond-false _ _ _ h)
 
     abbrev entered : Pages
     entered = pages_from pages base (record { 0 = base }) count
@@ -113,22 +117,22 @@ module _ (cache : CacheId) (s : OwnState) (r : Run) (is : run_cell r ≡ new_cel
   -- their numbers are those of pages, and they have no working numbers
   module _ (cells : Cells) (count : ℕ) (c : Counters) (numbered : AreNumbered cells c) (below : cache.0 < 2 ^ 29) (few : count < 2 ^ 32) where
     abbrev more : Cells
-    more = with_stretch run run_cell cells (nodes count)
+    more = with_stretch run told cells (nodes count)
 
     no_working : (n k : ℕ) → is_in (nodes count) n ≡ true → key_at working_number more n ≡ Some k → ⊥
-    no_working n k h e = none-some k (sym (ap (option_and_then working_number) (get_with run run_cell cells (nodes count) n ∙ cond-true _ _ _ h ∙ ap Some (page_cell (n - base)))) ∙ e)
+    no_working n k h e = none-some k (sym (ap (option_and_then working_number) (get_with run told cells (nodes count) n ∙ cond-true _ _ _ h ∙ ap Some (page_cell (n - base)))) ∙ e)
 
     was_working : (n k : ℕ) → key_at working_number more n ≡ Some k → key_at working_number cells n ≡ Some k
     was_working n k e = elim (cases_Bool (is_in (nodes count) n)) [
       | inl inside ↦ absurd (no_working n k inside e)
-      | inr out ↦ sym (ap (option_and_then working_number) (get_with run run_cell cells (nodes count) n ∙ cond-false _ _ _ out)) ∙ e
+      | inr out ↦ sym (ap (option_and_then working_number) (get_with run told cells (nodes count) n ∙ cond-false _ _ _ out)) ∙ e
     ]
 
     pub numbered_made : AreNumbered more c
     numbered_made = record {
       given = λ n h. elim (cases_Bool (is_in (nodes count) n)) [
         | inl inside ↦ inl (omega (arith, high (nodes count) n inside, below, few))
-        | inr out ↦ numbered.given n (sym (ap is_some (get_with run run_cell cells (nodes count) n ∙ cond-false _ _ _ out)) ∙ h)
+        | inr out ↦ numbered.given n (sym (ap is_some (get_with run told cells (nodes count) n ∙ cond-false _ _ _ out)) ∙ h)
       ];
       named = λ n k h. numbered.named n k (was_working n k h);
       apart = λ n o k h i. numbered.apart n o k (was_working n k h) (was_working o k i);

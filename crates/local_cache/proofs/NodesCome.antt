@@ -18,7 +18,7 @@ use Rattle.local_cache.specs.Arena.{Cell, new_cell}
 use Rattle.local_cache.specs.NodeCells.{Cells, HasCell, HaveCells, cell_at, changed, changed_each, named, run_cell}
 use Rattle.local_cache.specs.NodeKeys.{key_at, number_of_name, page_key, page_number, page_of_name, working_number}
 use Rattle.local_cache.specs.NodeRuns.{AreNumbered, IsGiven}
-use Rattle.local_cache.specs.NodeTable.{AreFreeNumbers, HasFreeNumber, HaveFreeNumbers}
+use Rattle.local_cache.specs.LinkTable.{AreFreeNumbers, HasFreeNumber, HaveFreeNumbers}
 use Rattle.local_cache.specs.PageNodes.{ArePaged}
 use Rattle.local_cache.specs.Pages.{Pages, pages_with, with_pages}
 use Rattle.local_cache.specs.Runs.{run, run_after}

@@ -14,7 +14,8 @@ use Rattle.local_cache.specs.Arena.{Cell, blank}
 use Rattle.local_cache.specs.NodeCells.{Cells, HasCell, HaveCells, cell_at, changed, changed_each, named, with_child}
 use Rattle.local_cache.specs.NodeKeys.{key_at, number_of_name, page_key, page_of_name, working_number}
 use Rattle.local_cache.specs.NodeRuns.{AreNodesRight, AreNumbered, IsGiven}
-use Rattle.local_cache.specs.NodeTable.{AreFreeNumbers, HasFreeNumber, Table}
+use Rattle.local_cache.specs.Joined.{Nodes}
+use Rattle.local_cache.specs.LinkTable.{AreFreeNumbers, HasFreeNumber}
 use Rattle.local_cache.specs.PageNodes.{ArePaged, HasNode, KeepsNames, PageNodes, cell, cut_from, on_cell}
 use Rattle.local_cache.specs.Pages.{Pages}
 use Rattle.local_cache.specs.declared.runs.counters.Counters.{Counters}
@@ -65,7 +66,7 @@ module _ (m new : Cells) (same : SameNames m new) where
     made = numbered.made;
   }
 
-pub same_right : (t u : Table) (p : PageTable) (c : Counters) (capacity : ℕ) → AreNodesRight t p c capacity → SameNames t.cells u.cells → map.len u.cells ≡ map.len t.cells → u.count ≡ t.count → u.room ≡ t.room → AreNodesRight u p c capacity
+pub same_right : (t u : Nodes) (p : PageTable) (c : Counters) (capacity : ℕ) → AreNodesRight t p c capacity → SameNames t.cells u.cells → map.len u.cells ≡ map.len t.cells → u.count ≡ t.count → u.room ≡ t.room → AreNodesRight u p c capacity
 same_right t u p c capacity right same len count room = record {
   paged = paged_same t.cells u.cells same p.nodes.cells right.paged;
   numbered = numbered_same t.cells u.cells same c right.numbered;
@@ -165,7 +166,7 @@ many_short m c numbered first (suc k) fits held = omega (arith, given_below m c 
 no_key : (key : Cell → Option ℕ) (cells : Cells) (n k : ℕ) → cells ≡ map.empty → key_at key cells n ≡ Some k → ⊥
 no_key key cells n k none e = none-some k (sym (ap (λ (m : Cells). option_and_then key (map.get m n)) none ∙ ap (option_and_then key) (get-empty nat_cmp n)) ∙ e)
 
-pub empty_right : (t : Table) (p : PageTable) (c : Counters) → t.cells ≡ map.empty → t.count ≡ 0 → p.nodes.cells ≡ map.empty → p.nodes.count ≡ 0
+pub empty_right : (t : Nodes) (p : PageTable) (c : Counters) → t.cells ≡ map.empty → t.count ≡ 0 → p.nodes.cells ≡ map.empty → p.nodes.count ≡ 0
     → c ≡ record { nodes = 0; live = 0; made = 0; fresh = 0; working = 0 } → AreNodesRight t p c 0
 empty_right t p c cells count pages pages_count is =
     let len : map.len t.cells ≡ 0 = ap map.len cells ∙ len-empty nat_cmp Cell in

@@ -6,11 +6,11 @@ use Rattle.vm_ids.specs.declared.node_name.NodeName.{NodeName}
 use Rattle.vm_ids.specs.declared.node_name.NodeName.TheVariants.{Live, Working as WorkingNode}
 use Rattle.vm_ids.specs.declared.numbers.NodeId.{NodeId}
 use Rattle.local_cache.specs.Arena.{Cell, no_links}
-use Rattle.local_cache.specs.NodeCells.{own_of_plain, tree_of}
-use Rattle.local_cache.specs.NodeTable.{IsSayable}
+use Rattle.local_cache.specs.NodeCells.{tree_of}
+use Rattle.local_cache.specs.LinkTable.{IsSayable}
 use Rattle.local_cache.specs.Packing.{cell_of, node_if, nodes_of}
 use Rattle.local_cache.specs.Runs.{first_name}
-use Rattle.local_cache.specs.declared.runs.run.PlainState.{PlainState}
+use Rattle.local_cache.specs.declared.own_state.OwnState.TheVariants.{Absent}
 use Rattle.local_cache.specs.declared.runs.run.RunName.{RunName}
 use Rattle.local_cache.specs.declared.runs.run.RunName.TheVariants.{Pages, Working}
 use Rattle.local_cache.specs.declared.runs.single.Single.TheInside.{Inside}
@@ -53,23 +53,21 @@ name_there (Live cache page) = refl
 name_there (WorkingNode k) = refl
 
 -- a run says a single that hangs by a tree link, and has neither stubs nor neighbours
-pub sayable : (s : Inside) (c : Cell) (plain : PlainState) → cell_of s ≡ c
-    → length s.children.items ≤ 2 → s.own ≡ own_of_plain plain
+pub sayable : (s : Inside) (c : Cell) → cell_of s ≡ c → length s.children.items ≤ 2
     → c.links ≡ record no_links { parent = c.links.parent } → IsSayable c
-sayable s c plain view few own links =
+sayable s c view few links =
     let P : Cell → Type 0 = λ d. d.links ≡ record no_links { parent = d.links.parent } in
     let here : P (cell_of s) = subst P (sym view) links in
     let tree = nodes_of s.children.items in (
       record {
         name = run_name s.name;
-        own = plain;
         parent = node_if s.has.parent s.parent;
         older = slice_get tree 0;
         newer = slice_get tree 1;
       },
       (λ i. record {
         name = name_there s.name i;
-        own = sym own i;
+        own = Absent;
         links = sym here i;
         tree = two_at_most tree (few_there s (cell_of s) refl few) i;
       }) ∙ view,

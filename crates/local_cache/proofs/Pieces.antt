@@ -12,7 +12,7 @@ use Rattle.mixed_map.proofs.Telling.{get_with}
 use Rattle.local_cache.specs.Arena.{Cell, blank}
 use Rattle.local_cache.specs.NodeCells.{Cells, cell_at, changed_each, run_cell}
 use Rattle.local_cache.specs.NodeKeys.{working_number}
-use Rattle.local_cache.specs.NodeTable.{AreFreeNumbers, HasFreeNumber, HaveFreeNumbers}
+use Rattle.local_cache.specs.LinkTable.{AreFreeNumbers, HasFreeNumber, HaveFreeNumbers}
 use Rattle.local_cache.specs.Runs.{run, run_after}
 use Rattle.local_cache.specs.declared.runs.run.Run.{Run}
 use Rattle.local_cache.proofs.Stretched.{each_before, each_behind, each_is, each_like, each_on}

@@ -6,9 +6,10 @@ use Rattle.std.proofs.lemmas.Bool.{cases_eq, cond-true, cond-false, eq-eqb, ne_e
 use Rattle.vm_ids.specs.declared.numbers.NodeId.{NodeId}
 use Rattle.local_cache.specs.Arena.{Cell, no_links}
 use Rattle.local_cache.specs.ManyNodes.{next_if}
-use Rattle.local_cache.specs.NodeCells.{exchanged, in_place, own_of_plain, run_cell, tree_of, with_child}
+use Rattle.local_cache.specs.NodeCells.{exchanged, in_place, run_cell, tree_of, with_child}
 use Rattle.local_cache.specs.PageNodes.{name_behind}
 use Rattle.local_cache.specs.Runs.{HasNames, first_name, further, further_if, name_after, run_after}
+use Rattle.local_cache.specs.declared.own_state.OwnState.TheVariants.{Absent}
 use Rattle.local_cache.specs.declared.runs.run.Run.{Run}
 use Rattle.local_cache.specs.declared.runs.run.RunName.{RunName}
 use Rattle.local_cache.specs.declared.runs.run.RunName.TheVariants.{Pages, Working}
@@ -52,7 +53,7 @@ tree_further (Some n) (Some m) k = refl
 pub run_cell_after : (r : Run) (k : ℕ) → run_cell (run_after r k) ≡ cell_after (run_cell r) k
 run_cell_after r k = λ i. record {
   name = name_behind_first r.name k i;
-  own = own_of_plain r.own;
+  own = Absent;
   links = record no_links { parent = further_if r.parent k };
   tree = tree_further r.older r.newer k i;
 }
@@ -126,7 +127,7 @@ exchange_said r gone instead o n e f k short numbers =
     let tree = tree_further o n k ∙ (λ i. list_map (λ m. further m k) (tree_of (e i) (f i))) ∙ tree_exchanged gone instead r.older r.newer k short numbers in
     λ i. record {
       name = first_name (name_after r.name k);
-      own = own_of_plain r.own;
+      own = Absent;
       links = record no_links { parent = further_if r.parent k };
       tree = tree i;
     }

@@ -14,13 +14,12 @@ use Rattle.stretches.proofs.Reading.Numbers.{high, low, within}
 use Rattle.mixed_map.specs.Mixed.{Tells, with_stretch, without_stretch}
 use Rattle.mixed_map.proofs.Maps.{insert_other, insert_removed, insert_same, remove_other, remove_same, same}
 use Rattle.mixed_map.proofs.Telling.{get_with, gone}
-use Rattle.local_cache.specs.declared.runs.run.PlainState.{PlainState}
 use Rattle.local_cache.specs.declared.runs.run.Run.{Run}
 use Rattle.local_cache.specs.declared.runs.run.RunName.{RunName}
 use Rattle.local_cache.specs.declared.runs.run.RunName.TheVariants.{Pages, Working}
 use Rattle.local_cache.specs.NodeCells.{Cells, run_cell}
 use Rattle.local_cache.specs.NodeKeys.{key_at}
-use Rattle.local_cache.specs.NodeTable.{AreThinKept, IsThin}
+use Rattle.local_cache.specs.LinkTable.{AreThinKept, IsThin}
 use Rattle.local_cache.specs.Runs.{run, run_after}
 use Rattle.local_cache.specs.Thin.{thin_number}
 use Rattle.local_cache.specs.ThinNodes.{Thin, changed_to, with_run, without_run}
@@ -108,18 +107,18 @@ module _ (cells new : Cells) (slots places : FinMap nat_cmp ℕ) (thin : Thin) (
 
 -- Nodes of a run
 
-thin_parts : (name : RunName) (own : PlainState) (parent older newer : Option NodeId) (by : ℕ)
-    → thin_number (run_cell (run_after (record { name = name; own = own; parent = parent; older = older; newer = newer }) by))
-    ≡ option_map (λ k. k + by) (thin_number (run_cell (record { name = name; own = own; parent = parent; older = older; newer = newer })))
-thin_parts (Pages cache page) own parent older newer by = refl
-thin_parts (Working k) own parent None None by = refl
-thin_parts (Working k) own parent None (Some n) by = refl
-thin_parts (Working k) own parent (Some n) None by = refl
-thin_parts (Working k) own parent (Some n) (Some m) by = refl
+thin_parts : (name : RunName) (parent older newer : Option NodeId) (by : ℕ)
+    → thin_number (run_cell (run_after (record { name = name; parent = parent; older = older; newer = newer }) by))
+    ≡ option_map (λ k. k + by) (thin_number (run_cell (record { name = name; parent = parent; older = older; newer = newer })))
+thin_parts (Pages cache page) parent older newer by = refl
+thin_parts (Working k) parent None None by = refl
+thin_parts (Working k) parent None (Some n) by = refl
+thin_parts (Working k) parent (Some n) None by = refl
+thin_parts (Working k) parent (Some n) (Some m) by = refl
 
 -- the nodes of a run are all thin, under numbers that follow one another, or none is
 pub run_thin : (r : Run) (by : ℕ) → thin_number (run_cell (run_after r by)) ≡ option_map (λ k. k + by) (thin_number (run_cell r))
-run_thin r by = thin_parts r.name r.own r.parent r.older r.newer by
+run_thin r by = thin_parts r.name r.parent r.older r.newer by
 
 pub told_thin : (cells : Cells) (r : Stretch Run) → Tells run run_cell cells r → (n : ℕ) → is_in r n ≡ true
     → key_at thin_number cells n ≡ option_map (λ k. k + (n - r.first)) (thin_number (run_cell r.value))

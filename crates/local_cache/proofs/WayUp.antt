@@ -4,18 +4,10 @@ use Rattle.std.specs.Prelude.{is_some, option_and_then, option_map, unwrap_or}
 use Rattle.std.proofs.lemmas.Bool.{cases_Bool, cond-true, cond-false, false≢true}
 use Rattle.std.proofs.lemmas.Option.{none-some, same_Some}
 use Rattle.std.specs.FinMap as map
-use Rattle.stretches.specs.Stretch.{is_in}
-use Rattle.stretches.specs.declared.stretch.Stretch.{Stretch}
-use Rattle.stretches.proofs.Reading.Numbers.{within}
-use Rattle.mixed_map.specs.Mixed.{IsStretchFrom, Tells}
 use Rattle.vm_ids.specs.declared.numbers.NodeId.{NodeId}
-use Rattle.local_cache.specs.Looking.{IsFurtherUp, IsOwner, up}
-use Rattle.local_cache.specs.Arena.{Cell, blank}
-use Rattle.local_cache.specs.GoingOn.{run_goes_on}
-use Rattle.local_cache.specs.NodeCells.{Cells, cell_at, run_cell}
+use Rattle.local_cache.specs.Looking.{IsOwner, up}
+use Rattle.local_cache.specs.NodeCells.{Cells, cell_at}
 use Rattle.local_cache.specs.Own.{is_absent}
-use Rattle.local_cache.specs.Runs.{run, run_after}
-use Rattle.local_cache.specs.declared.runs.run.Run.{Run}
 
 module _ (m : Cells) where
   abbrev pub bare : ℕ → Bool
@@ -83,14 +75,12 @@ module _ (m : Cells) where
       fewer : parent_owner.steps < o.steps
       fewer = omega (arith, some_steps absent)
 
-  pub one_up : (n p : ℕ) → bare n ≡ true → next_up n ≡ Some p → IsFurtherUp m n p
-  one_up n p absent parent owner o = (parent_owner n owner o p absent parent, fewer n owner o p absent parent)
+  -- a node further up that has the same owner
+  abbrev pub IsFurtherUp : ℕ → ℕ → Type 0
+  IsFurtherUp n next = (owner : ℕ) (o : IsOwner m n owner) → (p : IsOwner m next owner) × (p.steps < o.steps)
 
-  pub more_up : (n q p : ℕ) → IsFurtherUp m n q → IsFurtherUp m q p → IsFurtherUp m n p
-  more_up n q p a b owner o =
-      let there = a owner o in
-      let beyond = b owner there.0 in
-      (beyond.0, omega (arith, there.1, beyond.1))
+  pub one_up : (n p : ℕ) → bare n ≡ true → next_up n ≡ Some p → IsFurtherUp n p
+  one_up n p absent parent owner o = (parent_owner n owner o p absent parent, fewer n owner o p absent parent)
 
   -- How many nodes without an own page there are on the way up, as far as so many
 
@@ -118,18 +108,7 @@ module _ (m : Cells) where
   abbrev pub way_left : ℕ → ℕ
   way_left n = way (map.len m) n
 
-  pub way_falls : (n p owner : ℕ) → IsFurtherUp m n p → IsOwner m n owner → way_left p < way_left n
+  pub way_falls : (n p owner : ℕ) → IsFurtherUp n p → IsOwner m n owner → way_left p < way_left n
   way_falls n p owner further o =
       let there = further owner o in
       omega (arith, way_steps (map.len m) n owner o o.few, way_steps (map.len m) p owner there.0 there.0.few, there.1)
-
--- What the run of a node says of its way
-
-pub told_cell : (m : Cells) (n : ℕ) (r : Stretch Run) → Tells run run_cell m r → is_in r n ≡ true → cell_at m n ≡ run_cell (run_after r.value (n - r.first))
-told_cell m n r tells has = ap (λ (o : Option Cell). unwrap_or o blank) (tells n has)
-
-pub told_first : (m : Cells) (n : ℕ) (r : Stretch Run) → IsStretchFrom run run_cell m n r → cell_at m n ≡ run_cell r.value
-told_first m n r from =
-    let none : n - r.first ≡ 0 = omega (arith, from.begins) in
-    told_cell m n r from.told_by (within r n (omega (arith, from.begins)) (omega (arith, from.begins, from.fit.some)))
-    ∙ ap (λ (k : ℕ). run_cell (run_after r.value k)) none ∙ ap run_cell (run_goes_on.starts r.value)

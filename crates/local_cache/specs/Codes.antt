@@ -17,9 +17,8 @@ use Rattle.local_cache.specs.declared.page_entry.PageEntry.{PageEntry}
 use Rattle.vm_ids.specs.Forest.Codes.{name_code}
 use Rattle.local_cache.specs.Arena.{Arena, Cell, Room, Table}
 use Rattle.local_cache.specs.ArenaBy.{CacheRow, CacheRows}
+use Rattle.local_cache.specs.Joined.{Nodes}
 use Rattle.local_cache.specs.PageNodes.{PageNodes}
-use Rattle.local_cache.specs.declared.runs.run.PlainState.{PlainState}
-use Rattle.local_cache.specs.declared.runs.run.PlainState.TheVariants.{Absent as PlainAbsent, Zero as PlainZero, OnSegment as PlainOnSegment}
 use Rattle.local_cache.specs.declared.runs.run.Run.{Run}
 use Rattle.local_cache.specs.declared.runs.run.RunName.{RunName}
 use Rattle.local_cache.specs.declared.runs.run.RunName.TheVariants.{Pages, Working}
@@ -159,49 +158,34 @@ abbrev pub name_by : (ℕ × (ℕ × ℕ)) → RunName
 name_by (zero, (a, b)) = Pages (record { 0 = a }) (record { 0 = b })
 name_by (suc _, (a, b)) = Working a
 
-abbrev pub plain_key : PlainState → ℕ
-plain_key PlainAbsent = 0
-plain_key PlainZero = 1
-plain_key PlainOnSegment = 2
-
-abbrev pub plain_by : ℕ → PlainState
-plain_by zero = PlainAbsent
-plain_by (suc zero) = PlainZero
-plain_by (suc (suc _)) = PlainOnSegment
-
 pub name_back : (x : RunName) → name_by (name_key x) ≡ x
 name_back (Pages cache page) = refl
 name_back (Working k) = refl
 
-pub plain_back : (x : PlainState) → plain_by (plain_key x) ≡ x
-plain_back PlainAbsent = refl
-plain_back PlainZero = refl
-plain_back PlainOnSegment = refl
-
 abbrev pub run_code : Coded Run
 run_code =
     code_by
-    ((ℕ × (ℕ × ℕ)) × (ℕ × (Option NodeId × (Option NodeId × Option NodeId))))
+    ((ℕ × (ℕ × ℕ)) × (Option NodeId × (Option NodeId × Option NodeId)))
     (coded× (coded× coded_ℕ (coded× coded_ℕ coded_ℕ))
-    (coded× coded_ℕ
-    (coded× (coded_option id_code) (coded× (coded_option id_code) (coded_option id_code)))))
-    (λ r. (name_key r.name, (plain_key r.own, (r.parent, (r.older, r.newer)))))
-    (λ t. record {
-      name = name_by t.0;
-      own = plain_by t.1.0;
-      parent = t.1.1.0;
-      older = t.1.1.1.0;
-      newer = t.1.1.1.1;
-    }) (λ r i. record {
+    (coded× (coded_option id_code) (coded× (coded_option id_code) (coded_option id_code))))
+    (λ r. (name_key r.name, (r.parent, (r.older, r.newer))))
+    (λ t. record { name = name_by t.0; parent = t.1.0; older = t.1.1.0; newer = t.1.1.1 })
+    (λ r i. record {
       name = name_back r.name i;
-      own = plain_back r.own i;
       parent = r.parent;
       older = r.older;
       newer = r.newer;
     })
 
-abbrev pub node_table_code : Coded (Mixed Run Cell)
-node_table_code = mixed_code run_code cell_code
+abbrev pub link_table_code : Coded (Mixed Run Cell)
+link_table_code = mixed_code run_code cell_code
+
+abbrev pub nodes_code : Coded Nodes
+nodes_code =
+    code_by (FinMap nat_cmp Cell × (ℕ × ℕ))
+    (coded× (ids.code coded_ℕ cell_code) (coded× coded_ℕ coded_ℕ))
+    (λ t. (t.cells, (t.count, t.room)))
+    (λ p. record { cells = p.0; count = p.1.0; room = p.1.1 }) (λ _. refl)
 
 abbrev pub row_code : Coded CacheRow
 row_code =

@@ -55,14 +55,12 @@ run_goes_on =
     record {
       starts = λ r i. record {
         name = name_starts r.name i;
-        own = r.own;
         parent = further_if_starts r.parent i;
         older = further_if_starts r.older i;
         newer = further_if_starts r.newer i;
       };
       composes = λ r a b i. record {
         name = name_composes r.name a b i;
-        own = r.own;
         parent = further_if_composes r.parent a b i;
         older = further_if_composes r.older a b i;
         newer = further_if_composes r.newer a b i;

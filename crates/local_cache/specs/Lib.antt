@@ -6,13 +6,14 @@ pub mod Changing
 pub mod Codes
 pub mod GoingOn
 pub mod Home
+pub mod Joined
 pub mod Looking
 pub mod Many
 pub mod ManyNodes
 pub mod NodeCells
 pub mod NodeKeys
 pub mod NodeRuns
-pub mod NodeTable
+pub mod LinkTable
 pub mod OnCells
 pub mod Own
 pub mod Packing

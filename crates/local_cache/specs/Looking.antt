@@ -2,8 +2,6 @@
 use Rattle.std.specs.Prelude.{◌≡◌, ℕ, zero, suc, ◌+◌, ◌<◌, ◌≤◌, true, false, Option, None, Some, is_some, option_and_then, option_map, slice_get}
 use Rattle.std.specs.FinMap as map
 use Rattle.local_cache.specs.declared.runs.looking.Member.{Member}
-use Rattle.local_cache.specs.declared.runs.looking.Way.{Way}
-use Rattle.local_cache.specs.declared.runs.looking.Way.TheVariants.{Owner, On}
 use Rattle.local_cache.specs.ManyNodes.{next_if}
 use Rattle.local_cache.specs.NodeCells.{Cells, HasCell, cell_at}
 use Rattle.local_cache.specs.Own.{is_absent}
@@ -24,16 +22,6 @@ pub record IsOwner (m : Cells) (n owner : ℕ) : Type 0 where
   pub owns : is_absent (cell_at m owner).own ≡ false
   pub first : (k p : ℕ) → k < steps → up m k n ≡ Some p → is_absent (cell_at m p).own ≡ true
   pub held : (k p : ℕ) → k ≤ steps → up m k n ≡ Some p → HasCell m p
-
--- a node further up that has the same owner
-abbrev pub IsFurtherUp : Cells → ℕ → ℕ → Type 0
-IsFurtherUp m n next =
-    (owner : ℕ) (o : IsOwner m n owner) → (p : IsOwner m next owner) × (p.steps < o.steps)
-
--- it is the owner, or a node further up
-abbrev pub IsOnWay : Cells → ℕ → Way → Type 0
-IsOnWay m n (Owner owner) = IsOwner m n owner
-IsOnWay m n (On next) = IsFurtherUp m n next
 
 -- the node so many numbers on has the next name and the next tree child, or as the first one none
 pub record IsMember (m : Cells) (n : ℕ) (first : Member) (k : ℕ) : Type 0 where

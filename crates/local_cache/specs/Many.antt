@@ -33,11 +33,9 @@ IsPlain (Resident dirty) = ⊥
 IsPlain (Slot s) = ⊥
 IsPlain OnSegment = Unit {0}
 
--- What is said of many can be said of such a node: its own page is in no frame and no slot, and it
--- has no stubs and hangs by no stub link.
-pub record CanBeAlike (c : Cell) : Type 0 where
-  pub own : IsPlain c.own
-  pub links : c.links ≡ record no_links { parent = c.links.parent }
+-- What is said of many can be said of such a node: it has no stubs and hangs by no stub link.
+abbrev pub CanBeAlike : Cell → Type 0
+CanBeAlike c = c.links ≡ record no_links { parent = c.links.parent }
 
 -- the arena without so many nodes, from one on
 abbrev pub without_many : Arena → NodeId → ℕ → Arena
@@ -69,13 +67,11 @@ abbrev pub over_two_many : Arena → NodeId → NodeId → NodeId → ℕ → Ar
 over_two_many a n older newer count =
     each (λ k b. with_tree b (next_node n k) (next_node older k ∷ next_node newer k ∷ [])) count a
 
--- The node so many numbers behind another one is like it: it has the same own state, which is a
--- plain one, and no stubs, its parent by a tree link and its tree children are as many numbers
--- further on, and it is named by a page or a working number as many further on.
+-- The node so many numbers behind another one is linked like it: it has no stubs, its parent by a
+-- tree link and its tree children are as many numbers further on, and it is named by a page or a
+-- working number as many further on. Where their own pages are they need not be alike.
 pub record IsAlike (a : Arena) (n : NodeId) (k : ℕ) : Type 0 where
   pub held : HasNode a (next_node n k)
-  pub own : (cell a (next_node n k)).own ≡ (cell a n).own
-  pub plain : IsPlain (cell a n).own
   pub links : (cell a (next_node n k)).links
       ≡ record no_links { parent = next_if (cell a n).links.parent k }
   pub tree : (cell a (next_node n k)).tree ≡ map (λ child. next_node child k) (cell a n).tree

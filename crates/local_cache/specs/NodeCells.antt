@@ -12,20 +12,20 @@ use Rattle.local_cache.specs.declared.links.Links.{Links}
 use Rattle.local_cache.specs.declared.links.Neighbours.{Neighbours}
 use Rattle.local_cache.specs.declared.own_state.OwnState.{OwnState}
 use Rattle.local_cache.specs.declared.own_state.OwnState.TheVariants.{Absent, Zero, OnSegment}
-use Rattle.local_cache.specs.declared.runs.run.PlainState.{PlainState}
-use Rattle.local_cache.specs.declared.runs.run.PlainState.TheVariants.{Absent as PlainAbsent, Zero as PlainZero, OnSegment as PlainOnSegment}
+use Rattle.own_states.specs.declared.own.Plain.{Plain}
+use Rattle.own_states.specs.declared.own.Plain.TheVariants.{Absent as PlainAbsent, Zero as PlainZero, OnSegment as PlainOnSegment}
 use Rattle.local_cache.specs.declared.runs.run.Run.{Run}
 use Rattle.local_cache.specs.Arena.{Cell, blank, new_cell, no_links}
 use Rattle.local_cache.specs.ManyNodes.{each}
 use Rattle.local_cache.specs.Own.{is_absent}
 use Rattle.local_cache.specs.Runs.{first_name}
 
--- What a run says
-
-abbrev pub own_of_plain : PlainState → OwnState
+abbrev pub own_of_plain : Plain → OwnState
 own_of_plain PlainAbsent = Absent
 own_of_plain PlainZero = Zero
 own_of_plain PlainOnSegment = OnSegment
+
+-- What a run says
 
 -- the tree children in their order
 abbrev pub tree_of : Option NodeId → Option NodeId → List NodeId
@@ -34,11 +34,11 @@ tree_of None (Some n) = n ∷ []
 tree_of (Some n) None = n ∷ []
 tree_of (Some n) (Some m) = n ∷ m ∷ []
 
--- what a run says of its first node
+-- what a run says of its first node, which is but where its own page is
 abbrev pub run_cell : Run → Cell
 run_cell r = record {
   name = first_name r.name;
-  own = own_of_plain r.own;
+  own = Absent;
   links = record no_links { parent = r.parent };
   tree = tree_of r.older r.newer;
 }
@@ -64,6 +64,18 @@ named x c = record c { name = x }
 abbrev pub owning : OwnState → Cell → Cell
 owning s c = record c { own = s }
 
+-- without its own page
+abbrev pub bare : Cell → Cell
+bare c = owning Absent c
+
+-- without parent and children, and without an own page
+abbrev pub bare_cell : NodeName → Cell
+bare_cell name = new_cell name Absent
+
+-- without parent and children
+abbrev pub stripped : Cell → Cell
+stripped c = new_cell c.name c.own
+
 -- on this parent by a tree link, or on none
 abbrev pub hanging : Option NodeId → Cell → Cell
 hanging p c = record c { links = record c.links { parent = p; by_stub = false } }
@@ -75,9 +87,13 @@ over ts c = record c { tree = ts }
 abbrev pub renewed : OwnState → Cell → Cell
 renewed s c = new_cell c.name s
 
+-- with this own page, where it has none
+abbrev pub heir_of : OwnState → Cell → Cell
+heir_of s c = owning (cond (is_absent c.own) s c.own) c
+
 -- on this parent, or on none, and with this own page where it has none
 abbrev pub inheriting : OwnState → Option NodeId → Cell → Cell
-inheriting s p c = hanging p (owning (cond (is_absent c.own) s c.own) c)
+inheriting s p c = hanging p (heir_of s c)
 
 -- a node, or what comes in its place where it is the one that goes
 abbrev pub in_place : NodeId → Option NodeId → NodeId → Option NodeId

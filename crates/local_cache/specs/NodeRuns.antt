@@ -5,10 +5,10 @@ use Rattle.local_cache.specs.declared.runs.counters.Counters.{Counters}
 use Rattle.local_cache.specs.declared.runs.page_table.PageTable.{PageTable}
 use Rattle.local_cache.specs.NodeCells.{Cells, HasCell}
 use Rattle.local_cache.specs.NodeKeys.{key_at, working_number}
-use Rattle.local_cache.specs.NodeTable.{Table}
+use Rattle.local_cache.specs.Joined.{Nodes}
 use Rattle.local_cache.specs.PageNodes.{ArePaged, PageNodes}
 
-abbrev pub nodes_of : Table → PageTable → Counters → ℕ → PageNodes
+abbrev pub nodes_of : Nodes → PageTable → Counters → ℕ → PageNodes
 nodes_of t p c capacity = record {
   cells = t.cells;
   pages = p.nodes.cells;
@@ -33,21 +33,21 @@ pub record AreNumbered (cells : Cells) (c : Counters) : Type 0 where
   pub working : c.working ≤ c.made
   pub made : c.made ≤ 3 * 2 ^ 61
 
-pub record AreCounted (t : Table) (p : PageTable) (c : Counters) : Type 0 where
+pub record AreCounted (t : Nodes) (p : PageTable) (c : Counters) : Type 0 where
   pub nodes : c.nodes ≡ map.len t.cells
   pub live : c.live ≡ map.len p.nodes.cells
   pub table : t.count ≡ map.len t.cells
   pub pages : p.nodes.count ≡ map.len p.nodes.cells
 
 -- there is memory for as many nodes as there may be, each of them of a page
-pub record HavePlaces (t : Table) (p : PageTable) (capacity : ℕ) : Type 0 where
+pub record HavePlaces (t : Nodes) (p : PageTable) (capacity : ℕ) : Type 0 where
   pub few : capacity < 2 ^ 32
   pub nodes : map.len t.cells ≤ capacity
   pub table : capacity ≤ t.room
   pub pages : capacity ≤ p.nodes.room
 
 -- what holds of them all
-pub record AreNodesRight (t : Table) (p : PageTable) (c : Counters) (capacity : ℕ) : Type 0 where
+pub record AreNodesRight (t : Nodes) (p : PageTable) (c : Counters) (capacity : ℕ) : Type 0 where
   pub paged : ArePaged t.cells p.nodes.cells
   pub numbered : AreNumbered t.cells c
   pub counted : AreCounted t p c

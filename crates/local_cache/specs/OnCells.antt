@@ -9,7 +9,7 @@ use Rattle.local_cache.specs.declared.own_state.OwnState.{OwnState}
 use Rattle.local_cache.specs.Arena.{Arena, Cell, HasNode, as_working, cell, put, tables_with, with_new, without}
 use Rattle.local_cache.specs.Many.{AreNamed, over_two_many, hung_many, with_working_many}
 use Rattle.local_cache.specs.ManyNodes.{each, next_if, next_node}
-use Rattle.local_cache.specs.NodeCells.{inheriting, named, renewed, with_child}
+use Rattle.local_cache.specs.NodeCells.{heir_of, inheriting, named, renewed, with_child}
 use Rattle.local_cache.specs.Own.{is_absent}
 
 abbrev pub on_cell : Arena → NodeId → (Cell → Cell) → Arena
@@ -18,6 +18,12 @@ on_cell a n change = put a n (change (cell a n))
 -- the same of each of so many nodes, from one on
 abbrev pub on_cells : Arena → NodeId → (ℕ → Cell → Cell) → ℕ → Arena
 on_cells a n change count = each (λ k b. on_cell b (next_node n k) (change k)) count a
+
+-- each of so many nodes, from one on, that has no own page with that of the next node from another
+-- one on
+abbrev pub passed_many : Arena → (n from : NodeId) → ℕ → Arena
+passed_many a n from count =
+    each (λ k b. on_cell b (next_node n k) (heir_of (cell b (next_node from k)).own)) count a
 
 -- another node, or none, in the place of one among the tree children of a parent, if there is one
 abbrev pub cut_from : Arena → Option NodeId → NodeId → Option NodeId → Arena

@@ -1,8 +1,9 @@
--- A cell in few bytes.
+-- A cell without an own page, in few bytes.
 use Rattle.std.specs.Prelude.{◌≡◌, ℕ, ◌≤◌, List, [], ◌∷◌, length, map, Bool, true, false, Option, Some, None, is_some, refl}
 use Rattle.std.proofs.Common.{sym, ap}
 use Rattle.smallvec.specs.SmallVec.{SmallVec}
 use Rattle.vm_ids.specs.declared.numbers.NodeId.{NodeId}
+use Rattle.local_cache.specs.declared.own_state.OwnState.TheVariants.{Absent}
 use Rattle.local_cache.specs.declared.runs.single.Single.TheInside.{Inside}
 use Rattle.local_cache.specs.Arena.{Cell}
 
@@ -26,7 +27,7 @@ packed_tree ns = record { items = map (λ (n : NodeId). n.0) ns; capacity = 2 }
 abbrev pub cell_of : Inside → Cell
 cell_of s = record {
   name = s.name;
-  own = s.own;
+  own = Absent;
   links = record {
     parent = node_if s.has.parent s.parent;
     by_stub = s.by_stub;
@@ -42,7 +43,6 @@ cell_of s = record {
 abbrev pub packed : Cell → Inside
 packed c = record {
   name = c.name;
-  own = c.own;
   parent = number_of c.links.parent;
   first = number_of c.links.first;
   last = number_of c.links.last;
@@ -91,7 +91,6 @@ pub packed_back : (s : Inside) → IsPacked s → packed (cell_of s) ≡ s
 packed_back s h =
     λ i. record {
       name = s.name;
-      own = s.own;
       parent = number_back s.has.parent s.parent h.parent i;
       first = number_back s.has.first s.first h.first i;
       last = number_back s.has.last s.last h.last i;

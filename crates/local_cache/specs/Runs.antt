@@ -36,7 +36,6 @@ abbrev pub run_after : Run → ℕ → Run
 run_after r by =
     record {
       name = name_after r.name by;
-      own = r.own;
       parent = further_if r.parent by;
       older = further_if r.older by;
       newer = further_if r.newer by;

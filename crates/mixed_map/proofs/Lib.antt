@@ -1,5 +1,5 @@
 mod Clones
 pub mod Maps
-mod Filling
+pub mod Filling
 mod Keeping
 pub mod Telling

@@ -4,7 +4,7 @@ ghost use Rattle.local_cache.specs.Arena.{HasNode, cell};
 ghost use Rattle.local_cache.specs.Own.{own_of};
 ghost use Rattle.page_release.specs.Untouched.{AreUntouched};
 
-use local_cache::{Caches, OwnState};
+use local_cache::{Caches, Kinds, OwnState};
 use vm_ids::NodeId;
 
 // Whether an own page is on its segment alone.
@@ -34,7 +34,8 @@ pub(crate) fn untouched_nodes(caches: &Caches, node: NodeId, most: u32) -> u32
     ensures untouched { AreUntouched caches.now node result }
 {
     if is_untouched(caches, node) {
-        caches.stretch(node).min(most)
+        let alike = caches.stretch(node).min(most);
+        caches.having(node, alike, Kinds::ON_SEGMENT)
     } else {
         0
     }

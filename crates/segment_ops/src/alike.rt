@@ -1,11 +1,13 @@
 // Nodes that are alike, of which nothing is to be pushed, given up or saved.
-ghost use Rattle.std.specs.Prelude.{◌≡◌, ◌<◌, ◌≤◌, [], IsTrue, true, false, ◌⊎◌};
+ghost use Rattle.std.specs.Prelude.{◌≡◌, ℕ, ◌<◌, ◌≤◌, [], IsTrue, true, false, ◌⊎◌};
 ghost use Rattle.local_cache.specs.Arena.{HasNode, cell};
+ghost use Rattle.local_cache.specs.Joined.{has_kind};
 ghost use Rattle.local_cache.specs.Many.{AreAlike};
+ghost use Rattle.local_cache.specs.ManyNodes.{next_node};
 ghost use Rattle.local_cache.specs.Own.{is_absent, is_resident, own_of};
 ghost use Rattle.residency.specs.World.{is_clean as is_page_clean};
 
-use local_cache::{Caches, OwnState};
+use local_cache::{Caches, Kinds, OwnState};
 use vm_ids::NodeId;
 
 // Whether a segment holds the own page of a node.
@@ -19,21 +21,21 @@ pub(crate) fn is_clean(caches: &Caches, node: NodeId) -> bool
     )
 }
 
-// Whether a node's own page is in no frame.
-fn is_frameless(caches: &Caches, node: NodeId) -> bool
+// How many nodes, from one on, are linked alike and have own states of these kinds, as far as so
+// many.
+fn alike_of(caches: &Caches, node: NodeId, most: u32, kinds: Kinds) -> u32
     requires { HasNode caches.now node }
-    ensures { IsTrue result → is_resident (own_of caches.now node) ≡ false }
+    ensures most { result ≤ most }
+    ensures alike { AreAlike caches.now node result }
+    ensures kinds { (k : ℕ) → k < result
+        → has_kind kinds (own_of caches.now (next_node node k)) ≡ true }
 {
-    !matches!(caches.own_state(node), OwnState::Resident { .. })
-}
-
-// Whether a node has no own page, or no tree children.
-fn is_childless(caches: &Caches, node: NodeId) -> bool
-    requires { HasNode caches.now node }
-    ensures { IsTrue result
-        → (is_absent (own_of caches.now node) ≡ true) ⊎ ((cell caches.now node).tree ≡ []) }
-{
-    caches.own_state(node).is_absent() || caches.tree_child(node, 0).is_none()
+    if caches.own_state(node).is_of(kinds) {
+        let alike = caches.stretch(node).min(most);
+        caches.having(node, alike, kinds)
+    } else {
+        0
+    }
 }
 
 // How many nodes, from one on, are alike and have own pages that their segment holds, as far as so
@@ -44,11 +46,7 @@ pub(crate) fn clean_nodes(caches: &Caches, node: NodeId, most: u32) -> u32
     ensures alike { AreAlike caches.now node result }
     ensures clean { 0 < result → is_page_clean (own_of caches.now node) ≡ true }
 {
-    if is_clean(caches, node) {
-        caches.stretch(node).min(most)
-    } else {
-        0
-    }
+    alike_of(caches, node, most, Kinds::CLEAN)
 }
 
 // How many nodes, from one on, are alike and have own pages in no frame, as far as so many.
@@ -58,11 +56,7 @@ pub(crate) fn frameless_nodes(caches: &Caches, node: NodeId, most: u32) -> u32
     ensures alike { AreAlike caches.now node result }
     ensures out { 0 < result → is_resident (own_of caches.now node) ≡ false }
 {
-    if is_frameless(caches, node) {
-        caches.stretch(node).min(most)
-    } else {
-        0
-    }
+    alike_of(caches, node, most, Kinds::FRAMELESS)
 }
 
 // How many nodes, from one on, are alike and have no heirs: no own pages, or no children. As far as
@@ -74,9 +68,9 @@ pub(crate) fn heirless_nodes(caches: &Caches, node: NodeId, most: u32) -> u32
     ensures none { 0 < result
         → (is_absent (own_of caches.now node) ≡ true) ⊎ ((cell caches.now node).tree ≡ []) }
 {
-    if is_childless(caches, node) {
+    if caches.tree_child(node, 0).is_none() {
         caches.stretch(node).min(most)
     } else {
-        0
+        alike_of(caches, node, most, Kinds::ABSENT)
     }
 }

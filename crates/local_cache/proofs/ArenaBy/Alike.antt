@@ -4,19 +4,19 @@ use Rattle.std.specs.Prelude.{is_some, unwrap_or}
 use Rattle.std.proofs.lemmas.Bool.{cases_eq}
 use Rattle.vm_ids.specs.declared.node_name.NodeName.{NodeName}
 use Rattle.vm_ids.specs.declared.numbers.NodeId.{NodeId}
-use Rattle.local_cache.specs.declared.runs.run.PlainState.{PlainState}
-use Rattle.local_cache.specs.declared.runs.run.PlainState.TheVariants.{Absent as PlainAbsent, Zero as PlainZero, OnSegment as PlainOnSegment}
 use Rattle.local_cache.specs.Arena.{Cell, blank, no_links}
 use Rattle.local_cache.specs.Arena as arena
 use Rattle.local_cache.specs.ArenaBy.{CacheRows, arena_by}
 use Rattle.local_cache.specs.GoingOn.{run_goes_on}
-use Rattle.local_cache.specs.Many.{AreAlike, IsPlain}
+use Rattle.local_cache.specs.Joined.{AreLinkedAs}
+use Rattle.local_cache.specs.Many.{AreAlike}
 use Rattle.local_cache.specs.ManyNodes.{next_if, next_node}
-use Rattle.local_cache.specs.NodeCells.{cell_at, own_of_plain, run_cell, tree_of}
-use Rattle.local_cache.specs.NodeTable.{AreSaidAlike, HasNumber}
+use Rattle.local_cache.specs.NodeCells.{Cells, bare, cell_at, run_cell, tree_of}
+use Rattle.local_cache.specs.LinkTable.{AreSaidAlike, HasNumber}
 use Rattle.local_cache.specs.PageNodes.{PageNodes, name_behind}
 use Rattle.local_cache.specs.Runs.{further_if, run_after}
 use Rattle.local_cache.proofs.Alike.{node_here}
+use Rattle.local_cache.proofs.Joined.Cells.{cell_linked, there_linked}
 use Rattle.local_cache.proofs.RunAfter.{further_next_if, run_cell_after}
 
 further_here : (o : Option NodeId) → further_if o 0 ≡ o
@@ -36,39 +36,31 @@ tree_next None (Some n) k = refl
 tree_next (Some n) None k = refl
 tree_next (Some n) (Some m) k = refl
 
-plain_own : (p : PlainState) → IsPlain (own_of_plain p)
-plain_own PlainAbsent = tt
-plain_own PlainZero = tt
-plain_own PlainOnSegment = tt
+-- the same of nodes that are linked as others
+module _ (m : PageNodes) (c : CacheRows) (n : NodeId) (count : ℕ) (links : Cells) (linked : AreLinkedAs links m.cells) (alike : AreSaidAlike links n.0 count) where
+  told : (k : ℕ) → k < count → bare (cell_at m.cells (n.0 + k)) ≡ run_cell (run_after alike.run k)
+  told k less = sym (cell_linked links m.cells linked (n.0 + k)) ∙ ap (λ (o : Option Cell). bare (unwrap_or o blank)) (alike.said k less)
 
-module _ (m : PageNodes) (c : CacheRows) (n : NodeId) (count : ℕ) (alike : AreSaidAlike m.cells n.0 count) where
-  first_cell : 0 < count → cell_at m.cells n.0 ≡ run_cell alike.run
+  first_cell : 0 < count → bare (cell_at m.cells n.0) ≡ run_cell alike.run
   first_cell some =
       let here : n.0 + 0 ≡ n.0 = omega arith in
-      ap (λ (k : ℕ). cell_at m.cells k) (sym here)
-      ∙ ap (λ (o : Option Cell). unwrap_or o blank) (alike.said 0 some)
-      ∙ ap run_cell (run_goes_on.starts alike.run)
-
-  cell_on : (k : ℕ) → k < count → cell_at m.cells (n.0 + k) ≡ run_cell (run_after alike.run k)
-  cell_on k less = ap (λ (o : Option Cell). unwrap_or o blank) (alike.said k less)
+      ap (λ (k : ℕ). bare (cell_at m.cells k)) (sym here) ∙ told 0 some ∙ ap run_cell (run_goes_on.starts alike.run)
 
   name_on : (k : ℕ) → k < count → (cell_at m.cells (n.0 + k)).name ≡ name_behind (cell_at m.cells n.0).name k
   name_on k less =
-      ap (λ (d : Cell). d.name) (cell_on k less ∙ run_cell_after alike.run k)
+      ap (λ (d : Cell). d.name) (told k less ∙ run_cell_after alike.run k)
       ∙ ap (λ (d : Cell). name_behind d.name k) (sym (first_cell (omega (arith, less))))
 
   pub alike_by : AreAlike (arena_by m c) n count
   unfolding arena.cell
   alike_by k less =
       let first = first_cell (omega (arith, less)) in
-      let on = cell_on k less in
+      let on = told k less in
       let parent = number_on alike.run.parent k (λ some. alike.parent k some less) in
       let older = number_on alike.run.older k (λ some. alike.older k some less) in
       let newer = number_on alike.run.newer k (λ some. alike.newer k some less) in
       record {
-        held = ap is_some (alike.said k less);
-        own = ap (λ (d : Cell). d.own) on ∙ ap (λ (d : Cell). d.own) (sym first);
-        plain = subst (λ (d : Cell). IsPlain d.own) (sym first) (plain_own alike.run.own);
+        held = sym (there_linked links m.cells linked (n.0 + k)) ∙ ap is_some (alike.said k less);
         links = ap (λ (d : Cell). d.links) on ∙ (λ i. record no_links { parent = parent i })
             ∙ ap (λ (d : Cell). record no_links { parent = next_if d.links.parent k }) (sym first);
         tree = ap (λ (d : Cell). d.tree) on ∙ (λ i. tree_of (older i) (newer i)) ∙ tree_next alike.run.older alike.run.newer k

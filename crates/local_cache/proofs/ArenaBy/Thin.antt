@@ -10,7 +10,7 @@ use Rattle.vm_ids.specs.declared.numbers.NodeId.{NodeId}
 use Rattle.local_cache.specs.Arena.{Cell, blank, cell}
 use Rattle.local_cache.specs.ArenaBy.{CacheRows, arena_by}
 use Rattle.local_cache.specs.PageNodes.{PageNodes}
-use Rattle.local_cache.specs.NodeTable as table
+use Rattle.local_cache.specs.LinkTable as table
 use Rattle.local_cache.specs.Thin.{number_if, thin_number}
 use Rattle.local_cache.specs.Thin.{IsLeastThin, IsThin, has_few}
 

@@ -10,7 +10,7 @@ use Rattle.mixed_map.proofs.Maps.{insert_other, insert_same, remove_other, remov
 use Rattle.local_cache.specs.Arena.{Cell}
 use Rattle.local_cache.specs.NodeCells.{Cells}
 use Rattle.local_cache.specs.NodeKeys.{key_at, working_number}
-use Rattle.local_cache.specs.NodeTable.{AreThinKept, HasFreeNumber, IsTableRight, Table}
+use Rattle.local_cache.specs.LinkTable.{AreThinKept, HasFreeNumber, IsTableRight, Table}
 use Rattle.local_cache.specs.Thin.{thin_number}
 use Rattle.local_cache.specs.ThinNodes.{Thin, changed_to}
 use Rattle.local_cache.proofs.Singles.{len_insert_new, len_insert_old, len_remove_old}

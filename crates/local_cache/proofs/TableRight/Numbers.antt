@@ -14,13 +14,12 @@ use Rattle.mixed_map.specs.Mixed.{with_stretch, without_range}
 use Rattle.mixed_map.proofs.Maps.{range_behind, remove_other}
 use Rattle.mixed_map.proofs.Telling.{get_with}
 use Rattle.local_cache.specs.Arena.{Cell}
-use Rattle.local_cache.specs.declared.runs.run.PlainState.{PlainState}
 use Rattle.local_cache.specs.declared.runs.run.Run.{Run}
 use Rattle.local_cache.specs.declared.runs.run.RunName.{RunName}
 use Rattle.local_cache.specs.declared.runs.run.RunName.TheVariants.{Pages, Working}
 use Rattle.local_cache.specs.NodeCells.{Cells, HasCell, run_cell}
 use Rattle.local_cache.specs.NodeKeys.{key_at, number_of_name, working_number}
-use Rattle.local_cache.specs.NodeTable.{AreNumbersApart, AreThinKept, HasFreeNumber, HaveFreeNumbers, IsFree, IsThin}
+use Rattle.local_cache.specs.LinkTable.{AreNumbersApart, AreThinKept, HasFreeNumber, HaveFreeNumbers, IsFree, IsThin}
 use Rattle.local_cache.specs.Runs.{run, run_after}
 use Rattle.local_cache.specs.Thin.{number_if, thin_number}
 use Rattle.local_cache.specs.ThinNodes.{Thin}
@@ -62,15 +61,15 @@ pub is_free : (cells : Cells) (o : Option ℕ) → ((k n : ℕ) → o ≡ Some k
 is_free cells None h = tt
 is_free cells (Some k) h = λ n e. h k n refl e
 
-working_parts : (name : RunName) (own : PlainState) (parent older newer : Option NodeId) (by : ℕ)
-    → working_number (run_cell (run_after (record { name = name; own = own; parent = parent; older = older; newer = newer }) by))
-    ≡ option_map (λ k. k + by) (working_number (run_cell (record { name = name; own = own; parent = parent; older = older; newer = newer })))
-working_parts (Pages cache page) own parent older newer by = refl
-working_parts (Working k) own parent older newer by = refl
+working_parts : (name : RunName) (parent older newer : Option NodeId) (by : ℕ)
+    → working_number (run_cell (run_after (record { name = name; parent = parent; older = older; newer = newer }) by))
+    ≡ option_map (λ k. k + by) (working_number (run_cell (record { name = name; parent = parent; older = older; newer = newer })))
+working_parts (Pages cache page) parent older newer by = refl
+working_parts (Working k) parent older newer by = refl
 
 -- the working numbers of a run follow one another
 pub run_working : (r : Run) (by : ℕ) → working_number (run_cell (run_after r by)) ≡ option_map (λ k. k + by) (working_number (run_cell r))
-run_working r by = working_parts r.name r.own r.parent r.older r.newer by
+run_working r by = working_parts r.name r.parent r.older r.newer by
 
 -- How many there are
 

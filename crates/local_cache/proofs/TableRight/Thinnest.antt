@@ -8,7 +8,7 @@ use Rattle.std.specs.FinMap as map
 use Rattle.stretches.specs.declared.rising.Rising.{Rising}
 use Rattle.local_cache.specs.Arena.{Cell}
 use Rattle.local_cache.specs.NodeKeys.{key_at, working_number}
-use Rattle.local_cache.specs.NodeTable.{IsLeastThin, IsTableRight, IsThin, Table}
+use Rattle.local_cache.specs.LinkTable.{IsLeastThin, IsTableRight, IsThin, Table}
 use Rattle.local_cache.specs.Thin.{thin_number}
 use Rattle.local_cache.specs.ThinNodes.{HasNone, IsFirst, IsLeast, Thin}
 use Rattle.local_cache.specs.declared.runs.thin_nodes.FirstThin.TheVariants.{Alone, Among}

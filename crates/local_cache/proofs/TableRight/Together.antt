@@ -15,7 +15,7 @@ use Rattle.local_cache.specs.Arena.{Cell}
 use Rattle.local_cache.specs.declared.runs.run.Run.{Run}
 use Rattle.local_cache.specs.NodeCells.{Cells, HasCell, is_page, run_cell}
 use Rattle.local_cache.specs.NodeKeys.{key_at, working_number}
-use Rattle.local_cache.specs.NodeTable.{AreNumbersApart, AreThinKept, HaveFreeNumbers, IsTableRight, IsThin, Table}
+use Rattle.local_cache.specs.LinkTable.{AreNumbersApart, AreThinKept, HaveFreeNumbers, IsTableRight, IsThin, Table}
 use Rattle.local_cache.specs.Runs.{run, run_after}
 use Rattle.local_cache.specs.Thin.{number_if, thin_number}
 use Rattle.local_cache.specs.ThinNodes.{Thin, with_run, without_run}

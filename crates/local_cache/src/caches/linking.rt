@@ -1,27 +1,27 @@
 // Where the own page of a node is, and how nodes hang on each other.
 ghost use Rattle.std.specs.Prelude.{◌≡◌, ◌+◌, ◌≤◌, ◌^◌, length, IfSome};
 ghost use Rattle.local_cache.specs.Arena.{HasNode, hung, with_own, with_tree, NodesStay};
-ghost use Rattle.local_cache.specs.Many.{HaveNodes, IsPlain, hung_many, over_many};
+ghost use Rattle.local_cache.specs.Joined.{IsShort};
+ghost use Rattle.local_cache.specs.Many.{HaveNodes, hung_many, over_many};
 ghost use Rattle.local_cache.specs.ManyNodes.{next_if, next_node};
-ghost use Rattle.local_cache.specs.NodeCells.{inheriting, with_before, with_behind, with_child, with_ends, with_place};
-ghost use Rattle.local_cache.specs.OnCells.{on_cell, on_cells};
+ghost use Rattle.local_cache.specs.NodeCells.{hanging, with_before, with_behind, with_child, with_ends, with_place};
+ghost use Rattle.local_cache.specs.OnCells.{on_cell, on_cells, passed_many};
 
 use crate::caches::Caches;
-use crate::runs::{
-    Adopt, Exchange, Hang, Inherit, Rehang, SetBefore, SetBehind, SetEnds, SetOwn, SetPlace,
-};
+use crate::runs::{Adopt, Exchange, Hang, SetBefore, SetBehind, SetEnds, SetPlace};
 use crate::{Ends, OwnState};
 use vm_ids::NodeId;
 
 impl Caches {
-    /// Sets where a node's own page is.
+    /// Sets where a node's own page is. It stays in its run.
     #[inline(always)]
     pub fn set_state(&mut self, node: NodeId, state: OwnState)
-        requires { HasNode self.old node }
+        requires held { HasNode self.old node }
+        requires short { IsShort state }
         ensures changed { self.new ≡ with_own self.old node state }
         ensures stays { NodesStay self.old self.new }
     {
-        self.nodes.change(node, SetOwn(state));
+        self.nodes.set_own(node, state);
     }
 
     /// Sets the stub before a node in its parent's list.
@@ -94,15 +94,16 @@ impl Caches {
         self.nodes.change(node, Hang(parent));
     }
 
-    /// Gives a node this own state and hangs it on this parent by a tree link, or on none, in one
-    /// write. Nothing is done to the children of its old and new parent.
+    /// Gives a node this own state and hangs it on this parent by a tree link, or on none. Nothing
+    /// is done to the children of its old and new parent.
     pub fn rehang(&mut self, node: NodeId, state: OwnState, parent: Option<NodeId>)
-        requires { HasNode self.old node }
+        requires held { HasNode self.old node }
+        requires short { IsShort state }
         ensures changed { self.new ≡ hung (with_own self.old node state) node parent }
         ensures stays { NodesStay self.old self.new }
     {
-        let change = Rehang { own: state, parent };
-        self.nodes.change(node, change);
+        self.nodes.set_own(node, state);
+        self.nodes.change(node, Hang(parent));
     }
 
     /// Hangs so many nodes, from one on, each on the next parent by a tree link. Nothing is done to
@@ -147,25 +148,27 @@ impl Caches {
         }
     }
 
-    /// Hangs so many nodes, from one on, each on the next parent by a tree link, or on none, and
-    /// gives those of them that have no own page this one. Nothing is done to the children of their
-    /// old and new parents.
-    pub fn inherit_many(
-        &mut self,
-        node: NodeId,
-        count: u32,
-        state: OwnState,
-        parent: Option<NodeId>,
-    )
+    /// Each of so many nodes, from one on, that has no own page gets that of the next node from
+    /// another one on.
+    pub fn pass_many(&mut self, node: NodeId, from: NodeId, count: u32)
         requires held { HaveNodes self.old node count }
-        requires plain { IsPlain state }
-        requires short { IfSome parent (λ p. p.0 + count ≤ 2 ^ 64) }
-        ensures changed { self.new ≡ on_cells self.old node
-            (λ k. inheriting state (next_if parent k)) count }
+        requires from { HaveNodes self.old from count }
+        ensures changed { self.new ≡ passed_many self.old node from count }
         ensures stays { NodesStay self.old self.new }
     {
-        let change = Inherit { own: state, parent };
-        self.nodes.change_each(node, count, change);
+        self.nodes.pass_own(node, from, count);
+    }
+
+    /// Hangs so many nodes, from one on, each on the next parent by a tree link, or on none. Nothing
+    /// is done to the children of their old and new parents.
+    pub fn rehang_many(&mut self, node: NodeId, count: u32, parent: Option<NodeId>)
+        requires held { HaveNodes self.old node count }
+        requires short { IfSome parent (λ p. p.0 + count ≤ 2 ^ 64) }
+        ensures changed { self.new ≡ on_cells self.old node
+            (λ k. hanging (next_if parent k)) count }
+        ensures stays { NodesStay self.old self.new }
+    {
+        self.nodes.change_each(node, count, Hang(parent));
     }
 
     /// Gives each of so many nodes, from one on, the next node as its only tree child. Nodes of

@@ -1,6 +1,7 @@
 // Nodes that come and go, and get the names of others.
 ghost use Rattle.std.specs.Prelude.{◌≡◌, ◌≢◌, ◌↔◌, ℕ, ◌+◌, ◌*◌, ◌<◌, ◌≤◌, ◌^◌, true, None, IfSome, IsSome, MatchOption};
 ghost use Rattle.local_cache.specs.Arena.{HasNode, cell, find, without, NodesStay};
+ghost use Rattle.local_cache.specs.Joined.{IsShort};
 ghost use Rattle.local_cache.specs.Many.{AreNamed, HaveNodes, HaveNone, IsPlain, as_working_many, without_many};
 ghost use Rattle.local_cache.specs.ManyNodes.{next_node};
 ghost use Rattle.local_cache.specs.NodeCells.{is_page, renewed};
@@ -11,7 +12,7 @@ ghost use Rattle.vm_ids.specs.declared.numbers.PageNo.{PageNo};
 
 use crate::OwnState;
 use crate::caches::Caches;
-use crate::runs::{PlainState, Renew, Run, RunName};
+use crate::runs::{Run, RunName, Strip};
 use vm_ids::{CacheId, NodeId, PageNo};
 
 impl Caches {
@@ -22,13 +23,16 @@ impl Caches {
     pub fn renew_many(&mut self, node: NodeId, count: u32, state: OwnState)
         requires held { HaveNodes self.old node count }
         requires plain { count ≢ 1 → IsPlain state }
+        requires short { IsShort state }
         ensures changed { self.new ≡ on_cells self.old node (λ _. renewed state) count }
         ensures stays { NodesStay self.old self.new }
     {
         if count == 1 {
-            self.nodes.change(node, Renew(state));
+            self.nodes.set_own(node, state);
+            self.nodes.change(node, Strip);
         } else {
-            self.nodes.change_each(node, count, Renew(state));
+            self.nodes.fill_own(node, count, state.plain());
+            self.nodes.change_each(node, count, Strip);
         }
     }
 
@@ -38,6 +42,7 @@ impl Caches {
     pub fn renew_leaf(&mut self, node: NodeId, state: OwnState) -> Option<OwnState>
         requires held { HasNode self.old node }
         requires parent { IfSome (cell self.old node).links.parent (HasNode self.old) }
+        requires short { IsShort state }
         ensures leaf { IsSome result ↔ IsFreeLeaf (cell self.old node) }
         ensures own { IfSome result (λ was. was ≡ (cell self.old node).own) }
         ensures changed { MatchOption result (self.new ≡ self.old)
@@ -55,6 +60,7 @@ impl Caches {
         requires room { 1 ≤ self.old.room.nodes }
         requires page { is_page (cell self.old node).name ≡ true }
         requires made { self.old.made < 3 * 2 ^ 61 }
+        requires short { IsShort state }
         ensures new { find self.old result ≡ None }
         ensures changed { self.new ≡ replaced self.old node result state }
         ensures held { HasNode self.new result }
@@ -105,7 +111,6 @@ impl Caches {
     {
         let run = Run {
             name: RunName::Working(0),
-            own: PlainState::Absent,
             parent: Some(parent),
             older: Some(older),
             newer: Some(newer),
@@ -135,15 +140,6 @@ impl Caches {
         ensures given { self.new ≡ given_way self.old node child }
     {
         self.nodes.give_way(node, child)
-    }
-
-    /// Puts alike nodes of pages that stand by themselves, from one on, as far as so many, into one
-    /// run, where they are worth it. Nothing changes that can be asked.
-    pub fn gather(&mut self, node: NodeId, most: u32)
-        requires held { HasNode self.old node }
-        ensures { self.new ≡ self.old }
-    {
-        self.nodes.gather(node, most);
     }
 
     /// Gives back a node that nothing names. The page that it was the node of has none then.

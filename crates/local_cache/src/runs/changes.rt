@@ -1,44 +1,15 @@
 // The changes of page nodes.
-ghost use Rattle.std.specs.Prelude.{◌≡◌, ◌+◌, ◌-◌, ◌<◌, ◌≤◌, ◌^◌, IfSome, length};
+ghost use Rattle.std.specs.Prelude.{refl, ◌≡◌, ◌+◌, ◌-◌, ◌<◌, ◌≤◌, ◌^◌, IfSome, length};
 ghost use Rattle.std.proofs.Common.{rules};
 ghost use Rattle.vm_ids.specs.declared.node_name.NodeName.TheVariants.{Live, Working};
-ghost use Rattle.local_cache.specs.Many.{IsPlain};
 ghost use Rattle.local_cache.specs.ManyNodes.{next_if};
-ghost use Rattle.local_cache.specs.NodeCells.{hanging, inheriting, named, over, owning, renewed, tree_of, with_before, with_behind, with_child, with_ends, with_place};
+ghost use Rattle.local_cache.specs.NodeCells.{hanging, named, over, stripped, tree_of, with_before, with_behind, with_child, with_ends, with_place};
 
+use crate::Ends;
 use crate::runs::pieces::next_if;
 use crate::runs::single::in_place;
-use crate::runs::{Change, ChangeEach, PlainState, Run, RunName, Single, plain};
-use crate::{Ends, OwnState};
+use crate::runs::{Change, ChangeEach, Run, RunName, Single};
 use vm_ids::{CacheId, NodeId, NodeName, PageNo};
-
-/// Sets where its own page is.
-#[derive(Clone, Copy)]
-pub(crate) struct SetOwn(pub OwnState);
-
-impl Change for SetOwn {
-    ghost cell = { λ c. owning c.0 };
-
-    fn of_single(self, single: &mut Single) {
-        single.set_own(self.0);
-    }
-}
-
-/// Sets where its own page is, and hangs it on a parent by a tree link, or on none.
-#[derive(Clone, Copy)]
-pub(crate) struct Rehang {
-    pub own: OwnState,
-    pub parent: Option<NodeId>,
-}
-
-impl Change for Rehang {
-    ghost cell = { λ c d. hanging c.parent (owning c.own d) };
-
-    fn of_single(self, single: &mut Single) {
-        single.set_own(self.own);
-        single.hang(self.parent);
-    }
-}
 
 /// Sets the ends of its list of stubs.
 #[derive(Clone, Copy)]
@@ -50,6 +21,8 @@ impl Change for SetEnds {
     fn of_single(self, single: &mut Single) {
         single.set_ends(self.0);
     }
+
+    ghost leaves = { λ _ _ _. refl };
 }
 
 /// Sets where it hangs, by which link, and between which neighbours.
@@ -67,6 +40,8 @@ impl Change for SetPlace {
     fn of_single(self, single: &mut Single) {
         single.set_place(self.parent, self.by_stub, self.before, self.behind);
     }
+
+    ghost leaves = { λ _ _ _. refl };
 }
 
 /// Sets the stub before it in its parent's list.
@@ -79,6 +54,8 @@ impl Change for SetBefore {
     fn of_single(self, single: &mut Single) {
         single.set_before(self.0);
     }
+
+    ghost leaves = { λ _ _ _. refl };
 }
 
 /// Sets the stub behind it in its parent's list.
@@ -91,6 +68,8 @@ impl Change for SetBehind {
     fn of_single(self, single: &mut Single) {
         single.set_behind(self.0);
     }
+
+    ghost leaves = { λ _ _ _. refl };
 }
 
 /// Hangs it on a parent by a tree link, or on none; each next one on the next parent.
@@ -103,6 +82,8 @@ impl Change for Hang {
     fn of_single(self, single: &mut Single) {
         single.hang(self.0);
     }
+
+    ghost leaves = { λ _ _ _. refl };
 }
 
 impl ChangeEach for Hang {
@@ -111,8 +92,6 @@ impl ChangeEach for Hang {
     ghost lasts = { λ c by. IfSome c.0 (λ p. p.0 + by < 2 ^ 64) };
 
     ghost has_names = { λ _ _. Unit {0} };
-
-    ghost is_plain = { λ _. Unit {0} };
 
     fn after(self, by: u32) -> Self {
         Hang(next_if(self.0, by))
@@ -130,7 +109,6 @@ impl ChangeEach for Hang {
       composes = Prim.search rules;
       numbers = Prim.search rules;
       names = Prim.search rules;
-      plain = λ _ _ h. h;
     } };
 }
 
@@ -160,6 +138,8 @@ impl Change for Adopt {
     fn of_single(self, single: &mut Single) {
         single.set_children(self.older, self.newer);
     }
+
+    ghost leaves = { λ _ _ _. refl };
 }
 
 impl ChangeEach for Adopt {
@@ -169,8 +149,6 @@ impl ChangeEach for Adopt {
         × IfSome c.newer (λ n. n.0 + by < 2 ^ 64) };
 
     ghost has_names = { λ _ _. Unit {0} };
-
-    ghost is_plain = { λ _. Unit {0} };
 
     fn after(self, by: u32) -> Self {
         Adopt {
@@ -192,7 +170,6 @@ impl ChangeEach for Adopt {
       composes = Prim.search rules;
       numbers = Prim.search rules;
       names = Prim.search rules;
-      plain = λ _ _ h. h;
     } };
 }
 
@@ -210,6 +187,8 @@ impl Change for Exchange {
     fn of_single(self, single: &mut Single) {
         single.exchange(self.gone, self.instead);
     }
+
+    ghost leaves = { λ _ _ _. refl };
 }
 
 impl ChangeEach for Exchange {
@@ -222,8 +201,6 @@ impl ChangeEach for Exchange {
         × IfSome c.instead (λ n. n.0 + by < 2 ^ 64) };
 
     ghost has_names = { λ _ _. Unit {0} };
-
-    ghost is_plain = { λ _. Unit {0} };
 
     fn after(self, by: u32) -> Self {
         Exchange {
@@ -246,93 +223,36 @@ impl ChangeEach for Exchange {
       composes = Prim.search rules;
       numbers = Prim.search rules;
       names = Prim.search rules;
-      plain = λ _ _ h. h;
     } };
 }
 
-/// Hangs it on a parent by a tree link, or on none, and gives it an own page where it has none;
-/// each next one on the next parent.
+/// Takes its links away: it has neither parent nor children.
 #[derive(Clone, Copy)]
-pub(crate) struct Inherit {
-    pub own: OwnState,
-    pub parent: Option<NodeId>,
-}
+pub(crate) struct Strip;
 
-impl Change for Inherit {
-    ghost cell = { λ c. inheriting c.own c.parent };
+impl Change for Strip {
+    ghost cell = { λ _. stripped };
 
     fn of_single(self, single: &mut Single) {
-        if single.own().is_absent() {
-            single.set_own(self.own);
-        }
-        single.hang(self.parent);
+        single.strip();
     }
+
+    ghost leaves = { λ _ _ _. refl };
 }
 
-impl ChangeEach for Inherit {
-    ghost after = { λ c by. record { own = c.own; parent = next_if c.parent by } };
-
-    ghost lasts = { λ c by. IfSome c.parent (λ p. p.0 + by < 2 ^ 64) };
-
-    ghost has_names = { λ _ _. Unit {0} };
-
-    ghost is_plain = { λ c. IsPlain c.own };
-
-    fn after(self, by: u32) -> Self {
-        Inherit {
-            own: self.own,
-            parent: next_if(self.parent, by),
-        }
-    }
-
-    fn of_run(self, run: Run) -> Run {
-        let own = match run.own {
-            PlainState::Absent => plain(self.own),
-            own => own,
-        };
-        Run {
-            own,
-            parent: self.parent,
-            ..run
-        }
-    }
-
-    ghost laws = { record {
-      starts = Prim.search rules;
-      composes = Prim.search rules;
-      numbers = Prim.search rules;
-      names = Prim.search rules;
-      plain = λ _ _ h. h;
-    } };
-}
-
-/// Makes it as new: it has this own state, and neither parent nor children.
-#[derive(Clone, Copy)]
-pub(crate) struct Renew(pub OwnState);
-
-impl Change for Renew {
-    ghost cell = { λ c. renewed c.0 };
-
-    fn of_single(self, single: &mut Single) {
-        single.renew(self.0);
-    }
-}
-
-impl ChangeEach for Renew {
+impl ChangeEach for Strip {
     ghost after = { λ c _. c };
 
     ghost lasts = { λ _ _. Unit {0} };
 
     ghost has_names = { λ _ _. Unit {0} };
 
-    ghost is_plain = { λ c. IsPlain c.0 };
-
     fn after(self, _by: u32) -> Self {
         self
     }
 
     fn of_run(self, run: Run) -> Run {
-        Run::fresh(run.name, plain(self.0))
+        Run::fresh(run.name)
     }
 
     ghost laws = { record {
@@ -340,7 +260,6 @@ impl ChangeEach for Renew {
       composes = Prim.search rules;
       numbers = Prim.search rules;
       names = Prim.search rules;
-      plain = λ _ _ h. h;
     } };
 }
 
@@ -357,6 +276,8 @@ impl Change for NameOfPage {
     fn of_single(self, single: &mut Single) {
         single.set_name(NodeName::Live(self.cache, self.page));
     }
+
+    ghost leaves = { λ _ _ _. refl };
 }
 
 impl ChangeEach for NameOfPage {
@@ -365,8 +286,6 @@ impl ChangeEach for NameOfPage {
     ghost lasts = { λ c by. c.page.0 + by < 2 ^ 32 };
 
     ghost has_names = { λ c by. c.page.0 + by < 2 ^ 32 };
-
-    ghost is_plain = { λ _. Unit {0} };
 
     fn after(self, by: u32) -> Self {
         NameOfPage {
@@ -387,7 +306,6 @@ impl ChangeEach for NameOfPage {
       composes = Prim.search rules;
       numbers = Prim.search rules;
       names = Prim.search rules;
-      plain = λ _ _ h. h;
     } };
 }
 
@@ -401,6 +319,8 @@ impl Change for NameWorking {
     fn of_single(self, single: &mut Single) {
         single.set_name(NodeName::Working(self.0));
     }
+
+    ghost leaves = { λ _ _ _. refl };
 }
 
 impl ChangeEach for NameWorking {
@@ -409,8 +329,6 @@ impl ChangeEach for NameWorking {
     ghost lasts = { λ c by. c.0 + by < 2 ^ 64 };
 
     ghost has_names = { λ c by. c.0 + by < 2 ^ 64 };
-
-    ghost is_plain = { λ _. Unit {0} };
 
     fn after(self, by: u32) -> Self {
         NameWorking(self.0 + by as u64)
@@ -428,6 +346,5 @@ impl ChangeEach for NameWorking {
       composes = Prim.search rules;
       numbers = Prim.search rules;
       names = Prim.search rules;
-      plain = λ _ _ h. h;
     } };
 }

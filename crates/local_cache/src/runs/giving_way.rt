@@ -1,12 +1,13 @@
 // A page node that gives way to its only child.
 ghost use Rattle.std.specs.Prelude.{◌≡◌, IfSome, ◌&&◌, not};
+ghost use Rattle.local_cache.specs.Joined.{IsShort};
 ghost use Rattle.local_cache.specs.NodeCells.{inheriting};
 ghost use Rattle.local_cache.specs.Own.{is_absent};
 ghost use Rattle.local_cache.specs.PageNodes.{HasNode, cell, given_way, on_cell, passes};
 
 use crate::OwnState;
 use crate::runs::NodeRuns;
-use crate::runs::changes::{Hang, Rehang};
+use crate::runs::changes::Hang;
 use vm_ids::NodeId;
 
 impl NodeRuns {
@@ -19,7 +20,7 @@ impl NodeRuns {
         ensures passed { result ≡ passes self.old node child }
         ensures given { self.new ≡ given_way self.old node child }
     {
-        let parent = self.table.parent(node.0);
+        let parent = self.table.links().parent(node.0);
         let own = self.table.own_state(node.0);
         self.exchange_child(parent, node, Some(child));
         let passed = self.take_place(child, own, parent);
@@ -30,13 +31,15 @@ impl NodeRuns {
     // A node is hung on another one, or on none, and gets this own page where it has none. Whether
     // it got one.
     fn take_place(&mut self, node: NodeId, own: OwnState, parent: Option<NodeId>) -> bool
-        requires { HasNode self.old node }
+        requires held { HasNode self.old node }
+        requires short { IsShort own }
         ensures passed { result ≡ (not (is_absent own) && is_absent (cell self.old node).own) }
         ensures taken { self.new ≡ on_cell self.old node (inheriting own parent) }
     {
         let passes = !own.is_absent() && self.table.own_state(node.0).is_absent();
         if passes {
-            self.change(node, Rehang { own, parent });
+            self.set_own(node, own);
+            self.change(node, Hang(parent));
         } else {
             self.change_there(node, Hang(parent));
         }

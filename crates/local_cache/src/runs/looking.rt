@@ -3,16 +3,16 @@ ghost use Rattle.std.specs.Prelude.{◌≡◌, ◌↔◌, ℕ, ◌+◌, ◌<◌,
 ghost use Rattle.std.specs.FinMap as map;
 ghost use Rattle.stretches.specs.Stretches.{said};
 ghost use Rattle.vm_ids.specs.declared.node_name.NodeName.TheVariants.{Live};
-ghost use Rattle.local_cache.specs.Looking.{AreAllMembers, IsInRow, IsOnWay, IsOwner};
+ghost use Rattle.local_cache.specs.Looking.{AreAllMembers, IsInRow};
 ghost use Rattle.local_cache.specs.Many.{CanBeAlike};
 ghost use Rattle.local_cache.specs.NodeCells.{HasCell, cell_at, is_page, run_cell};
 ghost use Rattle.local_cache.specs.ManyNodes.{next_if};
-ghost use Rattle.local_cache.specs.NodeTable.{AreSaidAlike, IsSayable};
+ghost use Rattle.local_cache.specs.LinkTable.{AreSaidAlike, IsSayable};
 ghost use Rattle.local_cache.specs.PageNodes.{name_behind};
 ghost use Rattle.local_cache.specs.Runs.{run};
 
 use crate::runs::pieces::numbers_from;
-use crate::runs::{NodeTable, Run, Single};
+use crate::runs::{LinkTable, Run, Single};
 use stretches::Stretch;
 use vm_ids::{CacheId, NodeId, NodeName, PageNo};
 
@@ -37,13 +37,6 @@ fn alike_alone(single: &Single) -> u32
     ensures one { 0 < result → (result ≡ 1) × IsSayable single.now }
 {
     if single.is_alike() { 1 } else { 0 }
-}
-
-// Where a way up ends: at a node with an own page, or at the next one to be looked at.
-#[derive(Clone, Copy)]
-enum Way {
-    Owner(u64),
-    On(u64),
 }
 
 // What is asked of each node of a row.
@@ -111,7 +104,7 @@ fn is_node_behind(node: Option<NodeId>, first: Option<NodeId>, by: u32) -> bool
     }
 }
 
-impl NodeTable {
+impl LinkTable {
     // How many nodes from this one on are alike: one run says all of them, each a step further on
     // than the one before. There is none only where a run can't say all of this node.
     #[inline(always)]
@@ -198,66 +191,5 @@ impl NodeTable {
             count += next.count.min(most - count);
         }
         count
-    }
-
-    // The first node with an own page on the way up from a node.
-    pub(crate) fn owner_from(&self, first: u64) -> NodeId
-        requires { (owner : ℕ) × IsOwner self.now.cells first owner }
-        ensures { IsOwner self.now.cells first result.0 }
-    {
-        let mut node = first;
-        while let Some(single) = self.nodes.recent(node) {
-            if !single.own().is_absent() {
-                return NodeId(node);
-            }
-            node = single.parent().unwrap().0;
-        }
-        self.search_owner(node)
-    }
-
-    // The same, wherever the nodes stand.
-    #[inline(never)]
-    fn search_owner(&self, first: u64) -> NodeId
-        requires { (owner : ℕ) × IsOwner self.now.cells first owner }
-        ensures { IsOwner self.now.cells first result.0 }
-    {
-        let mut node = first;
-        loop {
-            match self.nodes.place(node) {
-                Some(place) => {
-                    let single = self.nodes.at(place);
-                    if !single.own().is_absent() {
-                        return NodeId(node);
-                    }
-                    node = single.parent().unwrap().0;
-                }
-                None => match self.way_up(node) {
-                    Way::Owner(owner) => return NodeId(owner),
-                    Way::On(next) => node = next,
-                },
-            }
-        }
-    }
-
-    // The way up from a node that stands in a run, as long as each next node stands in a run right
-    // beside that of the one before.
-    fn way_up(&self, first: u64) -> Way
-        requires owner { (owner : ℕ) × IsOwner self.now.cells first owner }
-        requires told { IsSome (said run self.now.list first) }
-        ensures { IsOnWay self.now.cells first result }
-    {
-        let nodes = self.run_from(first);
-        if !nodes.value.own.is_absent() {
-            return Way::Owner(first);
-        }
-        let mut node = nodes.value.parent.unwrap().0;
-        while let Some(nodes) = self.nodes.stretch_beside(node) {
-            if !nodes.value.own.is_absent() {
-                return Way::Owner(node);
-            }
-            let before = (node - nodes.first) as u32;
-            node = nodes.value.parent_after(before).unwrap().0;
-        }
-        Way::On(node)
     }
 }

@@ -1,6 +1,7 @@
 // Page nodes that come and go, and that get other names.
 ghost use Rattle.std.specs.Prelude.{◌≡◌, ℕ, ◌+◌, ◌*◌, ◌<◌, ◌≤◌, ◌^◌, None, true};
 ghost use Rattle.std.specs.FinMap as map;
+ghost use Rattle.local_cache.specs.Joined.{IsShort};
 ghost use Rattle.local_cache.specs.NodeCells.{HasCell, HaveCells, cell_at, is_page, own_of_plain};
 ghost use Rattle.local_cache.specs.NodeKeys.{page_number};
 ghost use Rattle.local_cache.specs.PageNodes.{AreApart, AreNamedFrom, ArePaged, HasNode, HaveNodes, HaveNone, as_working, as_working_many, cell, exchanged_many, find, made_first, made_working, name_behind, renamed_each, with_new, without, without_many, without_names};
@@ -11,12 +12,13 @@ use crate::OwnState;
 use crate::runs::changes::{NameOfPage, NameWorking};
 use crate::runs::page_number::page_number;
 use crate::runs::pieces::Piece;
-use crate::runs::{NodeRuns, NodeTable, PageTable, PlainState, Run, RunName};
+use crate::runs::{LinkTable, NodeRuns, NodeTable, PageTable, Run, RunName};
+use own_states::Plain;
 use stretches::Stretch;
 use vm_ids::{CacheId, NodeId, NodeName, PageNo};
 
 // The pages that so many nodes are of, from one on, have no nodes any more. How many they are.
-fn leave_pages(nodes: &NodeTable, pages: &mut PageTable, first: u64, count: u32) -> u32
+fn leave_pages(nodes: &LinkTable, pages: &mut PageTable, first: u64, count: u32) -> u32
     requires held { HaveCells nodes.now.cells first count }
     requires short { first + count ≤ 2 ^ 64 }
     requires paged { ArePaged nodes.now.cells pages.old.nodes.cells }
@@ -45,7 +47,7 @@ struct Names {
 }
 
 // The name of the first of so many nodes, and how many are named by it and the next names.
-fn first_name(nodes: &NodeTable, first: u64, most: u32) -> Names
+fn first_name(nodes: &LinkTable, first: u64, most: u32) -> Names
     requires held { HasCell nodes.now.cells first }
     requires some { 0 < most }
     ensures some { 0 < result.count }
@@ -68,7 +70,7 @@ fn first_name(nodes: &NodeTable, first: u64, most: u32) -> Names
 
 impl NodeRuns {
     // Makes the first node of each of so many pages of a cache, under the numbers of the pages.
-    pub(crate) fn make_pages(&mut self, cache: CacheId, count: u32, own: PlainState)
+    pub(crate) fn make_pages(&mut self, cache: CacheId, count: u32, own: Plain)
         requires cache { cache.0 < 2 ^ 29 }
         requires room { count ≤ self.old.room }
         requires vacant { (page : ℕ) → page < count
@@ -78,11 +80,12 @@ impl NodeRuns {
         ensures { self.new ≡ made_first self.old cache (own_of_plain own) count }
     {
         let number = page_number(cache, PageNo(0));
-        self.table.insert_run(Stretch {
+        let nodes = Stretch {
             first: number,
             count,
-            value: Run::fresh(RunName::Pages(cache, PageNo(0)), own),
-        });
+            value: Run::fresh(RunName::Pages(cache, PageNo(0))),
+        };
+        self.table.insert_run(nodes, own);
         self.pages.enter(number, count, NodeId(number));
         self.counters.nodes += count;
         self.counters.live += count;
@@ -100,14 +103,15 @@ impl NodeRuns {
         ensures made { self.new ≡ made_working self.old result run count }
     {
         let first = self.counters.next_working();
-        self.table.insert_run(Stretch {
+        let nodes = Stretch {
             first,
             count,
             value: Run {
                 name: RunName::Working(self.counters.made + 1),
                 ..run
             },
-        });
+        };
+        self.table.insert_run(nodes, Plain::Absent);
         self.counters.nodes += count;
         self.counters.made += count as u64;
         self.counters.working += count as u64;
@@ -121,12 +125,13 @@ impl NodeRuns {
         requires page { is_page (cell self.old node).name ≡ true }
         requires room { 1 ≤ self.old.room }
         requires made { self.old.made < 3 * 2 ^ 61 }
+        requires short { IsShort own }
         ensures new { find self.old result ≡ None }
         ensures later { 2 ^ 61 ≤ result.0 }
         ensures replaced { self.new
             ≡ with_new (as_working self.old node) result (cell self.old node).name own }
     {
-        let name = self.table.name(node.0);
+        let name = self.table.links().name(node.0);
         let fresh = NodeId(self.counters.next_fresh());
         self.table
             .change(node.0, NameWorking(self.counters.made + 1));
@@ -145,7 +150,8 @@ impl NodeRuns {
         requires made { self.old.made + count ≤ 3 * 2 ^ 61 }
         ensures { self.new ≡ as_working_many self.old node count }
     {
-        self.counters.live -= leave_pages(&self.table, &mut self.pages, node.0, count);
+        self.counters.live -=
+            leave_pages(self.table.links(), &mut self.pages, node.0, count);
         self.table
             .change_each(node.0, count, NameWorking(self.counters.made + 1));
         self.counters.made += count as u64;
@@ -162,8 +168,8 @@ impl NodeRuns {
         if count == 0 {
             return;
         }
-        let name = self.table.name(node.0);
-        let other_name = self.table.name(other.0);
+        let name = self.table.links().name(node.0);
+        let other_name = self.table.links().name(other.0);
         self.table.rename(node.0, count, other_name);
         self.table.rename(other.0, count, name);
         self.pages.set_named(name, count, other);
@@ -175,7 +181,8 @@ impl NodeRuns {
         requires { HaveNodes self.old node count }
         ensures { self.new ≡ without_many self.old node count }
     {
-        self.counters.live -= leave_pages(&self.table, &mut self.pages, node.0, count);
+        self.counters.live -=
+            leave_pages(self.table.links(), &mut self.pages, node.0, count);
         self.table.remove_each(node.0, count);
         self.counters.nodes -= count;
     }
@@ -185,9 +192,8 @@ impl NodeRuns {
         requires { HasNode self.old node }
         ensures { self.new ≡ without self.old node }
     {
-        match self.table.nodes.place(node.0) {
-            Some(place) => {
-                let name = self.table.remove_at(place).name();
+        match self.table.remove_alone(node.0) {
+            Some(name) => {
                 self.counters.live -= self.pages.leave_named(name, 1);
                 self.counters.nodes -= 1;
             }

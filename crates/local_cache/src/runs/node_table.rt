@@ -1,68 +1,57 @@
-// The page nodes by their numbers: those that are alike as runs, and each other one as a single.
-ghost use Rattle.std.specs.Prelude.{◌≡◌, ◌≢◌, ℕ, ◌+◌, ◌<◌, ◌≤◌, [], true, None, Some, max, length, IsOk, IsSome, OnErr, OnOk};
+// The page nodes by their numbers: how they are linked, and where their own pages are.
+ghost use Rattle.std.specs.Prelude.{◌≡◌, ℕ, ◌+◌, ◌<◌, ◌≤◌, ◌^◌, true, false, None, max, IfSome, IsSome, MatchOption, OnErr, OnOk};
 ghost use Rattle.std.specs.FinMap as map;
-ghost use Rattle.stretches.specs.Changes.{SayNoMore};
 ghost use Rattle.stretches.specs.Stretch.{IsFit, is_in};
-ghost use Rattle.stretches.specs.Stretches.{AreTogether, said};
-ghost use Rattle.mixed_map.specs.Mixed.{IsStretchFrom, Tells, with_stretch, without_stretch};
-ghost use Rattle.mixed_map.specs.Place.{IsPlace};
+ghost use Rattle.mixed_map.specs.Mixed.{with_stretch, without_range};
 ghost use Rattle.local_cache.specs.Arena.{new_cell};
-ghost use Rattle.local_cache.specs.NodeCells.{HasCell, cell_at, changed, run_cell};
-ghost use Rattle.local_cache.specs.NodeTable.{HasFreeNumber, HaveFreeNumbers, IsLeastThin, SeesSame};
+ghost use Rattle.local_cache.specs.Joined.{AreLinkedAs, IsShort, has_kind, passed_each};
+ghost use Rattle.local_cache.specs.LinkTable.{AreFreeNumbers, HasFreeNumber, HaveFreeNumbers};
+ghost use Rattle.local_cache.specs.Looking.{IsOwner};
+ghost use Rattle.local_cache.specs.NodeCells.{HasCell, HaveCells, cell_at, changed, changed_each, own_of_plain, owning, run_cell};
 ghost use Rattle.local_cache.specs.Runs.{run};
 
 use crate::OwnState;
-use crate::runs::thin_nodes::{FirstThin, is_same_number};
-use crate::runs::{Change, Run, Single, ThinNodes};
-use mixed_map::{Alone, MixedMap, Place};
+use crate::runs::{Change, ChangeEach, LinkTable, Run};
+use own_states::{Kinds, OwnStates, Plain};
 use std::alloc::Global;
 use std::marker::Model;
-use stretches::{Says, Stretch};
+use stretches::Stretch;
 use vm_ids::{NoMemory, NodeId, NodeName};
 
-/// The page nodes by their numbers, and the thin ones among them by their working numbers.
+/// The page nodes by their numbers: how each is named and linked, and where its own page is.
 ///
-/// Its model is that of the map: the cell of each node, the slots of those that stand alone, the
-/// runs of the others, how many nodes there are, and for how many there is room.
+/// The two are kept apart. Many nodes in a row are linked alike though each has a page of its own in
+/// a frame or a swap slot, and pages come and go where links stay: a node that gets a page stays in
+/// its run. Its model is the join of both.
 #[derive(Drop)]
 pub(crate) struct NodeTable {
-    pub(crate) nodes: MixedMap<Run, Single>,
-    thin: ThinNodes,
-    // what singles are made with, which take no memory of it
-    alloc: Global,
+    // how they are named and linked
+    links: LinkTable,
+    // where the own page of each is
+    own: OwnStates,
 }
 
 impl Model for NodeTable {
-    ghost use Rattle.mixed_map.specs.Mixed.{Mixed};
-    ghost use Rattle.local_cache.specs.Arena.{Cell};
-    ghost use Rattle.local_cache.specs.Codes.{node_table_code};
-    ghost use Rattle.local_cache.specs.NodeTable.{IsTableRight};
-    ghost use Rattle.local_cache.specs.declared.runs.run.Run.{Run};
+    ghost use Rattle.local_cache.specs.Codes.{nodes_code};
+    ghost use Rattle.local_cache.specs.Joined.{AreJoined, Nodes, the_nodes};
 
-    ghost Value = { Mixed Run Cell };
+    ghost Value = { Nodes };
 
-    ghost coded = { node_table_code };
+    ghost coded = { nodes_code };
 
-    ghost view = { λ t. t.nodes };
+    ghost view = { λ t. the_nodes t.links t.own };
 
-    ghost invariant = { λ t. IsTableRight t.nodes t.thin };
+    ghost invariant = { λ t. AreJoined t.links t.own };
 }
 
 impl NodeTable {
     // No node, and no memory for one.
     pub(crate) fn new(alloc: Global) -> Self
-        ensures { result ≡ record {
-          cells = map.empty;
-          slots = map.empty;
-          list = [];
-          count = 0;
-          room = 0;
-        } }
+        ensures { result ≡ record { cells = map.empty; count = 0; room = 0 } }
     {
         NodeTable {
-            nodes: MixedMap::new(alloc),
-            thin: ThinNodes::new(alloc),
-            alloc,
+            links: LinkTable::new(alloc),
+            own: OwnStates::new(alloc),
         }
     }
 
@@ -71,197 +60,91 @@ impl NodeTable {
     pub(crate) fn reserve(&mut self, total: u32) -> Result<(), NoMemory>
         ensures ok { OnOk result (self.new ≡ record self.old { room = max self.old.room total }) }
         ensures err { OnErr result (self.new ≡ self.old) }
-        ensures enough { total ≤ self.old.room → IsOk result }
     {
-        self.thin.reserve(total)?;
-        self.nodes.reserve(total)?;
-        Ok(())
+        self.own.reserve(total)?;
+        self.links.reserve(total)
     }
 
-    // What is left of the run of a node that stands in one, from this node on.
-    pub(crate) fn run_from(&self, node: u64) -> Stretch<Run>
-        requires { IsSome (said run self.now.list node) }
-        ensures from { IsStretchFrom run run_cell self.now.cells node result }
-        ensures together { AreTogether self.now.list result.first result.count }
+    // How the nodes are named and linked.
+    #[inline(always)]
+    pub(crate) fn links(&self) -> &LinkTable
+        ensures { AreLinkedAs result.now.cells self.now.cells }
     {
-        match self.nodes.stretch_from(node) {
-            Some(nodes) => nodes,
+        &self.links
+    }
+
+    // Where a node's own page is.
+    #[inline(always)]
+    pub(crate) fn own_state(&self, node: u64) -> OwnState
+        requires { HasCell self.now.cells node }
+        ensures own { result ≡ (cell_at self.now.cells node).own }
+        ensures short { IsShort result }
+    {
+        match self.own.get(node) {
+            Some(own) => OwnState::of(own),
             None => unreachable!(),
         }
     }
 
-    // How many runs there are.
-    pub(crate) fn runs(&self) -> usize
-        ensures { result ≡ length self.now.list }
+    // How many nodes, from one on and as far as so many, have own states of these kinds.
+    pub(crate) fn having(&self, first: u64, most: u32, kinds: Kinds) -> u32
+        requires held { HaveCells self.now.cells first most }
+        requires short { first + most < 2 ^ 64 }
+        ensures within { result ≤ most }
+        ensures alike { (k : ℕ) → k < result
+            → has_kind kinds (cell_at self.now.cells (first + k)).own ≡ true }
+        ensures ends { result < most
+            → has_kind kinds (cell_at self.now.cells (first + result)).own ≡ false }
     {
-        self.nodes.stretch_count()
+        self.own.prefix(first, most, kinds)
     }
 
-    // The thin node with the least working number.
-    pub(crate) fn thin(&self) -> Option<NodeId>
-        ensures { IsLeastThin self.now.cells result }
+    // The first node with an own page on the way up from a node.
+    pub(crate) fn owner_from(&self, first: u64) -> NodeId
+        requires { (owner : ℕ) × IsOwner self.now.cells first owner }
+        ensures { IsOwner self.now.cells first result.0 }
     {
-        match self.thin.first() {
-            None => None,
-            Some(FirstThin::Alone(slot)) => Some(NodeId(self.nodes.place_of(slot).number)),
-            Some(FirstThin::Among(node)) => Some(NodeId(node)),
+        let mut node = first;
+        while self.own_state(node).is_absent() {
+            node = self.links.parent(node).unwrap().0;
         }
+        NodeId(node)
     }
 
-    // The place of a node, which is taken out of its run if it stands in one.
+    // Sets where a node's own page is: it stays in its run.
     #[inline(always)]
-    fn single(&mut self, node: u64) -> Place
-        requires { HasCell self.old.cells node }
-        ensures same { SeesSame self.old self.new }
-        ensures place { (result.number ≡ node) × IsPlace self.new.slots result }
-    {
-        match self.nodes.recent_place(node) {
-            Some(place) => place,
-            None => self.make_single(node),
-        }
-    }
-
-    // The same, wherever it stands.
-    #[inline(never)]
-    fn make_single(&mut self, node: u64) -> Place
-        requires { HasCell self.old.cells node }
-        ensures same { SeesSame self.old self.new }
-        ensures place { (result.number ≡ node) × IsPlace self.new.slots result }
-    {
-        match self.nodes.place(node) {
-            Some(place) => place,
-            None => self.take_out(node),
-        }
-    }
-
-    // Takes a node out of its run, and with it one that would stand there alone, before it or
-    // behind it. Its place.
-    #[inline(never)]
-    fn take_out(&mut self, node: u64) -> Place
-        requires { IsSome (said run self.old.list node) }
-        ensures same { SeesSame self.old self.new }
-        ensures place { (result.number ≡ node) × IsPlace self.new.slots result }
-    {
-        let nodes = match self.nodes.stretch_with(node) {
-            Some(nodes) => nodes,
-            None => unreachable!(),
-        };
-        let before = (node - nodes.first) as u32;
-        let behind = nodes.count - before - 1;
-        if before == 1 {
-            self.set_alone(nodes.first, nodes.value);
-        }
-        if behind == 1 {
-            self.set_alone(node + 1, nodes.value.after(before + 1));
-        }
-        self.set_alone(node, nodes.value.after(before))
-    }
-
-    // Takes a node, of which its run says this, out of it. Its place.
-    fn set_alone(&mut self, node: u64, value: Run) -> Place
-        requires fit { IsFit run (record { first = node; count = 1; value = value }) }
-        requires as_said { said run self.old.list node ≡ Some value }
-        requires told { map.get self.old.cells node ≡ Some (run_cell value) }
-        ensures same { SeesSame self.old self.new }
-        ensures others { (n : ℕ) → n ≢ node → said run self.new.list n ≡ said run self.old.list n }
-        ensures place { (result.number ≡ node) × IsPlace self.new.slots result }
-    {
-        self.remove_run(Stretch {
-            first: node,
-            count: 1,
-            value,
-        });
-        self.insert(node, Single::from_stretch(self.alloc, value))
-    }
-
-    // Takes in a node of which this is said, by itself. Its place.
-    #[inline(always)]
-    pub(crate) fn insert(&mut self, node: u64, single: Single) -> Place
-        requires vacant { map.get self.old.cells node ≡ None }
-        requires thin { HasFreeNumber self.old.cells single }
-        requires room { self.old.count < self.old.room }
-        ensures number { result.number ≡ node }
-        ensures inserted { self.new ≡ record self.old {
-          cells = map.insert self.old.cells node single;
-          slots = map.insert self.old.slots node result.slot;
-          count = self.old.count + 1;
-        } }
-    {
-        let thin = single.thin_number();
-        let place = self.nodes.insert(node, single);
-        self.thin.change(place.slot, None, thin);
-        place
-    }
-
-    // Takes in a node without parent and children, by itself.
-    pub(crate) fn insert_new(&mut self, node: u64, name: NodeName, own: OwnState)
-        requires vacant { map.get self.old.cells node ≡ None }
-        requires thin { HasFreeNumber self.old.cells (new_cell name own) }
-        requires room { self.old.count < self.old.room }
-        ensures cells { self.new.cells ≡ map.insert self.old.cells node (new_cell name own) }
-        ensures count { self.new.count ≡ self.old.count + 1 }
-        ensures room { self.new.room ≡ self.old.room }
-    {
-        self.insert(node, Single::new(self.alloc, name, own));
-    }
-
-    // Takes in nodes, as a run, or by itself where it is one.
-    pub(crate) fn insert_run(&mut self, nodes: Stretch<Run>)
-        requires fit { 0 < nodes.count → IsFit run nodes }
-        requires vacant { (n : ℕ) → is_in nodes n ≡ true → map.get self.old.cells n ≡ None }
-        requires thin { HaveFreeNumbers self.old.cells nodes }
-        requires room { self.old.count + nodes.count ≤ self.old.room }
-        ensures cells { self.new.cells ≡ with_stretch run run_cell self.old.cells nodes }
-        ensures count { self.new.count ≡ self.old.count + nodes.count }
-        ensures room { self.new.room ≡ self.old.room }
-    {
-        if nodes.count == 1 {
-            self.insert(nodes.first, Single::from_stretch(self.alloc, nodes.value));
-        } else if nodes.count > 1 {
-            self.nodes.insert_stretch(nodes);
-            self.thin.enter_run(nodes);
-        }
-    }
-
-    // Says something else of nodes of one run.
-    pub(crate) fn put_run(&mut self, nodes: Stretch<Run>, value: Run)
-        requires was { IsFit run nodes }
-        requires fit { IsFit run (record nodes { value = value }) }
-        requires together { AreTogether self.old.list nodes.first nodes.count }
-        requires told { Tells run run_cell self.old.cells nodes }
-        requires thin { HaveFreeNumbers (without_stretch self.old.cells nodes)
-            (record nodes { value = value }) }
-        ensures cells { self.new.cells
-            ≡ with_stretch run run_cell self.old.cells (record nodes { value = value }) }
-        ensures slots { self.new.slots ≡ self.old.slots }
-        ensures count { self.new.count ≡ self.old.count }
-        ensures room { self.new.room ≡ self.old.room }
-    {
-        let now = Stretch { value, ..nodes };
-        if is_same_number(value.thin_number(), nodes.value.thin_number()) {
-            self.nodes.put_stretch(now);
-        } else {
-            self.thin.leave_run(nodes);
-            self.nodes.put_stretch(now);
-            self.thin.enter_run(now);
-        }
-    }
-
-    // Changes the node at a place.
-    #[inline(always)]
-    pub(crate) fn change_at<C: Change>(&mut self, place: Place, change: C)
-        requires place { IsPlace self.old.slots place }
-        requires thin { HasFreeNumber (map.remove self.old.cells place.number)
-            (C.cell change (cell_at self.old.cells place.number)) }
+    pub(crate) fn set_own(&mut self, node: u64, own: OwnState)
+        requires held { HasCell self.old.cells node }
+        requires short { IsShort own }
         ensures { self.new ≡ record self.old {
-          cells = changed self.old.cells place.number (C.cell change);
+          cells = changed self.old.cells node (owning own);
         } }
     {
-        let single = self.nodes.at_mut(place);
-        let before = single.thin_number();
-        change.of_single(single);
-        let now = single.thin_number();
-        self.thin.change(place.slot, before, now);
+        self.own.set(node, own.kept());
+    }
+
+    // The same of so many nodes, from one on.
+    pub(crate) fn fill_own(&mut self, first: u64, count: u32, own: Plain)
+        requires held { HaveCells self.old.cells first count }
+        requires short { first + count < 2 ^ 64 }
+        ensures { self.new ≡ record self.old {
+          cells = changed_each self.old.cells first (λ _. owning (own_of_plain own)) count;
+        } }
+    {
+        self.own.fill(first, count, own);
+    }
+
+    // Each of so many nodes, from one on, that has no own page gets that of the next node from
+    // another one on.
+    pub(crate) fn pass_own(&mut self, first: u64, from: u64, count: u32)
+        requires held { HaveCells self.old.cells first count }
+        requires short { first + count < 2 ^ 64 }
+        requires short_from { from + count < 2 ^ 64 }
+        ensures { self.new ≡ record self.old {
+          cells = passed_each self.old.cells first from count;
+        } }
+    {
+        self.own.inherit(first, from, count);
     }
 
     // Changes one node, which stands by itself then.
@@ -271,46 +154,101 @@ impl NodeTable {
         requires thin { HasFreeNumber (map.remove self.old.cells node)
             (C.cell change (cell_at self.old.cells node)) }
         ensures cells { self.new.cells ≡ changed self.old.cells node (C.cell change) }
-        ensures alone { IsSome (map.get self.new.slots node) }
         ensures count { self.new.count ≡ self.old.count }
         ensures room { self.new.room ≡ self.old.room }
     {
-        let place = self.single(node);
-        self.change_at(place, change);
+        self.links.change(node, change);
     }
 
-    // Takes out the node at a place.
+    // Changes one node where it stands, by itself or in a run.
     #[inline(always)]
-    pub(crate) fn remove_at(&mut self, place: Place) -> Single
-        requires { IsPlace self.old.slots place }
-        ensures node { map.get self.old.cells place.number ≡ Some result }
-        ensures count { self.new.count + 1 ≡ self.old.count }
-        ensures removed { self.new ≡ record self.old {
-          cells = map.remove self.old.cells place.number;
-          slots = map.remove self.old.slots place.number;
-          count = self.new.count;
-        } }
-    {
-        let single = self.nodes.remove(place);
-        self.thin.change(place.slot, single.thin_number(), None);
-        single
-    }
-
-    // Takes out nodes of one run.
-    pub(crate) fn remove_run(&mut self, nodes: Stretch<Run>)
-        requires fit { IsFit run nodes }
-        requires together { AreTogether self.old.list nodes.first nodes.count }
-        requires told { Tells run run_cell self.old.cells nodes }
-        ensures cells { self.new.cells ≡ without_stretch self.old.cells nodes }
-        ensures apart { (n : ℕ) → is_in nodes n ≡ true → map.get self.old.slots n ≡ None }
-        ensures free { HaveFreeNumbers self.new.cells nodes }
-        ensures less { SayNoMore run self.old.list nodes self.new.list }
-        ensures slots { self.new.slots ≡ self.old.slots }
-        ensures count { self.new.count + nodes.count ≡ self.old.count }
-        ensures fits { self.new.count + nodes.count ≤ self.new.room }
+    pub(crate) fn change_there<C: ChangeEach>(&mut self, node: u64, change: C)
+        requires held { HasCell self.old.cells node }
+        requires lasts { C.lasts change 0 }
+        requires names { (k : ℕ) → k ≤ 1 → C.has_names change k }
+        requires thin { HasFreeNumber (map.remove self.old.cells node)
+            (C.cell change (cell_at self.old.cells node)) }
+        ensures cells { self.new.cells ≡ changed self.old.cells node (C.cell change) }
+        ensures count { self.new.count ≡ self.old.count }
         ensures room { self.new.room ≡ self.old.room }
     {
-        self.thin.leave_run(nodes);
-        self.nodes.remove_stretch(nodes.first, nodes.count);
+        self.links.change_there(node, change);
+    }
+
+    // Changes each of so many nodes, from one on: at once those of one run.
+    #[inline(always)]
+    pub(crate) fn change_each<C: ChangeEach>(&mut self, first: u64, count: u32, change: C)
+        requires held { HaveCells self.old.cells first count }
+        requires short { first + count ≤ 2 ^ 64 }
+        requires lasts { (k : ℕ) → k < count → C.lasts change k }
+        requires names { (k : ℕ) → k ≤ count → C.has_names change k }
+        requires thin { AreFreeNumbers self.old.cells first count (λ k. C.cell (C.after change k)) }
+        ensures cells { self.new.cells
+            ≡ changed_each self.old.cells first (λ k. C.cell (C.after change k)) count }
+        ensures count { self.new.count ≡ self.old.count }
+        ensures room { self.new.room ≡ self.old.room }
+    {
+        self.links.change_each(first, count, change);
+    }
+
+    // Takes in a node without parent and children, with this own state.
+    pub(crate) fn insert_new(&mut self, node: u64, name: NodeName, own: OwnState)
+        requires vacant { map.get self.old.cells node ≡ None }
+        requires thin { HasFreeNumber self.old.cells (new_cell name own) }
+        requires room { self.old.count < self.old.room }
+        requires short { IsShort own }
+        ensures cells { self.new.cells ≡ map.insert self.old.cells node (new_cell name own) }
+        ensures count { self.new.count ≡ self.old.count + 1 }
+        ensures room { self.new.room ≡ self.old.room }
+    {
+        self.links.insert_new(node, name);
+        self.own.insert(node, own.kept());
+    }
+
+    // Takes in nodes as a run, all of one own state.
+    pub(crate) fn insert_run(&mut self, nodes: Stretch<Run>, own: Plain)
+        requires fit { 0 < nodes.count → IsFit run nodes }
+        requires short { nodes.first + nodes.count < 2 ^ 64 }
+        requires vacant { (n : ℕ) → is_in nodes n ≡ true → map.get self.old.cells n ≡ None }
+        requires thin { HaveFreeNumbers self.old.cells nodes }
+        requires room { self.old.count + nodes.count ≤ self.old.room }
+        ensures cells { self.new.cells
+            ≡ with_stretch run (λ r. owning (own_of_plain own) (run_cell r)) self.old.cells nodes }
+        ensures count { self.new.count ≡ self.old.count + nodes.count }
+        ensures room { self.new.room ≡ self.old.room }
+    {
+        self.links.insert_run(nodes);
+        self.own.insert_many(nodes.first, nodes.count, own);
+    }
+
+    // Takes out a node that stands by itself. Its name, or `None` where it stands in a run, and
+    // then nothing changes.
+    #[inline(always)]
+    pub(crate) fn remove_alone(&mut self, node: u64) -> Option<NodeName>
+        requires held { HasCell self.old.cells node }
+        ensures name { IfSome result (λ name. name ≡ (cell_at self.old.cells node).name) }
+        ensures count { IfSome result (λ _. self.new.count + 1 ≡ self.old.count) }
+        ensures removed { MatchOption result (self.new ≡ self.old)
+            (λ _. self.new ≡ record self.old {
+              cells = map.remove self.old.cells node;
+              count = self.new.count;
+            }) }
+    {
+        let place = self.links.nodes.place(node)?;
+        let single = self.links.remove_at(place);
+        self.own.remove(node);
+        Some(single.name())
+    }
+
+    // Takes out so many nodes, from one on: at once those of one run.
+    pub(crate) fn remove_each(&mut self, first: u64, count: u32)
+        requires held { HaveCells self.old.cells first count }
+        requires short { first + count < 2 ^ 64 }
+        ensures cells { self.new.cells ≡ without_range self.old.cells first count }
+        ensures count { self.new.count + count ≡ self.old.count }
+        ensures room { self.new.room ≡ self.old.room }
+    {
+        self.links.remove_each(first, count);
+        self.own.remove_many(first, count);
     }
 }

@@ -3,11 +3,11 @@ ghost use Rattle.std.specs.Prelude.{◌≡◌, ◌↔◌, [], None, IfSome, IsSo
 ghost use Rattle.local_cache.specs.NodeCells.{HasCell, cell_at, ends_of, neighbours_of};
 ghost use Rattle.local_cache.specs.PageNodes.{IsFreeLeaf};
 
-use crate::runs::{FreeLeaf, NodeTable};
-use crate::{Ends, Links, Neighbours, OwnState};
+use crate::runs::{FreeLeaf, LinkTable};
+use crate::{Ends, Links, Neighbours};
 use vm_ids::{NodeId, NodeName};
 
-impl NodeTable {
+impl LinkTable {
     // The name of a node.
     pub(crate) fn name(&self, node: u64) -> NodeName
         requires { HasCell self.now.cells node }
@@ -16,18 +16,6 @@ impl NodeTable {
         match self.nodes.recent(node) {
             Some(single) => single.name(),
             None => self.search_name(node),
-        }
-    }
-
-    // Where a node's own page is.
-    #[inline(always)]
-    pub(crate) fn own_state(&self, node: u64) -> OwnState
-        requires { HasCell self.now.cells node }
-        ensures { result ≡ (cell_at self.now.cells node).own }
-    {
-        match self.nodes.recent(node) {
-            Some(single) => single.own(),
-            None => self.search_own(node),
         }
     }
 
@@ -126,13 +114,11 @@ impl NodeTable {
         }
     }
 
-    // A node's own state and its parent, or `None` exactly where something hangs on it or it hangs
-    // by a stub link.
+    // A node's parent, or `None` exactly where something hangs on it or it hangs by a stub link.
     #[inline(always)]
     pub(crate) fn free_leaf(&self, node: u64) -> Option<FreeLeaf>
         requires { HasCell self.now.cells node }
         ensures leaf { IsSome result ↔ IsFreeLeaf (cell_at self.now.cells node) }
-        ensures own { IfSome result (λ leaf. leaf.own ≡ (cell_at self.now.cells node).own) }
         ensures parent { IfSome result
             (λ leaf. leaf.parent ≡ (cell_at self.now.cells node).links.parent) }
     {

@@ -5,13 +5,12 @@ ghost use Rattle.local_cache.specs.NodeCells.{HasCell, cell_at, run_cell};
 ghost use Rattle.local_cache.specs.PageNodes.{IsFreeLeaf};
 ghost use Rattle.local_cache.specs.Runs.{run};
 
-use crate::runs::run::own_of_plain;
-use crate::runs::{FreeLeaf, NodeTable, Run, Single};
-use crate::{Links, OwnState};
+use crate::runs::{FreeLeaf, LinkTable, Run, Single};
+use crate::Links;
 use mixed_map::Found;
 use vm_ids::{NodeId, NodeName};
 
-impl NodeTable {
+impl LinkTable {
     // What is said of a node: by its single, or by its run.
     fn search(&self, node: u64) -> Found<'_, Run, Single>
         requires { HasCell self.now.cells node }
@@ -32,18 +31,6 @@ impl NodeTable {
         match self.search(node) {
             Found::Alone(single) => single.name(),
             Found::Told(run) => run.name.first(),
-        }
-    }
-
-    // Where its own page is.
-    #[inline(never)]
-    pub(crate) fn search_own(&self, node: u64) -> OwnState
-        requires { HasCell self.now.cells node }
-        ensures { result ≡ (cell_at self.now.cells node).own }
-    {
-        match self.search(node) {
-            Found::Alone(single) => single.own(),
-            Found::Told(run) => own_of_plain(run.own),
         }
     }
 
@@ -84,13 +71,11 @@ impl NodeTable {
         }
     }
 
-    // Its own state and its parent, or `None` exactly where something hangs on it or it hangs by a
-    // stub link.
+    // Its parent, or `None` exactly where something hangs on it or it hangs by a stub link.
     #[inline(never)]
     pub(crate) fn search_free_leaf(&self, node: u64) -> Option<FreeLeaf>
         requires { HasCell self.now.cells node }
         ensures leaf { IsSome result ↔ IsFreeLeaf (cell_at self.now.cells node) }
-        ensures own { IfSome result (λ leaf. leaf.own ≡ (cell_at self.now.cells node).own) }
         ensures parent { IfSome result
             (λ leaf. leaf.parent ≡ (cell_at self.now.cells node).links.parent) }
     {

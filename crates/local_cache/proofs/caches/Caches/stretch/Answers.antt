@@ -5,7 +5,7 @@ use Rattle.std.proofs.lemmas.Bool.{cases_eq}
 use Rattle.local_cache.specs.Arena.{Arena}
 use Rattle.local_cache.specs.Many.{AreAlike, CanBeAlike}
 use Rattle.local_cache.specs.NodeCells.{Cells, cell_at}
-use Rattle.local_cache.specs.NodeTable.{AreSaidAlike}
+use Rattle.local_cache.specs.LinkTable.{AreSaidAlike}
 use Rattle.local_cache.proofs.ArenaBy.Alike.{alike_by}
 use Rattle.local_cache.proofs.ArenaBy.Seen.{cell_seen, held_seen}
 use Rattle.local_cache.proofs.caches.Caches.stretch.Goals as goal

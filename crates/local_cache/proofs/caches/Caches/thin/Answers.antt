@@ -1,7 +1,7 @@
 use Rattle.std.proofs.Common.{subst}
 use Rattle.local_cache.specs.Arena.{Arena}
 use Rattle.local_cache.specs.NodeCells.{Cells}
-use Rattle.local_cache.specs.NodeTable as table
+use Rattle.local_cache.specs.LinkTable as table
 use Rattle.local_cache.specs.Thin.{IsLeastThin}
 use Rattle.local_cache.proofs.ArenaBy.Thin.{least_thin_by}
 use Rattle.local_cache.proofs.caches.Caches.thin.Goals as goal

@@ -5,7 +5,7 @@ use Rattle.vm_ids.specs.declared.node_name.NodeName.{NodeName}
 use Rattle.local_cache.specs.Arena.{Cell, blank}
 use Rattle.local_cache.specs.NodeCells.{Cells, HasCell, cell_at}
 use Rattle.local_cache.specs.NodeRuns.{AreNumbered}
-use Rattle.local_cache.specs.NodeTable.{Table}
+use Rattle.local_cache.specs.LinkTable.{Table}
 use Rattle.local_cache.specs.PageNodes.{ArePaged, PageNodes, without}
 use Rattle.local_cache.specs.Pages.{Pages, pages_with, without_pages}
 use Rattle.local_cache.specs.declared.runs.counters.Counters.{Counters}

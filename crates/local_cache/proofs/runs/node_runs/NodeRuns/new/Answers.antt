@@ -1,5 +1,5 @@
 use Rattle.std.proofs.Common.{refl, ap}
-use Rattle.local_cache.specs.NodeTable.{Table}
+use Rattle.local_cache.specs.LinkTable.{Table}
 use Rattle.local_cache.proofs.NodesKept.{empty_right}
 use Rattle.local_cache.proofs.runs.node_runs.NodeRuns.new.Goals as goal
 
