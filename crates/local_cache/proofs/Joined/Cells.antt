@@ -1,5 +1,5 @@
 -- What the join has of a number.
-use Rattle.std.proofs.Common.{◌≡◌, ℕ, List, [], ◌∷◌, Option, Some, None, IsSome, is_some, refl, sym, ap, ◌∙◌, inl, inr}
+use Rattle.std.proofs.Common.{◌≡◌, ℕ, List, [], ◌∷◌, Option, Some, None, IsSome, is_some, refl, sym, ap, ◌∙◌, inl, inr, arith}
 use Rattle.std.specs.Prelude.{option_and_then, option_map, unwrap_or}
 use Rattle.std.proofs.lemmas.Bool.{cases_eq, cond-true, cond-false, false≢true}
 use Rattle.std.specs.Cmp.{nat_cmp_total}
@@ -14,6 +14,7 @@ use Rattle.local_cache.specs.Joined.{AreLinkedAs, Owns, joined, state_at, with_o
 use Rattle.local_cache.specs.NodeCells.{Cells, HasCell, bare, cell_at, owning}
 use Rattle.local_cache.specs.NodeKeys.{key_at}
 use Rattle.local_cache.proofs.NodeCells.{len_within}
+use Rattle.local_cache.proofs.Singles.{none_of}
 
 -- the cell of a number with its own state
 abbrev pub owned : Owns → ℕ → Option Cell → Option Cell
@@ -63,6 +64,14 @@ module _ (m : Cells) (owns : Owns) where
   pub cell_joined : (q : ℕ) → HasCell m q → cell_at (joined m owns) q ≡ owning (state_at owns q) (cell_at m q)
   cell_joined q held = ap (λ (o : Option Cell). unwrap_or o blank) (get_joined q) ∙ owned_or q (map.get m q) held
 
+  -- a number that has no cell in the join has none
+  none_owned : (q : ℕ) (o : Option Cell) → owned owns q o ≡ None → o ≡ None
+  none_owned q None e = refl
+  none_owned q (Some c) e = absurd (cc e)
+
+  pub none_joined_at : (q : ℕ) → map.get (joined m owns) q ≡ None → map.get m q ≡ None
+  none_joined_at q e = none_owned q (map.get m q) (sym (get_joined q) ∙ e)
+
   -- a key that tells nothing of own states
   module _ (key : Cell → Option ℕ) (keeps : (s : OwnState) (c : Cell) → key (owning s c) ≡ key c) where
     key_owned : (q : ℕ) (o : Option Cell) → option_and_then key (owned owns q o) ≡ option_and_then key o
@@ -79,6 +88,10 @@ module _ (m : Cells) (owns : Owns) where
   -- the join is linked as the links are
   pub linked_joined : AreLinkedAs m (joined m owns)
   linked_joined q = bare_owned q (map.get m q) ∙ sym (ap (option_map bare) (get_joined q))
+
+-- a number without a cell has no own state
+pub none_both : (m : Cells) (owns : Owns) (q : ℕ) → is_some (map.get owns q) ≡ is_some (map.get m q) → map.get m q ≡ None → map.get owns q ≡ None
+none_both m owns q same none = none_of (map.get owns q) (same ∙ ap is_some none)
 
 -- Cells that are linked as others
 

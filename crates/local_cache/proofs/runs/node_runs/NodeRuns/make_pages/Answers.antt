@@ -4,7 +4,8 @@ use Rattle.stretches.specs.Stretch.{is_in}
 use Rattle.stretches.specs.declared.stretch.Stretch.{Stretch}
 use Rattle.stretches.proofs.Reading.Numbers.{high, low}
 use Rattle.mixed_map.specs.Mixed.{with_stretch}
-use Rattle.local_cache.specs.NodeCells.{Cells, own_of_plain, run_cell}
+use Rattle.local_cache.specs.Arena.{Cell}
+use Rattle.local_cache.specs.NodeCells.{Cells, own_of_plain, owning, run_cell}
 use Rattle.local_cache.specs.NodeKeys.{page_number}
 use Rattle.local_cache.specs.NodeRuns.{AreNumbered}
 use Rattle.local_cache.specs.PageNodes.{ArePaged, PageNodes, made_first}
@@ -24,6 +25,10 @@ base c = page_number c.args.cache.0 0
 
 abbrev nodes : goal.After-self-2-1 → Stretch Run
 nodes c = record { first = page_number c.args.cache.0 0; count = c.args.count; value = c.fresh.result }
+
+-- what the run says, with the own state of all
+abbrev told : goal.After-self-2-1 → Run → Cell
+told c v = owning (own_of_plain c.args.own) (run_cell v)
 
 abbrev counted : goal.After-self-2-1 → Counters
 counted c = record c.self.inside.counters {
@@ -80,10 +85,10 @@ free c n inside =
     ap (λ (m : PageNodes). map.get m.pages n) c.self.view_is ∙ ap (map.get c.args.self.now.pages) at
     ∙ c.requires.vacant (n - base c) (omega (arith, from, high (nodes c) n inside))
 
-cells_are : (c : goal.After-self-2-1) → c.insert_run.new.self.cells ≡ with_stretch run run_cell c.self.inside.table.cells (nodes c)
+cells_are : (c : goal.After-self-2-1) → c.insert_run.new.self.cells ≡ with_stretch run (told c) c.self.inside.table.cells (nodes c)
 cells_are c =
     c.insert_run.ensures.cells
-    ∙ ap (λ (n : ℕ). with_stretch run run_cell c.self.inside.table.cells (record { first = n; count = c.args.count; value = c.fresh.result })) c.page_number-number.ensures
+    ∙ ap (λ (n : ℕ). with_stretch run (told c) c.self.inside.table.cells (record { first = n; count = c.args.count; value = c.fresh.result })) c.page_number-number.ensures
 
 pages_are : (c : goal.After-self-2-1) → c.enter.new.self.nodes.cells ≡ pages_from c.self.inside.pages.nodes.cells (base c) (record { 0 = base c }) c.args.count
 pages_are c =
@@ -91,7 +96,7 @@ pages_are c =
     ∙ ap (λ (n : ℕ). pages_from c.self.inside.pages.nodes.cells n (record { 0 = n }) c.args.count) c.page_number-number.ensures
 
 more : (c : goal.After-self-2-1) → map.len c.insert_run.new.self.cells ≡ map.len c.self.inside.table.cells + c.args.count
-more c = ap map.len (cells_are c) ∙ len_come run run_cell c.self.inside.table.cells (nodes c) c.args.count (λ k less.
+more c = ap map.len (cells_are c) ∙ len_come run (told c) c.self.inside.table.cells (nodes c) c.args.count (λ k less.
     ap (λ (m : PageNodes). map.get m.cells (base c + k)) c.self.view_is
     ∙ (let at : base c + k ≡ page_number c.args.cache.0 k = omega arith in ap (map.get c.args.self.now.cells) at) ∙ c.requires.numbers k less)
 
@@ -110,11 +115,11 @@ invariant_of-self c =
     let paged = paged_made c.args.cache s c.fresh.result c.fresh.ensures t.cells p.nodes.cells c.args.count right.paged (vacant c) (free c) in
     let numbered = numbered_made c.args.cache s c.fresh.result c.fresh.ensures t.cells c.args.count c.self.inside.counters right.numbered c.requires.cache (omega (arith, room, right.places.few)) in
     let P : Cells → Type 0 = λ x. ArePaged x c.enter.new.self.nodes.cells in
-    let Q : Pages → Type 0 = λ q. ArePaged (with_stretch run run_cell t.cells (nodes c)) q in
+    let Q : Pages → Type 0 = λ q. ArePaged (with_stretch run (told c) t.cells (nodes c)) q in
     let R : Cells → Type 0 = λ x. AreNumbered x (counted c) in
     record {
       paged = subst P (sym (cells_are c)) (subst Q (sym (pages_are c)) paged);
-      numbered = subst R (sym (cells_are c)) (numbered_as (with_stretch run run_cell t.cells (nodes c)) c.self.inside.counters (counted c) refl refl refl numbered);
+      numbered = subst R (sym (cells_are c)) (numbered_as (with_stretch run (told c) t.cells (nodes c)) c.self.inside.counters (counted c) refl refl refl numbered);
       counted = record {
         nodes = omega (arith, more c, right.counted.nodes);
         live = omega (arith, more_pages c, right.counted.live);
