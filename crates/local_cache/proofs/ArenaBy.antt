@@ -24,6 +24,8 @@ pub mod Calls
 pub mod Locked
 -- The caches as they are seen, an arena, and each call.
 pub mod Seen
+-- What the links of page nodes tell of the arena's nodes.
+pub mod Linked
 -- A change of one node as one of so many.
 pub mod OneOfMany
 -- New working nodes over others.

@@ -1,5 +1,5 @@
 mod Clones
 pub mod Maps
-pub mod Filling
+mod Filling
 mod Keeping
 pub mod Telling

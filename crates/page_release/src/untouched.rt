@@ -4,7 +4,7 @@ ghost use Rattle.local_cache.specs.Arena.{HasNode, cell};
 ghost use Rattle.local_cache.specs.Own.{own_of};
 ghost use Rattle.page_release.specs.Untouched.{AreUntouched};
 
-use local_cache::{Caches, Kinds, OwnState};
+use local_cache::{Caches, OwnState, own_kinds};
 use vm_ids::NodeId;
 
 // Whether an own page is on its segment alone.
@@ -35,7 +35,7 @@ pub(crate) fn untouched_nodes(caches: &Caches, node: NodeId, most: u32) -> u32
 {
     if is_untouched(caches, node) {
         let alike = caches.stretch(node).min(most);
-        caches.having(node, alike, Kinds::ON_SEGMENT)
+        caches.having(node, alike, own_kinds::ON_SEGMENT)
     } else {
         0
     }

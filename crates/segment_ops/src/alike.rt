@@ -7,7 +7,7 @@ ghost use Rattle.local_cache.specs.ManyNodes.{next_node};
 ghost use Rattle.local_cache.specs.Own.{is_absent, is_resident, own_of};
 ghost use Rattle.residency.specs.World.{is_clean as is_page_clean};
 
-use local_cache::{Caches, Kinds, OwnState};
+use local_cache::{Caches, Kinds, OwnState, own_kinds};
 use vm_ids::NodeId;
 
 // Whether a segment holds the own page of a node.
@@ -46,7 +46,7 @@ pub(crate) fn clean_nodes(caches: &Caches, node: NodeId, most: u32) -> u32
     ensures alike { AreAlike caches.now node result }
     ensures clean { 0 < result → is_page_clean (own_of caches.now node) ≡ true }
 {
-    alike_of(caches, node, most, Kinds::CLEAN)
+    alike_of(caches, node, most, own_kinds::CLEAN)
 }
 
 // How many nodes, from one on, are alike and have own pages in no frame, as far as so many.
@@ -56,7 +56,7 @@ pub(crate) fn frameless_nodes(caches: &Caches, node: NodeId, most: u32) -> u32
     ensures alike { AreAlike caches.now node result }
     ensures out { 0 < result → is_resident (own_of caches.now node) ≡ false }
 {
-    alike_of(caches, node, most, Kinds::FRAMELESS)
+    alike_of(caches, node, most, own_kinds::FRAMELESS)
 }
 
 // How many nodes, from one on, are alike and have no heirs: no own pages, or no children. As far as
@@ -71,6 +71,6 @@ pub(crate) fn heirless_nodes(caches: &Caches, node: NodeId, most: u32) -> u32
     if caches.tree_child(node, 0).is_none() {
         caches.stretch(node).min(most)
     } else {
-        alike_of(caches, node, most, Kinds::ABSENT)
+        alike_of(caches, node, most, own_kinds::ABSENT)
     }
 }
