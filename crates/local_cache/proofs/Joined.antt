@@ -8,5 +8,7 @@ pub mod Cells
 pub mod Changes
 -- What holds of both maps, after each call.
 pub mod Kept
+-- Own pages that nodes get from others.
+pub mod Passing
 -- Numbers that no other node has.
 pub mod Numbers

@@ -31,7 +31,7 @@ pub none_joined : (m : Cells) (owns : Owns) → m ≡ map.empty → joined m own
 none_joined m owns none =
     is_joined m owns map.empty (λ q. get-empty nat_cmp q ∙ sym (ap (owned owns q) (ap (λ (x : Cells). map.get x q) none ∙ get-empty nat_cmp q)))
 
-some_cell : (o : Option Cell) → IsSome o → o ≡ Some (unwrap_or o blank)
+pub some_cell : (o : Option Cell) → IsSome o → o ≡ Some (unwrap_or o blank)
 some_cell None some = absurd (false≢true some)
 some_cell (Some c) some = refl
 
