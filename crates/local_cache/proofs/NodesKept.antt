@@ -11,10 +11,10 @@ use Rattle.vm_ids.specs.declared.node_name.NodeName.{NodeName}
 use Rattle.vm_ids.specs.declared.node_name.NodeName.TheVariants.{Working as WorkingNode}
 use Rattle.vm_ids.specs.declared.numbers.NodeId.{NodeId}
 use Rattle.local_cache.specs.Arena.{Cell, blank}
-use Rattle.local_cache.specs.NodeCells.{Cells, HasCell, HaveCells, cell_at, changed, changed_each, named, with_child}
+use Rattle.local_cache.specs.NodeCells.{Cells, HasCell, HaveCells, cell_at, changed, changed_each, heir_of, named, with_child}
 use Rattle.local_cache.specs.NodeKeys.{key_at, number_of_name, page_key, page_of_name, working_number}
 use Rattle.local_cache.specs.NodeRuns.{AreNodesRight, AreNumbered, IsGiven}
-use Rattle.local_cache.specs.Joined.{Nodes}
+use Rattle.local_cache.specs.Joined.{Nodes, passed_each}
 use Rattle.local_cache.specs.LinkTable.{AreFreeNumbers, HasFreeNumber}
 use Rattle.local_cache.specs.PageNodes.{ArePaged, HasNode, KeepsNames, PageNodes, cell, cut_from, on_cell}
 use Rattle.local_cache.specs.Pages.{Pages}
@@ -157,9 +157,12 @@ given_below m c numbered n held = elim (numbered.given n held) [
   ]
 ]
 
+pub many_far : (m : Cells) (c : Counters) → AreNumbered m c → (first count : ℕ) → first < 2 ^ 64 → HaveCells m first count → first + count < 2 ^ 64
+many_far m c numbered first zero fits held = omega (arith, fits)
+many_far m c numbered first (suc k) fits held = omega (arith, given_below m c numbered (first + k) (held k (omega arith)))
+
 pub many_short : (m : Cells) (c : Counters) → AreNumbered m c → (first count : ℕ) → first < 2 ^ 64 → HaveCells m first count → first + count ≤ 2 ^ 64
-many_short m c numbered first zero fits held = omega (arith, fits)
-many_short m c numbered first (suc k) fits held = omega (arith, given_below m c numbered (first + k) (held k (omega arith)))
+many_short m c numbered first count fits held = omega (arith, many_far m c numbered first count fits held)
 
 -- No node
 

@@ -57,6 +57,16 @@ changed_here m n f q e = insert_same m n (f (cell_at m n)) q e
 pub changed_other : (m : Cells) (n : ℕ) (f : Cell → Cell) (q : ℕ) → q ≢ n → map.get (changed m n f) q ≡ map.get m q
 changed_other m n f q other = insert_other m n (f (cell_at m n)) q other
 
+-- a cell that is changed twice is changed at once
+pub changed_twice : (m : Cells) (n : ℕ) (f g : Cell → Cell) → changed (changed m n f) n g ≡ changed m n (λ c. g (f c))
+changed_twice m n f g = same _ _ (λ q. elim (cases_eq q n) [
+  | inl here ↦
+      changed_here (changed m n f) n g q here
+      ∙ ap (λ (o : Option Cell). Some (g (unwrap_or o blank))) (changed_here m n f n refl)
+      ∙ sym (changed_here m n (λ c. g (f c)) q here)
+  | inr other ↦ changed_other (changed m n f) n g q other ∙ changed_other m n f q other ∙ sym (changed_other m n (λ c. g (f c)) q other)
+])
+
 module _ (m : Cells) (first : ℕ) (f : ℕ → Cell → Cell) where
   pub each_before : (count n : ℕ) → n < first → map.get (changed_each m first f count) n ≡ map.get m n
   each_before zero n h = refl
@@ -115,3 +125,12 @@ reinserted m n x is = same _ _ (λ q. elim (cases_eq q n) [
       let zero_on : n + 0 ≡ n = omega arith in
       insert_other (without_range m n 1) n x q other ∙ ap (λ (k : ℕ). map.get (map.remove m k) q) zero_on ∙ remove_other m n q other
 ])
+
+-- so many cells that are changed twice are changed at once
+pub each_twice : (m : Cells) (first : ℕ) (f g : ℕ → Cell → Cell) (count : ℕ) → changed_each (changed_each m first f count) first g count ≡ changed_each m first (λ k c. g k (f k c)) count
+each_twice m first f g count = each_is m first (λ k c. g k (f k c)) count (changed_each (changed_each m first f count) first g count)
+    (λ k less.
+    each_at (changed_each m first f count) first g count k less
+    ∙ ap (λ (o : Option Cell). Some (g k (unwrap_or o blank))) (each_at m first f count k less))
+    (λ n low. each_before (changed_each m first f count) first g count n low ∙ each_before m first f count n low)
+    (λ n high. each_behind (changed_each m first f count) first g count n high ∙ each_behind m first f count n high)

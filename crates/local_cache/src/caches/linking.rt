@@ -102,8 +102,7 @@ impl Caches {
         ensures changed { self.new ≡ hung (with_own self.old node state) node parent }
         ensures stays { NodesStay self.old self.new }
     {
-        self.nodes.set_own(node, state);
-        self.nodes.change(node, Hang(parent));
+        self.nodes.rehang(node, state, parent);
     }
 
     /// Hangs so many nodes, from one on, each on the next parent by a tree link. Nothing is done to

@@ -12,7 +12,7 @@ ghost use Rattle.vm_ids.specs.declared.numbers.PageNo.{PageNo};
 
 use crate::OwnState;
 use crate::caches::Caches;
-use crate::runs::{Run, RunName, Strip};
+use crate::runs::{Run, RunName};
 use vm_ids::{CacheId, NodeId, PageNo};
 
 impl Caches {
@@ -28,11 +28,9 @@ impl Caches {
         ensures stays { NodesStay self.old self.new }
     {
         if count == 1 {
-            self.nodes.set_own(node, state);
-            self.nodes.change(node, Strip);
+            self.nodes.renew(node, state);
         } else {
-            self.nodes.fill_own(node, count, state.plain());
-            self.nodes.change_each(node, count, Strip);
+            self.nodes.renew_each(node, count, state.plain());
         }
     }
 

@@ -20,7 +20,7 @@ impl NodeRuns {
         ensures passed { result ≡ passes self.old node child }
         ensures given { self.new ≡ given_way self.old node child }
     {
-        let parent = self.table.links().parent(node.0);
+        let parent = self.table.parent(node.0);
         let own = self.table.own_state(node.0);
         self.exchange_child(parent, node, Some(child));
         let passed = self.take_place(child, own, parent);
@@ -38,8 +38,7 @@ impl NodeRuns {
     {
         let passes = !own.is_absent() && self.table.own_state(node.0).is_absent();
         if passes {
-            self.set_own(node, own);
-            self.change(node, Hang(parent));
+            self.rehang(node, own, parent);
         } else {
             self.change_there(node, Hang(parent));
         }

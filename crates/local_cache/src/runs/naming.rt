@@ -12,13 +12,13 @@ use crate::OwnState;
 use crate::runs::changes::{NameOfPage, NameWorking};
 use crate::runs::page_number::page_number;
 use crate::runs::pieces::Piece;
-use crate::runs::{LinkTable, NodeRuns, NodeTable, PageTable, Run, RunName};
+use crate::runs::{NodeRuns, NodeTable, PageTable, Run, RunName};
 use own_states::Plain;
 use stretches::Stretch;
 use vm_ids::{CacheId, NodeId, NodeName, PageNo};
 
 // The pages that so many nodes are of, from one on, have no nodes any more. How many they are.
-fn leave_pages(nodes: &LinkTable, pages: &mut PageTable, first: u64, count: u32) -> u32
+fn leave_pages(nodes: &NodeTable, pages: &mut PageTable, first: u64, count: u32) -> u32
     requires held { HaveCells nodes.now.cells first count }
     requires short { first + count ≤ 2 ^ 64 }
     requires paged { ArePaged nodes.now.cells pages.old.nodes.cells }
@@ -47,7 +47,7 @@ struct Names {
 }
 
 // The name of the first of so many nodes, and how many are named by it and the next names.
-fn first_name(nodes: &LinkTable, first: u64, most: u32) -> Names
+fn first_name(nodes: &NodeTable, first: u64, most: u32) -> Names
     requires held { HasCell nodes.now.cells first }
     requires some { 0 < most }
     ensures some { 0 < result.count }
@@ -56,13 +56,14 @@ fn first_name(nodes: &LinkTable, first: u64, most: u32) -> Names
     ensures names { (k : ℕ) → k < result.count
         → (cell_at nodes.now.cells (first + k)).name ≡ name_behind result.name k }
 {
-    match nodes.some_from(first, most) {
+    let links = nodes.links();
+    match links.some_from(first, most) {
         Piece::Run(run) => Names {
             name: run.value.name.first(),
             count: run.count,
         },
         Piece::Single(place) => Names {
-            name: nodes.nodes.at(place).name(),
+            name: links.nodes.at(place).name(),
             count: 1,
         },
     }
@@ -131,7 +132,7 @@ impl NodeRuns {
         ensures replaced { self.new
             ≡ with_new (as_working self.old node) result (cell self.old node).name own }
     {
-        let name = self.table.links().name(node.0);
+        let name = self.table.name(node.0);
         let fresh = NodeId(self.counters.next_fresh());
         self.table
             .change(node.0, NameWorking(self.counters.made + 1));
@@ -150,8 +151,7 @@ impl NodeRuns {
         requires made { self.old.made + count ≤ 3 * 2 ^ 61 }
         ensures { self.new ≡ as_working_many self.old node count }
     {
-        self.counters.live -=
-            leave_pages(self.table.links(), &mut self.pages, node.0, count);
+        self.counters.live -= leave_pages(&self.table, &mut self.pages, node.0, count);
         self.table
             .change_each(node.0, count, NameWorking(self.counters.made + 1));
         self.counters.made += count as u64;
@@ -168,8 +168,8 @@ impl NodeRuns {
         if count == 0 {
             return;
         }
-        let name = self.table.links().name(node.0);
-        let other_name = self.table.links().name(other.0);
+        let name = self.table.name(node.0);
+        let other_name = self.table.name(other.0);
         self.table.rename(node.0, count, other_name);
         self.table.rename(other.0, count, name);
         self.pages.set_named(name, count, other);
@@ -181,8 +181,7 @@ impl NodeRuns {
         requires { HaveNodes self.old node count }
         ensures { self.new ≡ without_many self.old node count }
     {
-        self.counters.live -=
-            leave_pages(self.table.links(), &mut self.pages, node.0, count);
+        self.counters.live -= leave_pages(&self.table, &mut self.pages, node.0, count);
         self.table.remove_each(node.0, count);
         self.counters.nodes -= count;
     }

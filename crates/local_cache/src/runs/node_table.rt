@@ -1,5 +1,5 @@
 // The page nodes by their numbers: how they are linked, and where their own pages are.
-ghost use Rattle.std.specs.Prelude.{◌≡◌, ℕ, ◌+◌, ◌<◌, ◌≤◌, ◌^◌, true, false, None, max, IfSome, IsSome, MatchOption, OnErr, OnOk};
+ghost use Rattle.std.specs.Prelude.{◌≡◌, ◌↔◌, ℕ, ◌+◌, ◌<◌, ◌≤◌, ◌^◌, true, false, None, max, IfSome, IsSome, MatchOption, OnErr, OnOk};
 ghost use Rattle.std.specs.FinMap as map;
 ghost use Rattle.stretches.specs.Stretch.{IsFit, is_in};
 ghost use Rattle.mixed_map.specs.Mixed.{with_stretch, without_range};
@@ -8,10 +8,11 @@ ghost use Rattle.local_cache.specs.Joined.{AreLinkedAs, IsShort, has_kind, passe
 ghost use Rattle.local_cache.specs.LinkTable.{AreFreeNumbers, HasFreeNumber, HaveFreeNumbers};
 ghost use Rattle.local_cache.specs.Looking.{IsOwner};
 ghost use Rattle.local_cache.specs.NodeCells.{HasCell, HaveCells, cell_at, changed, changed_each, own_of_plain, owning, run_cell};
+ghost use Rattle.local_cache.specs.PageNodes.{IsFreeLeaf};
 ghost use Rattle.local_cache.specs.Runs.{run};
 
 use crate::OwnState;
-use crate::runs::{Change, ChangeEach, LinkTable, Run};
+use crate::runs::{Change, ChangeEach, FreeLeaf, LinkTable, Run};
 use own_states::{Kinds, OwnStates, Plain};
 use std::alloc::Global;
 use std::marker::Model;
@@ -73,6 +74,34 @@ impl NodeTable {
         &self.links
     }
 
+    // The name of a node.
+    pub(crate) fn name(&self, node: u64) -> NodeName
+        requires { HasCell self.now.cells node }
+        ensures { result ≡ (cell_at self.now.cells node).name }
+    {
+        self.links.name(node)
+    }
+
+    // The node that a node hangs on, if any.
+    #[inline(always)]
+    pub(crate) fn parent(&self, node: u64) -> Option<NodeId>
+        requires { HasCell self.now.cells node }
+        ensures { result ≡ (cell_at self.now.cells node).links.parent }
+    {
+        self.links.parent(node)
+    }
+
+    // A node's parent, or `None` exactly where something hangs on it or it hangs by a stub link.
+    #[inline(always)]
+    pub(crate) fn free_leaf(&self, node: u64) -> Option<FreeLeaf>
+        requires { HasCell self.now.cells node }
+        ensures leaf { IsSome result ↔ IsFreeLeaf (cell_at self.now.cells node) }
+        ensures parent { IfSome result
+            (λ leaf. leaf.parent ≡ (cell_at self.now.cells node).links.parent) }
+    {
+        self.links.free_leaf(node)
+    }
+
     // Where a node's own page is.
     #[inline(always)]
     pub(crate) fn own_state(&self, node: u64) -> OwnState
@@ -106,7 +135,7 @@ impl NodeTable {
     {
         let mut node = first;
         while self.own_state(node).is_absent() {
-            node = self.links.parent(node).unwrap().0;
+            node = self.parent(node).unwrap().0;
         }
         NodeId(node)
     }
