@@ -5,8 +5,8 @@ ghost use Rattle.local_cache.specs.NodeCells.{HasCell, cell_at, run_cell};
 ghost use Rattle.local_cache.specs.PageNodes.{IsFreeLeaf};
 ghost use Rattle.local_cache.specs.Runs.{run};
 
-use crate::runs::{FreeLeaf, LinkTable, Run, Single};
 use crate::Links;
+use crate::runs::{FreeLeaf, LinkTable, Run, Single};
 use mixed_map::Found;
 use vm_ids::{NodeId, NodeName};
 
