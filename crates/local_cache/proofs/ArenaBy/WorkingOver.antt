@@ -13,7 +13,6 @@ use Rattle.mixed_map.proofs.Telling.{get_with}
 use Rattle.vm_ids.specs.declared.node_name.NodeName.TheVariants.{Working}
 use Rattle.vm_ids.specs.declared.numbers.NodeId.{NodeId}
 use Rattle.local_cache.specs.declared.own_state.OwnState.TheVariants.{Absent}
-use Rattle.local_cache.specs.declared.runs.run.PlainState.TheVariants.{Absent as PlainAbsent}
 use Rattle.local_cache.specs.declared.runs.run.Run.{Run}
 use Rattle.local_cache.specs.declared.runs.run.RunName.TheVariants.{Working as WorkingRun}
 use Rattle.local_cache.specs.Arena.{Arena, Cell, blank, new_cell, no_links}
@@ -72,13 +71,13 @@ working_many a n (suc k) =
     })
 
 module _ (m : PageNodes) (c : CacheRows) (n parent older newer : NodeId) (r : Run) (count : ℕ)
-    (own : r.own ≡ PlainAbsent) (hangs : r.parent ≡ Some parent) (first : r.older ≡ Some older) (second : r.newer ≡ Some newer)
+    (hangs : r.parent ≡ Some parent) (first : r.older ≡ Some older) (second : r.newer ≡ Some newer)
     (short : (k : ℕ) → k < count → parent.0 + k < 2 ^ 64) (short_older : (k : ℕ) → k < count → older.0 + k < 2 ^ 64) (short_newer : (k : ℕ) → k < count → newer.0 + k < 2 ^ 64) where
   abbrev said : Run
-  said = record { name = WorkingRun (m.made + 1); own = PlainAbsent; parent = Some parent; older = Some older; newer = Some newer }
+  said = record { name = WorkingRun (m.made + 1); parent = Some parent; older = Some older; newer = Some newer }
 
   said_is : ◌≡◌ {A = Run} (record r { name = WorkingRun (m.made + 1) }) said
-  said_is = λ i. record { name = WorkingRun (m.made + 1); own = own i; parent = hangs i; older = first i; newer = second i }
+  said_is = λ i. record { name = WorkingRun (m.made + 1); parent = hangs i; older = first i; newer = second i }
 
   abbrev new_at : ℕ → Cell
   new_at k = new_cell (Working (m.made + 1 + k)) Absent

@@ -5,7 +5,6 @@ use Rattle.local_cache.specs.Many.{HaveNodes, over_two_many, with_working_many}
 use Rattle.local_cache.specs.ManyNodes.{next_node}
 use Rattle.local_cache.specs.OnCells as on
 use Rattle.local_cache.specs.PageNodes as nodes
-use Rattle.local_cache.specs.declared.runs.run.PlainState.TheVariants.{Absent}
 use Rattle.local_cache.specs.declared.runs.run.Run.{Run}
 use Rattle.local_cache.specs.declared.runs.run.RunName.TheVariants.{Working}
 use Rattle.local_cache.proofs.ArenaBy.Calls.{StandFor}
@@ -29,13 +28,13 @@ make_working-requires-clause-fit c = record {
 
 -- what is said of the new nodes
 abbrev said : goal.After-make_working → Run
-said c = record { name = Working 0; own = Absent; parent = Some c.args.parent; older = Some c.args.older; newer = Some c.args.newer }
+said c = record { name = Working 0; parent = Some c.args.parent; older = Some c.args.older; newer = Some c.args.newer }
 
 made : (c : goal.After-make_working)
     → StandFor (nodes.made_working c.self.inside.nodes c.make_working.result (said c) c.args.count) c.self.inside.list
     (on.working_over (arena_by c.self.inside.nodes c.self.inside.list) c.make_working.result c.args.parent c.args.older c.args.newer c.args.count)
 made c = record {
-  is = working_over_by c.self.inside.nodes c.self.inside.list c.make_working.result c.args.parent c.args.older c.args.newer (said c) c.args.count refl refl refl refl
+  is = working_over_by c.self.inside.nodes c.self.inside.list c.make_working.result c.args.parent c.args.older c.args.newer (said c) c.args.count refl refl refl
       (λ k less. omega (arith, less, c.requires.short_parent)) (λ k less. omega (arith, less, c.requires.short_older)) (λ k less. omega (arith, less, c.requires.short_newer));
   right = kept_working c.self.inside.nodes c.self.inside.list c.self.invariant.placed c.make_working.result (said c) c.args.count c.make_working.ensures.new c.make_working.ensures.later;
 }

@@ -7,8 +7,8 @@ use Rattle.local_cache.specs.PageNodes.{PageNodes, cell}
 use Rattle.local_cache.proofs.NodesKept.{cut_own, cut_there, parent_told, took_there}
 use Rattle.local_cache.proofs.runs.node_runs.NodeRuns.give_way.Goals as goal
 
-pub take_place-passed-requires : goal.take_place-passed-requires
-take_place-passed-requires c =
+pub take_place-passed-requires-clause-held : goal.take_place-passed-requires-clause-held
+take_place-passed-requires-clause-held c =
     ap (λ (m : PageNodes). is_some (map.get m.cells c.args.child.0)) c.exchange_child.ensures
     ∙ cut_there c.args.self.now c.args.node (Some c.args.child) c.args.child c.parent-parent.result
     (parent_told c.args.self.now c.args.node c.parent-parent.result (c.parent-parent.ensures ∙ ap (λ (m : PageNodes). (cell m c.args.node).links.parent) c.self.view_is) c.requires.parent)
@@ -25,7 +25,7 @@ free_one-requires c =
 
 pub returns-clause-passed : goal.returns-clause-passed
 returns-clause-passed c =
-    let own : c.own_state-own.result ≡ (cell c.args.self.now c.args.node).own = c.own_state-own.ensures ∙ ap (λ (m : PageNodes). (cell m c.args.node).own) c.self.view_is in
+    let own : c.own_state-own.result ≡ (cell c.args.self.now c.args.node).own = c.own_state-own.ensures.own ∙ ap (λ (m : PageNodes). (cell m c.args.node).own) c.self.view_is in
     let child : (cell c.exchange_child.new.self c.args.child).own ≡ (cell c.args.self.now c.args.child).own =
     ap (λ (m : PageNodes). (cell m c.args.child).own) c.exchange_child.ensures
     ∙ cut_own c.args.self.now c.args.node (Some c.args.child) c.args.child c.parent-parent.result in

@@ -45,6 +45,9 @@ insert_run-requires-clause-vacant c n inside =
     ap (λ (m : PageNodes). map.get m.cells n) c.self.view_is ∙ ap (map.get c.args.self.now.cells) at
     ∙ c.requires.numbers (n - number) (omega (arith, from, high r n inside))
 
+pub insert_run-requires-clause-short : goal.insert_run-requires-clause-short
+insert_run-requires-clause-short c = omega (arith, c.page_number-number.ensures, c.requires.cache, c.ranges.count.fits)
+
 pub enter-requires-clause-room : goal.enter-requires-clause-room
 enter-requires-clause-room c =
     let right = c.self.invariant in

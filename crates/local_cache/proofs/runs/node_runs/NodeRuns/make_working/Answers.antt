@@ -16,6 +16,10 @@ use Rattle.local_cache.proofs.runs.node_runs.NodeRuns.make_working.Goals as goal
 abbrev nodes : goal.After-self-3-1 → Stretch Run
 nodes c = record { first = c.next_working-first.result; count = c.args.count; value = record c.args.run { name = Working (c.self.inside.counters.made + 1) } }
 
+pub insert_run-requires-clause-short : goal.insert_run-requires-clause-short
+insert_run-requires-clause-short c =
+    omega (arith, c.next_working-first.ensures, c.self.invariant.numbered.working, c.requires.made, ap (λ (m : PageNodes). m.made) c.self.view_is)
+
 abbrev counted : goal.After-self-3-1 → Counters
 counted c = record c.self.inside.counters {
   nodes = c.self.inside.counters.nodes + c.args.count;
