@@ -8,9 +8,11 @@ use Rattle.std.specs.FinMap.{get-entries, get-from_entries}
 use Rattle.std.specs.FinMap.Entries.{find}
 use Rattle.std.specs.FinMap as map
 use Rattle.mixed_map.proofs.Maps.{same, tied, untied}
+use Rattle.own_states.specs.States.{States}
 use Rattle.local_cache.specs.declared.own_state.OwnState.{OwnState}
 use Rattle.local_cache.specs.Arena.{Cell, blank}
-use Rattle.local_cache.specs.Joined.{AreLinkedAs, Owns, joined, state_at, with_owns}
+use Rattle.local_cache.specs.Joined.{AreLinkedAs, Nodes, Owns, joined, state_at, the_nodes, with_owns}
+use Rattle.local_cache.specs.LinkTable.{Table}
 use Rattle.local_cache.specs.NodeCells.{Cells, HasCell, bare, cell_at, owning}
 use Rattle.local_cache.specs.NodeKeys.{key_at}
 use Rattle.local_cache.proofs.NodeCells.{len_within}
@@ -88,6 +90,10 @@ module _ (m : Cells) (owns : Owns) where
   -- the join is linked as the links are
   pub linked_joined : AreLinkedAs m (joined m owns)
   linked_joined q = bare_owned q (map.get m q) ∙ sym (ap (option_map bare) (get_joined q))
+
+-- a node that is seen is there
+pub held_in : (t : Table) (o : States) (now : Nodes) → the_nodes t o ≡ now → (q : ℕ) → HasCell now.cells q → HasCell t.cells q
+held_in t o now is q held = sym (there_joined t.cells o.states q) ∙ ap (λ (x : Nodes). is_some (map.get x.cells q)) is ∙ held
 
 -- a number without a cell has no own state
 pub none_both : (m : Cells) (owns : Owns) (q : ℕ) → is_some (map.get owns q) ≡ is_some (map.get m q) → map.get m q ≡ None → map.get owns q ≡ None

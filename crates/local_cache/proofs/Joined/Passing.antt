@@ -6,18 +6,21 @@ use Rattle.std.specs.FinMap as map
 use Rattle.mixed_map.proofs.Maps.{same}
 use Rattle.own_states.specs.Heirs.{given, heir, inherited}
 use Rattle.own_states.specs.Heirs as heirs
+use Rattle.own_states.specs.Kinds.{is_among}
+use Rattle.own_states.specs.declared.kinds.Kinds.{Kinds}
 use Rattle.own_states.specs.declared.own.Own.{Own}
 use Rattle.own_states.specs.declared.own.Own.TheVariants.{Plain as PlainOwn, Clean, Dirty, Slot as InSlot}
 use Rattle.own_states.specs.declared.own.Plain.TheVariants.{Absent as PlainAbsent, Zero as PlainZero, OnSegment as PlainOnSegment}
 use Rattle.local_cache.specs.declared.own_state.OwnState.{OwnState}
 use Rattle.local_cache.specs.declared.own_state.OwnState.TheVariants.{Absent, Zero, Resident, Slot, OnSegment}
 use Rattle.local_cache.specs.Arena.{Cell, blank}
-use Rattle.local_cache.specs.Joined.{Owns, joined, passed_each, state_at, state_of}
+use Rattle.local_cache.specs.Joined.{Owns, has_kind, joined, passed_each, state_at, state_of}
 use Rattle.local_cache.specs.NodeCells.{Cells, HasCell, HaveCells, cell_at, changed, heir_of, owning}
 use Rattle.local_cache.specs.Own.{is_absent}
 use Rattle.local_cache.proofs.Joined.Cells.{get_joined, owned, there_joined}
 use Rattle.local_cache.proofs.Joined.Changes.{own_set, some_cell}
 use Rattle.local_cache.proofs.Joined.Kept.{Alike, alike_set}
+use Rattle.local_cache.proofs.Joined.States.{kind_kept}
 use Rattle.local_cache.proofs.Stretched.{changed_here, changed_other}
 
 -- No page is kept as no page
@@ -60,6 +63,10 @@ module _ (m : Cells) (owns : Owns) (alike : Alike owns m) where
   -- the own state of a node, in the join
   pub own_joined : (n : ℕ) → (cell_at (joined m owns) n).own ≡ state_at owns n
   own_joined n = ap (λ (o : Option Cell). (unwrap_or o blank).own) (get_joined m owns n) ∙ by_cell n (map.get m n) refl
+
+  -- and of which kinds it is
+  pub kind_joined : (kinds : Kinds) (n : ℕ) → HasCell m n → is_among kinds (map.get owns n) ≡ has_kind kinds (cell_at (joined m owns) n).own
+  kind_joined kinds n held = kind_kept kinds (map.get owns n) (alike n ∙ held) ∙ ap (has_kind kinds) (sym (own_joined n))
 
   module _ (to : ℕ) (held : HasCell m to) where
     abbrev here : Cell

@@ -1,10 +1,9 @@
 use Rattle.std.proofs.Common.{◌∙◌, sym, ap, subst}
-use Rattle.std.specs.Prelude.{is_some}
 use Rattle.std.specs.FinMap as map
 use Rattle.local_cache.specs.Joined.{Nodes, joined}
 use Rattle.local_cache.specs.LinkTable.{HasFreeNumber}
 use Rattle.local_cache.specs.NodeCells.{Cells, HasCell, cell_at, changed}
-use Rattle.local_cache.proofs.Joined.Cells.{there_joined}
+use Rattle.local_cache.proofs.Joined.Cells.{held_in}
 use Rattle.local_cache.proofs.Joined.Changes.{links_changed}
 use Rattle.local_cache.proofs.Joined.Kept.{Alike, links_kept, there_changed}
 use Rattle.local_cache.proofs.Joined.Numbers.{changed_free}
@@ -12,8 +11,7 @@ use Rattle.local_cache.proofs.runs.node_table.NodeTable.change.Goals as goal
 
 pub change-requires-clause-held : goal.change-requires-clause-held
 change-requires-clause-held g c =
-    sym (there_joined c.self.inside.links.cells c.self.inside.own.states c.args.node)
-    ∙ ap (λ (t : Nodes). is_some (map.get t.cells c.args.node)) c.self.view_is ∙ c.requires.held
+    held_in c.self.inside.links c.self.inside.own c.args.self.now c.self.view_is c.args.node c.requires.held
 
 pub change-requires-clause-thin : goal.change-requires-clause-thin
 change-requires-clause-thin g c =
@@ -28,8 +26,7 @@ invariant_of-self g c =
     let t = c.self.inside.links in
     let n = c.args.node in
     let f = g.C.Change.cell c.args.change in
-    let held : HasCell t.cells n = sym (there_joined t.cells c.self.inside.own.states n)
-    ∙ ap (λ (x : Nodes). is_some (map.get x.cells n)) c.self.view_is ∙ c.requires.held in
+    let held : HasCell t.cells n = held_in c.self.inside.links c.self.inside.own c.args.self.now c.self.view_is n c.requires.held in
     let P : Cells → Type 0 = λ x. Alike x t.cells in
     links_kept t c.change.new.self c.self.inside.own c.self.inside.own c.self.invariant
     (subst P (sym c.change.ensures.cells) (there_changed t.cells n f held)) c.change.ensures.count c.change.ensures.room
@@ -40,7 +37,7 @@ returns-clause-cells g c =
     let o = c.self.inside.own.states in
     let n = c.args.node in
     let f = g.C.Change.cell c.args.change in
-    let held : HasCell t.cells n = sym (there_joined t.cells o n) ∙ ap (λ (x : Nodes). is_some (map.get x.cells n)) c.self.view_is ∙ c.requires.held in
+    let held : HasCell t.cells n = held_in c.self.inside.links c.self.inside.own c.args.self.now c.self.view_is n c.requires.held in
     ap (λ (x : Cells). joined x o) c.change.ensures.cells
     ∙ links_changed t.cells o n f (g.C.Change.leaves c.args.change) held
     ∙ ap (λ (x : Nodes). changed x.cells n f) c.self.view_is

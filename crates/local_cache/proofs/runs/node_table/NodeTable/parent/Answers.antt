@@ -1,16 +1,13 @@
 use Rattle.std.proofs.Common.{sym, ap, ◌∙◌}
-use Rattle.std.specs.Prelude.{is_some}
-use Rattle.std.specs.FinMap as map
 use Rattle.local_cache.specs.Arena.{Cell}
 use Rattle.local_cache.specs.Joined.{Nodes}
 use Rattle.local_cache.specs.NodeCells.{bare, cell_at}
-use Rattle.local_cache.proofs.Joined.Cells.{cell_linked, linked_joined, there_joined}
+use Rattle.local_cache.proofs.Joined.Cells.{cell_linked, held_in, linked_joined}
 use Rattle.local_cache.proofs.runs.node_table.NodeTable.parent.Goals as goal
 
 pub parent-requires : goal.parent-requires
 parent-requires c =
-    sym (there_joined c.self.inside.links.cells c.self.inside.own.states c.args.node)
-    ∙ ap (λ (t : Nodes). is_some (map.get t.cells c.args.node)) c.self.view_is ∙ c.requires
+    held_in c.self.inside.links c.self.inside.own c.args.self.now c.self.view_is c.args.node c.requires
 
 pub returns : goal.returns
 returns c =

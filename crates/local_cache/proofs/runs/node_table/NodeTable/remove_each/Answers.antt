@@ -1,24 +1,20 @@
 use Rattle.std.proofs.Common.{◌≡◌, ◌+◌, ◌∙◌, sym, ap, subst, arith}
-use Rattle.std.specs.Prelude.{is_some}
-use Rattle.std.specs.FinMap as map
 use Rattle.mixed_map.specs.Mixed.{without_range}
 use Rattle.local_cache.specs.Joined.{Nodes, Owns, joined}
 use Rattle.local_cache.specs.NodeCells.{Cells}
-use Rattle.local_cache.proofs.Joined.Cells.{there_joined}
+use Rattle.local_cache.proofs.Joined.Cells.{held_in}
 use Rattle.local_cache.proofs.Joined.Changes.{joined_range}
 use Rattle.local_cache.proofs.Joined.Kept.{Alike, alike_range, both_kept}
 use Rattle.local_cache.proofs.runs.node_table.NodeTable.remove_each.Goals as goal
 
 pub remove_each-requires-clause-held : goal.remove_each-requires-clause-held
 remove_each-requires-clause-held c k less =
-    sym (there_joined c.self.inside.links.cells c.self.inside.own.states (c.args.first + k))
-    ∙ ap (λ (t : Nodes). is_some (map.get t.cells (c.args.first + k))) c.self.view_is ∙ c.requires.held k less
+    held_in c.self.inside.links c.self.inside.own c.args.self.now c.self.view_is (c.args.first + k) (c.requires.held k less)
 
 pub remove_many-requires-clause-held : goal.remove_many-requires-clause-held
 remove_many-requires-clause-held c k less =
     c.self.invariant.same (c.args.first + k)
-    ∙ sym (there_joined c.self.inside.links.cells c.self.inside.own.states (c.args.first + k))
-    ∙ ap (λ (t : Nodes). is_some (map.get t.cells (c.args.first + k))) c.self.view_is ∙ c.requires.held k less
+    ∙ held_in c.self.inside.links c.self.inside.own c.args.self.now c.self.view_is (c.args.first + k) (c.requires.held k less)
 
 pub invariant_of-self : goal.invariant_of-self
 invariant_of-self c =
