@@ -17,7 +17,6 @@ use Rattle.local_cache.specs.declared.page_entry.PageEntry.{PageEntry}
 use Rattle.vm_ids.specs.Forest.Codes.{name_code}
 use Rattle.local_cache.specs.Arena.{Arena, Cell, Room, Table}
 use Rattle.local_cache.specs.ArenaBy.{CacheRow, CacheRows}
-use Rattle.local_cache.specs.Joined.{Nodes}
 use Rattle.local_cache.specs.PageNodes.{PageNodes}
 use Rattle.local_cache.specs.declared.runs.run.Run.{Run}
 use Rattle.local_cache.specs.declared.runs.run.RunName.{RunName}
@@ -179,13 +178,6 @@ run_code =
 
 abbrev pub link_table_code : Coded (Mixed Run Cell)
 link_table_code = mixed_code run_code cell_code
-
-abbrev pub nodes_code : Coded Nodes
-nodes_code =
-    code_by (FinMap nat_cmp Cell × (ℕ × ℕ))
-    (coded× (ids.code coded_ℕ cell_code) (coded× coded_ℕ coded_ℕ))
-    (λ t. (t.cells, (t.count, t.room)))
-    (λ p. record { cells = p.0; count = p.1.0; room = p.1.1 }) (λ _. refl)
 
 abbrev pub row_code : Coded CacheRow
 row_code =

@@ -1,6 +1,7 @@
 -- The page nodes as they are seen: how they are named and linked, joined with where their own pages
 -- are.
-use Rattle.std.specs.Prelude.{◌≡◌, ℕ, ◌+◌, ◌≤◌, true, false, List, [], ◌∷◌, Bool, Option, is_some, option_map, unwrap_or}
+use Rattle.std.specs.Coded.{Coded, code_by, coded×, coded_ℕ}
+use Rattle.std.specs.Prelude.{◌≡◌, ℕ, ◌+◌, ◌≤◌, true, false, List, [], ◌∷◌, Bool, Option, is_some, option_map, refl, unwrap_or}
 use Rattle.std.specs.Ordering.{nat_cmp}
 use Rattle.std.specs.FinMap.{FinMap}
 use Rattle.std.specs.FinMap as ids
@@ -14,6 +15,7 @@ use Rattle.own_states.specs.declared.own.Plain.TheVariants.{Absent as PlainAbsen
 use Rattle.local_cache.specs.declared.own_state.OwnState.{OwnState}
 use Rattle.local_cache.specs.declared.own_state.OwnState.TheVariants.{Absent, Zero, Resident, Slot, OnSegment}
 use Rattle.local_cache.specs.Arena.{Cell}
+use Rattle.local_cache.specs.Codes.{cell_code}
 use Rattle.local_cache.specs.LinkTable.{Table}
 use Rattle.local_cache.specs.ManyNodes.{each}
 use Rattle.local_cache.specs.NodeCells.{Cells, bare, cell_at, changed, heir_of, own_of_plain, owning}
@@ -68,6 +70,14 @@ pub record Nodes : Type 0 where
   pub cells : Cells
   pub count : ℕ
   pub room : ℕ
+
+-- it is stored as the tuple of its fields
+abbrev pub nodes_code : Coded Nodes
+nodes_code =
+    code_by (FinMap nat_cmp Cell × (ℕ × ℕ))
+    (coded× (ids.code coded_ℕ cell_code) (coded× coded_ℕ coded_ℕ))
+    (λ t. (t.cells, (t.count, t.room)))
+    (λ p. record { cells = p.0; count = p.1.0; room = p.1.1 }) (λ _. refl)
 
 abbrev pub the_nodes : Table → States → Nodes
 the_nodes t o = record { cells = joined t.cells o.states; count = t.count; room = t.room }

@@ -40,7 +40,7 @@ owned_is : (owns : Owns) (q : ℕ) (o : Option Cell) (c : Cell) (s : OwnState) �
 owned_is owns q o c s is own = ap (owned owns q) is ∙ ap (λ (t : OwnState). Some (owning t c)) own
 
 -- the own state of a number, by what is kept of it
-kept_state : Option Own → OwnState
+abbrev kept_state : Option Own → OwnState
 kept_state o = unwrap_or (option_map state_of o) Absent
 
 -- One number
@@ -61,11 +61,9 @@ module _ (m : Cells) (owns : Owns) (n : ℕ) where
 
   module _ (x : Own) where
     state_here : (q : ℕ) → q ≡ n → state_at (map.insert owns n x) q ≡ state_of x
-    unfolding kept_state
     state_here q here = ap kept_state (insert_same owns n x q here)
 
     state_other : (q : ℕ) → q ≢ n → state_at (map.insert owns n x) q ≡ state_at owns q
-    unfolding kept_state
     state_other q other = ap kept_state (insert_other owns n x q other)
 
     -- its own state is another one
@@ -93,7 +91,6 @@ module _ (m : Cells) (owns : Owns) (n : ℕ) where
     ])
 
   state_left : (q : ℕ) → q ≢ n → state_at (map.remove owns n) q ≡ state_at owns q
-  unfolding kept_state
   state_left q other = ap kept_state (remove_other owns n q other)
 
   -- a node goes

@@ -33,8 +33,7 @@ pub(crate) struct NodeTable {
 }
 
 impl Model for NodeTable {
-    ghost use Rattle.local_cache.specs.Codes.{nodes_code};
-    ghost use Rattle.local_cache.specs.Joined.{AreJoined, Nodes, the_nodes};
+    ghost use Rattle.local_cache.specs.Joined.{AreJoined, Nodes, nodes_code, the_nodes};
 
     ghost Value = { Nodes };
 
