@@ -1,5 +1,5 @@
 -- The region with a number.
-use Rattle.std.proofs.Common.{◌≡◌, ◌≢◌, ◌==◌, ℕ, zero, suc, ◌-◌, ◌<◌, ◌≤◌, Bool, true, false, cond, not, List, [], ◌∷◌, ◌++◌, length, get_or, set, map, Option, Some, None, refl, sym, ap, inl, inr, subst, ◌∙◌, arith}
+use Rattle.std.proofs.Common.{◌≡◌, ◌≢◌, ◌==◌, ℕ, zero, suc, ◌+◌, ◌-◌, ◌<◌, ◌≤◌, Bool, true, false, cond, not, List, [], ◌∷◌, ◌++◌, length, get_or, set, map, Option, Some, None, refl, sym, ap, inl, inr, subst, ◌∙◌, arith}
 use Rattle.std.specs.Prelude.{insert, IsSome, MatchOption}
 use Rattle.std.specs.List.{remove}
 use Rattle.std.proofs.lemmas.Bool.{cases_lt}
@@ -9,9 +9,9 @@ use Rattle.vm_model.specs.Machine as model
 use Rattle.vm_model.specs.Answering.{without_region}
 use Rattle.vm_model.specs.Regions.{region_among, replace_region}
 use Rattle.regions.specs.AddressSpace.{AreInOrder, StartsAt, end_of}
-use Rattle.regions.specs.Seen.{region_seen, number_at, start_at, IsCountUpTo, IsPlaceOf}
+use Rattle.regions.specs.Seen.{region_seen, number_at, IsPlaceOf}
 use Rattle.regions.specs.declared.region.Region.{Region}
-use Rattle.regions.proofs.Ordered.{some_bytes, start_from}
+use Rattle.regions.proofs.Ordered.{some_bytes, start_at, start_from, IsCountUpTo}
 
 is_same : (a b : ℕ) → a ≡ b → (a == b) ≡ true
 is_same a b e = grind (arith, nat_tests)
@@ -106,18 +106,17 @@ module _ (b n start : ℕ) (rs : List Region) (count : ℕ) (one : 1 ≤ b) (o :
   none_starts none k d within = λ e. absurd (omega (arith, none, is_last k d within e))
 
   -- nor where the last of these has another
-  pub last_other : (d : Region) → number_at rs (count - 1) d ≢ n → (k : ℕ) (e : Region) → k < length rs → number_at rs k e ≢ n
-  last_other d other k e within = λ is.
-      let last = is_last k e within is in
-      let place : k ≡ count - 1 = omega (arith, last) in
+  pub last_other : (l : ℕ) (d : Region) → l + 1 ≡ count → number_at rs l d ≢ n → (k : ℕ) (e : Region) → k < length rs → number_at rs k e ≢ n
+  last_other l d next other k e within = λ is.
+      let place : k ≡ l = omega (arith, is_last k e within is, next) in
       absurd (other (ap (λ (j : ℕ). number_at rs j d) (sym place) ∙ ap (λ (r : Region). r.number.0) (get_or_default rs k d e within) ∙ is))
 
   -- else it is the one
-  pub last_is : (d : Region) → count ≢ 0 → number_at rs (count - 1) d ≡ n → IsPlaceOf n rs (count - 1)
-  last_is d some is = record {
-    within = omega (arith, c.within, some);
-    here = λ e. ap (λ (r : Region). r.number.0) (get_or_default rs (count - 1) e d (omega (arith, c.within, some))) ∙ is;
-    others = λ k e within apart. λ same. absurd (apart (omega (arith, is_last k e within same)));
+  pub last_is : (l : ℕ) (d : Region) → l + 1 ≡ count → number_at rs l d ≡ n → IsPlaceOf n rs l
+  last_is l d next is = record {
+    within = omega (arith, c.within, next);
+    here = λ e. ap (λ (r : Region). r.number.0) (get_or_default rs l e d (omega (arith, c.within, next))) ∙ is;
+    others = λ k e within apart. λ same. absurd (apart (omega (arith, is_last k e within same, next)));
   }
 
 keeps : (n : ℕ) (x : model.Region) (xs : model.Actor) → x.number ≢ n → without_region n (x ∷ xs) ≡ x ∷ without_region n xs
@@ -143,7 +142,7 @@ removed n (r ∷ rs) (suc k) p =
     ∙ sym (keeps n (region_seen r) (map region_seen rs) (p.others 0 r (omega arith) (λ e. absurd (omega (arith, e)))))
 
 -- a search for the place of a region that is there finds one
-pub some_found : (n : ℕ) (rs : List Region) (o : Option ℕ) → MatchOption o ((k : ℕ) (d : Region) → k < length rs → number_at rs k d ≢ n) (IsPlaceOf n rs)
+pub some_found : {S : Type 0} (n : ℕ) (rs : List Region) (o : Option S) (P : S → Type 0) → MatchOption o ((k : ℕ) (d : Region) → k < length rs → number_at rs k d ≢ n) P
     → IsSome (region_among n (map region_seen rs)) → IsSome o
-some_found n rs None none h = subst (λ (r : Option model.Region). IsSome r) (among_none n rs none) h
-some_found n rs (Some k) p h = refl
+some_found n rs None P none h = subst (λ (r : Option model.Region). IsSome r) (among_none n rs none) h
+some_found n rs (Some s) P p h = refl

@@ -1,19 +1,28 @@
 -- Regions in order: which one holds an address, where a new one goes, and whether it fits.
-use Rattle.std.proofs.Common.{◌≡◌, ◌≢◌, ℕ, zero, suc, ◌+◌, ◌-◌, ◌*◌, ◌%◌, ◌==◌, ◌<◌, ◌≤◌, Bool, true, false, cond, not, List, [], ◌∷◌, ◌++◌, length, get_or, map, Option, Some, None, refl, sym, ap, ◌∙◌, subst, arith, rules}
+use Rattle.std.proofs.Common.{◌≡◌, ◌≢◌, ℕ, zero, suc, ◌+◌, ◌-◌, ◌*◌, ◌%◌, ◌==◌, ◌<◌, ◌≤◌, Bool, true, false, cond, not, List, [], ◌∷◌, ◌++◌, length, get_or, map, Option, Some, None, refl, sym, ap, inl, inr, ◌∙◌, subst, arith, rules}
 use Rattle.std.specs.Prelude.{nat_lt, insert, ◌||◌}
 use Rattle.std.specs.List.{list_any}
 use Rattle.std.specs.List.Sorted.{IsNonDecreasingBy}
 use Rattle.std.proofs.Math.Nat.{add-mul-mod_self_left, mul-add, mul-le-mul_left}
 use borrow.Author.Tests.{ltb-true, ltb-false}
+use Rattle.std.proofs.lemmas.Bool.{cases_lt, false≢true}
 use Rattle.std.proofs.lemmas.Bool.Decides.{nat_tests}
+use Rattle.stretches.specs.Parted.{IsParted}
 use Rattle.vm_ids.specs.declared.command.Prot.{Prot}
 use Rattle.vm_model.specs.Machine as model
 use Rattle.vm_model.specs.Answering.{insert_region, overlaps, shares, without_region}
 use Rattle.vm_model.specs.Regions.{region_among, back_of, replace_region, split_at, with_lock, with_prot}
 use Rattle.vm_model.specs.Place.{holds, region_at}
 use Rattle.regions.specs.AddressSpace.{AreInOrder, IsWellFormed, end_of}
-use Rattle.regions.specs.Seen.{region_seen, start_at, IsCountUpTo}
+use Rattle.regions.specs.Seen.{region_seen}
 use Rattle.regions.specs.declared.region.Region.{Region}
+
+abbrev pub start_at : List Region → ℕ → Region → ℕ
+start_at rs k d = (region_seen (get_or rs k d)).start
+
+-- so many regions start at the address or before it, and the others behind it
+abbrev pub IsCountUpTo : ℕ → List Region → ℕ → Type 0
+IsCountUpTo address rs count = IsParted (λ (r : Region). r.address) rs address count
 
 -- Starts rise
 
@@ -83,28 +92,44 @@ last_holds b a from (r ∷ s ∷ rs) (suc k) d o c =
     goes_on b a (region_seen r) (map region_seen (s ∷ rs)) (passed b a (region_seen r) (omega (arith, behind, before)))
     ∙ last_holds b a (end_of b (region_seen r)) (s ∷ rs) k d o.2 (tail_count a r (s ∷ rs) (suc k) c)
 
-pub holder : (b a from : ℕ) (rs : List Region) (n : ℕ) (d : Region) → AreInOrder b from (map region_seen rs) → IsCountUpTo a rs n → n ≢ 0
-    → a < end_of b (region_seen (get_or rs (n - 1) d)) → region_at b a (map region_seen rs) ≡ Some (region_seen (get_or rs (n - 1) d))
-holder b a from rs n d o c some below =
-    let r = region_seen (get_or rs (n - 1) d) in
-    let next : n ≡ suc (n - 1) = omega arith in
-    let started : r.start ≤ a = c.before (n - 1) d (omega arith) in
-    last_holds b a from rs (n - 1) d o (subst (IsCountUpTo a rs) next c)
-    ∙ ap (λ (x : Bool). cond x (Some r) None) (held b a r started below)
-
-pub no_holder : (b a from : ℕ) (rs : List Region) (n : ℕ) (d : Region) → AreInOrder b from (map region_seen rs) → IsCountUpTo a rs n → n ≢ 0
-    → end_of b (region_seen (get_or rs (n - 1) d)) ≤ a → region_at b a (map region_seen rs) ≡ None
-no_holder b a from rs n d o c some above =
-    let r = region_seen (get_or rs (n - 1) d) in
-    let next : n ≡ suc (n - 1) = omega arith in
-    last_holds b a from rs (n - 1) d o (subst (IsCountUpTo a rs) next c)
-    ∙ ap (λ (x : Bool). cond x (Some r) None) (passed b a r above)
+-- one that starts at the address or before it and ends behind it holds it, and no other does
+pub held_there : (b a from : ℕ) (rs : List Region) (k : ℕ) (d : Region) → AreInOrder b from (map region_seen rs) → k < length rs → start_at rs k d ≤ a
+    → a < end_of b (region_seen (get_or rs k d)) → region_at b a (map region_seen rs) ≡ Some (region_seen (get_or rs k d))
+held_there b a from [] k d o within started below = absurd (omega (arith, within))
+held_there b a from (r ∷ rs) zero d o within started below =
+    ap (λ (c : Bool). cond c (Some (region_seen r)) (region_at b a (map region_seen rs))) (held b a (region_seen r) started below)
+held_there b a from (r ∷ rs) (suc k) d o within started below =
+    let behind = start_from b (end_of b (region_seen r)) rs o.2 k d (omega (arith, within)) in
+    goes_on b a (region_seen r) (map region_seen rs) (passed b a (region_seen r) (omega (arith, behind, started)))
+    ∙ held_there b a (end_of b (region_seen r)) rs k d o.2 (omega (arith, within)) started below
 
 -- each is well-formed
 pub formed_at : (b from : ℕ) (rs : List Region) (k : ℕ) (d : Region) → AreInOrder b from (map region_seen rs) → k < length rs → IsWellFormed b (region_seen (get_or rs k d))
 formed_at b from [] k d o within = absurd (omega (arith, within))
 formed_at b from (r ∷ rs) zero d o within = o.1
 formed_at b from (r ∷ rs) (suc k) d o within = formed_at b (end_of b (region_seen r)) rs k d o.2 (omega (arith, within))
+
+-- of the region that was read at a place
+module _ (b a : ℕ) (rs : List Region) (k : ℕ) (x : Region) (o : AreInOrder b 0 (map region_seen rs)) (within : k < length rs) (read : x ≡ get_or rs k x) where
+  pub formed_read : IsWellFormed b (region_seen x)
+  formed_read = subst (λ (r : Region). IsWellFormed b (region_seen r)) (sym read) (formed_at b 0 rs k x o within)
+
+  pub found_read : (region_seen x).start ≤ a → a < end_of b (region_seen x) → Some (region_seen x) ≡ region_at b a (map region_seen rs)
+  found_read started below =
+      ap (λ (r : Region). Some (region_seen r)) read
+      ∙ sym (held_there b a 0 rs k x o within (subst (λ (r : Region). (region_seen r).start ≤ a) read started) (subst (λ (r : Region). a < end_of b (region_seen r)) read below))
+
+  -- where it is the last that starts up to the address
+  module _ (n : ℕ) (c : IsCountUpTo a rs n) (last : k + 1 ≡ n) where
+    pub started_read : (region_seen x).start ≤ a
+    started_read = subst (λ (r : Region). (region_seen r).start ≤ a) (sym read) (c.before k x (omega (arith, last)))
+
+    pub missed_read : end_of b (region_seen x) ≤ a → region_at b a (map region_seen rs) ≡ None
+    missed_read above =
+        let r = region_seen (get_or rs k x) in
+        let next : n ≡ suc k = omega (arith, last) in
+        last_holds b a 0 rs k x o (subst (IsCountUpTo a rs) next c)
+        ∙ ap (λ (y : Bool). cond y (Some r) None) (passed b a r (subst (λ (q : Region). end_of b (region_seen q) ≤ a) read above))
 
 -- Where a new one goes
 
@@ -250,6 +275,26 @@ pub next_decides : (b a p : ℕ) (rs : List Region) (n : ℕ) (d : Region) → A
 next_decides b a p rs n d o c last within =
     as_one (overlaps b a p (region_seen (get_or rs n d))) (list_any (overlaps b a p) (map region_seen rs))
     (any_at (overlaps b a p) rs n d within) (λ apart. none_overlaps b a p rs n d o c last (λ w. apart))
+
+-- where the last that starts up to the address overlaps, one does
+pub last_any : (b a p : ℕ) (rs : List Region) (n : ℕ) (last : Bool) → IsCountUpTo a rs n → (n ≡ 0 → last ≡ false)
+    → ((k : ℕ) (d : Region) → k + 1 ≡ n → last ≡ overlaps b a p (region_seen (get_or rs k d))) → last ≡ true → list_any (overlaps b a p) (map region_seen rs) ≡ true
+last_any b a p [] n last c none here is = absurd (false≢true (sym (none (omega (arith, c.within))) ∙ is))
+last_any b a p (r ∷ rs) zero last c none here is = absurd (false≢true (sym (none refl) ∙ is))
+last_any b a p (r ∷ rs) (suc k) last c none here is =
+    any_at (overlaps b a p) (r ∷ rs) k r (omega (arith, c.within)) (sym (here k r (omega arith)) ∙ is)
+
+-- where it doesn't, one does exactly where the next one does
+pub next_any : (b a p : ℕ) (rs : List Region) (n : ℕ) (last next : Bool) → AreInOrder b 0 (map region_seen rs) → IsCountUpTo a rs n
+    → ((k : ℕ) (d : Region) → k + 1 ≡ n → last ≡ overlaps b a p (region_seen (get_or rs k d))) → (n ≡ length rs → next ≡ false)
+    → ((d : Region) → n < length rs → next ≡ overlaps b a p (region_seen (get_or rs n d))) → last ≡ false → next ≡ list_any (overlaps b a p) (map region_seen rs)
+next_any b a p [] n last next o c here none there apart = none (omega (arith, c.within))
+next_any b a p (r ∷ rs) n last next o c here none there apart =
+    let before : n ≢ 0 → overlaps b a p (region_seen (get_or (r ∷ rs) (n - 1) r)) ≡ false = λ some. sym (here (n - 1) r (omega (arith, some))) ∙ apart in
+    elim (cases_lt n (length (r ∷ rs))) [
+      | inl within ↦ there r within ∙ next_decides b a p (r ∷ rs) n r o c before within
+      | inr past ↦ none (omega (arith, past, c.within)) ∙ sym (none_overlaps b a p (r ∷ rs) n r o c before (λ w. absurd (omega (arith, w, past))))
+    ]
 
 -- What goes, and what becomes something else
 

@@ -1,5 +1,5 @@
 -- How regions are seen, and what searches among them find.
-use Rattle.std.specs.Prelude.{◌≡◌, ◌≢◌, ℕ, ◌<◌, ◌≤◌, List, length, slice_index_or}
+use Rattle.std.specs.Prelude.{◌≡◌, ◌≢◌, ℕ, ◌<◌, List, length, slice_index_or}
 use Rattle.vm_model.specs.Machine as model
 use Rattle.regions.specs.declared.region.Region.{Region}
 
@@ -13,16 +13,6 @@ region_seen r = record {
   offset = r.first.0;
   locked = r.locked;
 }
-
-abbrev pub start_at : List Region → ℕ → Region → ℕ
-start_at regions k default = (region_seen (slice_index_or regions k default)).start
-
--- so many regions start at the address or before it, and the others behind it
-pub record IsCountUpTo (address : ℕ) (regions : List Region) (count : ℕ) : Type 0 where
-  pub within : count ≤ length regions
-  pub before : (k : ℕ) (d : Region) → k < count → start_at regions k d ≤ address
-  pub behind : (k : ℕ) (d : Region) → count ≤ k → k < length regions
-      → address < start_at regions k d
 
 abbrev pub number_at : List Region → ℕ → Region → ℕ
 number_at regions k default = (region_seen (slice_index_or regions k default)).number

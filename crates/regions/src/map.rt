@@ -7,9 +7,10 @@ ghost use Rattle.vm_model.specs.Place.{place_among, region_at};
 ghost use Rattle.regions.specs.AddressSpace.{id_of, place_told, view_of, IsWellFormed, StartsAt};
 
 use crate::region::{Place, Region, RegionView};
-use crate::search::{count_up_to, known_place, overlaps_any, place_of, region_holding};
+use crate::search::{known_spot, overlaps_any, region_holding, spot_of};
 use std::alloc::Global;
 use std::marker::Model;
+use stretches::Directory;
 use vm_ids::{Mapping, NoMemory, Prot, Refusal, RegionId};
 
 /// The regions of one actor, in order of start address. No two share an address. Whoever names a
@@ -17,7 +18,7 @@ use vm_ids::{Mapping, NoMemory, Prot, Refusal, RegionId};
 #[derive(Drop)]
 pub struct RegionMap {
     page_bytes: u64,
-    regions: Vec<Region>,
+    regions: Directory<Region>,
 }
 
 impl Model for RegionMap {
@@ -42,7 +43,7 @@ impl RegionMap {
     {
         RegionMap {
             page_bytes: page as u64,
-            regions: Vec::new(alloc),
+            regions: Directory::new(alloc),
         }
     }
 
@@ -54,7 +55,7 @@ impl RegionMap {
         ensures err { OnErr result (self.new ≡ self.old) }
         ensures enough { 1 ≤ self.old.spare → IsOk result }
     {
-        self.regions.reserve(1)?;
+        self.regions.reserve_one()?;
         Ok(())
     }
 
@@ -77,11 +78,8 @@ impl RegionMap {
           regions = insert_region (region_of id.0 mapping) self.old.regions;
         } }
     {
-        let place = count_up_to(&self.regions, self.page_bytes, mapping.address);
-        match self.regions.insert(place, Region::new(id, mapping)) {
-            Ok(()) => {}
-            Err(_) => unreachable!(),
-        }
+        let spot = self.regions.spot_behind(mapping.address);
+        self.regions.insert(spot, Region::new(id, mapping));
     }
 
     /// Cuts a region in two. The first `pages` of its pages stay in it, and the others become the
@@ -100,15 +98,12 @@ impl RegionMap {
               self.old.regions;
         } }
     {
-        let place = known_place(&self.regions, self.page_bytes, id, start);
-        let back = self.regions[place].back(self.page_bytes, pages, fresh);
-        let address = back.start();
-        let front = &mut self.regions[place];
-        front.pages = pages;
-        match self.regions.insert(place + 1, back) {
-            Ok(()) => address,
-            Err(_) => unreachable!(),
-        }
+        let spot = known_spot(&self.regions, self.page_bytes, id, start);
+        let region = self.regions.get(spot);
+        let back = region.back(self.page_bytes, pages, fresh);
+        self.regions.set(spot, Region { pages, ..region });
+        self.regions.insert_behind(spot, back);
+        back.start()
     }
 
     /// Changes what a region allows.
@@ -119,9 +114,9 @@ impl RegionMap {
           regions = replace_region id.0 (with_prot prot) self.old.regions;
         } }
     {
-        let place = known_place(&self.regions, self.page_bytes, id, start);
-        let region = &mut self.regions[place];
-        region.prot = prot;
+        let spot = known_spot(&self.regions, self.page_bytes, id, start);
+        let region = self.regions.get(spot);
+        self.regions.set(spot, Region { prot, ..region });
     }
 
     /// Locks or unlocks a region.
@@ -132,9 +127,9 @@ impl RegionMap {
           regions = replace_region id.0 (with_lock locked) self.old.regions;
         } }
     {
-        let place = known_place(&self.regions, self.page_bytes, id, start);
-        let region = &mut self.regions[place];
-        region.locked = locked;
+        let spot = known_spot(&self.regions, self.page_bytes, id, start);
+        let region = self.regions.get(spot);
+        self.regions.set(spot, Region { locked, ..region });
     }
 
     /// Takes a region away.
@@ -144,10 +139,10 @@ impl RegionMap {
         ensures page { self.new.page_bytes ≡ self.old.page_bytes }
         ensures spare { self.old.spare ≤ self.new.spare }
     {
-        let Some(place) = place_of(&self.regions, self.page_bytes, id, start) else {
+        let Some(spot) = spot_of(&self.regions, self.page_bytes, id, start) else {
             return;
         };
-        self.regions.remove(place);
+        self.regions.remove(spot);
     }
 
     /// What there is to tell of a region. `None` exactly where none has the number.
@@ -155,16 +150,16 @@ impl RegionMap {
         requires { StartsAt id.0 start self.now.regions }
         ensures { result ≡ option_map view_of (region_among id.0 self.now.regions) }
     {
-        let place = place_of(&self.regions, self.page_bytes, id, start)?;
-        Some(self.regions[place].view())
+        let spot = spot_of(&self.regions, self.page_bytes, id, start)?;
+        Some(self.regions.at(spot).view())
     }
 
     /// What there is to tell of the region at a place, from 0, in the order of addresses. `None`
-    /// exactly past the last.
+    /// exactly past the last. The place is counted from leaf to leaf.
     pub fn nth(&self, place: usize) -> Option<RegionView>
         ensures { result ≡ option_map view_of (slice_get self.now.regions place) }
     {
-        Some(self.regions.get(place)?.view())
+        Some(self.regions.nth(place)?.view())
     }
 
     /// How many regions there are.

@@ -6,6 +6,7 @@ ghost use Rattle.vm_model.specs.Regions.{back_of};
 ghost use Rattle.regions.specs.Seen.{region_seen};
 ghost use Rattle.regions.specs.AddressSpace.{access_of, end_of, view_of, IsWellFormed};
 
+use stretches::Keyed;
 use vm_ids::{CacheId, Extent, Mapping, PageNo, Prot, RegionId};
 
 /// What there is to tell of a region.
@@ -28,8 +29,8 @@ pub struct Place {
     pub prot: Prot,
 }
 
-/// A region under its number. It has its fields side by side, so that it takes 32 bytes: many of
-/// them move where one comes or goes.
+/// A region under its number. It has its fields side by side, so that it takes 32 bytes: those of a
+/// leaf move where one comes or goes.
 #[derive(Clone, Copy, Debug, PartialEq, Eq)]
 pub struct Region {
     pub address: u64,
@@ -39,6 +40,14 @@ pub struct Region {
     pub pages: u32,
     pub prot: Prot,
     pub locked: bool,
+}
+
+impl Keyed for Region {
+    ghost key = { λ r. r.address };
+
+    fn key(&self) -> u64 {
+        self.address
+    }
 }
 
 impl Region {

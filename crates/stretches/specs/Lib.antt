@@ -2,6 +2,7 @@ pub mod Cells
 pub mod Changes
 pub mod GoingOn
 pub mod Leaves
+pub mod Parted
 pub mod Places
 pub mod Rising
 pub mod Slots

@@ -1,5 +1,5 @@
 -- How many entries stand before a spot.
-use Rattle.std.proofs.Common.{◌≡◌, ℕ, zero, suc, ◌+◌, ◌<◌, ◌≤◌, List, [], ◌∷◌, length, get_or, set, refl, sym, ap, ◌∙◌, add-one, arith}
+use Rattle.std.proofs.Common.{◌≡◌, ℕ, zero, suc, ◌+◌, ◌-◌, ◌<◌, ◌≤◌, List, [], ◌∷◌, length, get_or, set, refl, sym, ap, ◌∙◌, add-one, arith}
 use Rattle.std.proofs.lemmas.List.{length-append}
 use Rattle.stretches.specs.Leaves.{flat}
 use Rattle.stretches.specs.Spots.{index_at}
@@ -73,3 +73,15 @@ module _ {X : Type 0} where
   leaf_index_grows (l ∷ ls) zero j le less = omega arith
   leaf_index_grows (l ∷ ls) (suc i) zero le less = absurd (omega arith)
   leaf_index_grows (l ∷ ls) (suc i) (suc j) le less = omega (arith, leaf_index_grows ls i j (omega arith) (omega arith))
+
+  -- what stands so far behind the start of a leaf that it is in a later one
+  pub index_later : (ls : List (List X)) (j k : ℕ) → length (get_or ls j []) ≤ k → index_at ls (suc j) (k - length (get_or ls j [])) ≡ index_at ls j k
+  index_later [] j k far = omega arith
+  index_later (l ∷ ls) zero k far = omega (arith, far, index_first ls (k - length l))
+  index_later (l ∷ ls) (suc j) k far = ap (λ (q : ℕ). length l + q) (index_later ls j k far)
+
+  -- behind all leaves
+  pub index_past : (ls : List (List X)) (j k : ℕ) → length ls ≤ j → length (flat ls) ≤ index_at ls j k
+  index_past [] j k past = omega arith
+  index_past (l ∷ ls) zero k past = absurd (omega (arith, past))
+  index_past (l ∷ ls) (suc j) k past = omega (arith, length-append l (flat ls), index_past ls j k (omega (arith, past)))

@@ -64,12 +64,3 @@ module _ {V : Type 0} (S : Ghosts V) where
     before = λ j d less. omega (arith, first_rises 0 rs order j k d (omega arith) (omega (arith, within)), ap (λ (x : Stretch V). x.first) (any_default rs k d r (omega (arith, within)) ∙ is), low_end);
     behind = λ j d le less. omega (arith, first_rises 0 rs order (k + 1) j d le less, ap (λ (x : Stretch V). x.first) (any_default rs (k + 1) d q within ∙ next), high_end);
   }
-
-module _ {V : Type 0} where
-  -- where a binary search by the first numbers ends
-  pub first_behind_from : (rs : List (Stretch V)) (n at : ℕ) → at ≤ length rs → IsPartitionPoint (λ (r : Stretch V). leb r.first n ≡ true) (λ (r : Stretch V). leb r.first n ≡ false) rs at → IsFirstBehind rs n at
-  first_behind_from rs n at within point = record {
-    within = within;
-    before = λ k d less. leb-true (get_or rs k d).first n (point.0 k d (omega arith) less);
-    behind = λ k d le less. leb-false (get_or rs k d).first n (point.1 k d le less);
-  }

@@ -1,48 +1,44 @@
-use Rattle.std.proofs.Common.{◌≡◌, ◌-◌, List, set, map, refl, sym, ap, subst}
-use Rattle.std.specs.Prelude.{IsSome, vec_capacity, vec_len}
-use Rattle.regions.specs.AddressSpace.{AddressSpace, StartsAt}
+use Rattle.std.proofs.Common.{◌≡◌, List, map, set, length-set, sym, ap, subst, ◌∙◌}
+use Rattle.std.specs.Prelude.{IsSome}
+use Rattle.stretches.specs.Leaves.{entries}
+use Rattle.stretches.specs.Spots.{index}
 use Rattle.vm_model.specs.Regions.{region_among, replace_region, with_prot}
-use Rattle.regions.specs.Seen.{region_seen, IsPlaceOf}
+use Rattle.regions.specs.AddressSpace.{AddressSpace, AreInOrder, StartsAt}
+use Rattle.regions.specs.Seen.{region_seen}
 use Rattle.regions.specs.declared.region.Region.{Region}
-use Rattle.regions.proofs.Changed.{changed, same_space, space}
+use Rattle.regions.proofs.Changed.{as_many, changed, space}
 use Rattle.regions.proofs.Ordered.{prot_keeps}
 use Rattle.regions.proofs.map.RegionMap.protect.Goals as goal
 
-pub known_place-place-requires-clause-order : goal.known_place-place-requires-clause-order
-known_place-place-requires-clause-order c = rw c.deref.ensures.value c.self.invariant.order
+pub known_spot-spot-requires-clause-start : goal.known_spot-spot-requires-clause-start
+known_spot-spot-requires-clause-start c = subst (λ (s : AddressSpace). StartsAt c.args.id.0 c.args.start s.regions) (sym c.self.view_is) c.requires.start
 
-pub known_place-place-requires-clause-start : goal.known_place-place-requires-clause-start
-known_place-place-requires-clause-start c =
-    subst (λ (ys : List Region). StartsAt c.args.id.0 c.args.start (map region_seen ys)) (sym c.deref.ensures.value)
-    (subst (λ (s : AddressSpace). StartsAt c.args.id.0 c.args.start s.regions) (sym c.self.view_is) c.requires.start)
-
-pub known_place-place-requires-clause-there : goal.known_place-place-requires-clause-there
-known_place-place-requires-clause-there c =
-    subst (λ (ys : List Region). IsSome (region_among c.args.id.0 (map region_seen ys))) (sym c.deref.ensures.value)
-    (subst (λ (s : AddressSpace). IsSome (region_among c.args.id.0 s.regions)) (sym c.self.view_is) c.requires.there)
+pub known_spot-spot-requires-clause-there : goal.known_spot-spot-requires-clause-there
+known_spot-spot-requires-clause-there c = subst (λ (s : AddressSpace). IsSome (region_among c.args.id.0 s.regions)) (sym c.self.view_is) c.requires.there
 
 pub invariant_of-self : goal.invariant_of-self
 invariant_of-self c =
-    let old = c.index_mut-region.result.now in
-    let k = c.known_place-place.result in
-    let rs = c.self.inside.regions.items in
+    let old = c.get-region.result in
+    let l = c.self.inside.regions in
+    let k = index l c.known_spot-spot.result in
     let by = with_prot c.args.prot in
-    let place = subst (λ (ys : List Region). IsPlaceOf c.args.id.0 ys k) c.deref.ensures.value c.known_place-place.ensures in
-    let became = ap (λ (r : Region). by (region_seen r)) (sym c.index_mut-region.ensures.value) in
-    let made = changed c.args.id.0 c.self.inside.page_bytes by rs k old (record old { prot = c.args.prot }) place became (prot_keeps c.self.inside.page_bytes c.args.prot) c.self.invariant.order in
-    record { some = c.self.invariant.some; most = c.self.invariant.most; order = made.order }
+    let became = ap (λ (r : Region). by (region_seen r)) (sym c.get-region.ensures) in
+    let made = changed c.args.id.0 c.self.inside.page_bytes by (entries l) k old (record old { prot = c.args.prot }) c.known_spot-spot.ensures.place became (prot_keeps c.self.inside.page_bytes c.args.prot) c.self.invariant.order in
+    record {
+      some = c.self.invariant.some;
+      most = c.self.invariant.most;
+      order = subst (λ (ys : List Region). AreInOrder c.self.inside.page_bytes 0 (map region_seen ys)) (sym c.set.ensures.entries) made.order;
+    }
 
 pub returns : goal.returns
 returns c =
-    let old = c.index_mut-region.result.now in
-    let k = c.known_place-place.result in
-    let rs = c.self.inside.regions.items in
+    let b = c.self.inside.page_bytes in
+    let old = c.get-region.result in
+    let l = c.self.inside.regions in
+    let k = index l c.known_spot-spot.result in
     let by = with_prot c.args.prot in
-    let place = subst (λ (ys : List Region). IsPlaceOf c.args.id.0 ys k) c.deref.ensures.value c.known_place-place.ensures in
-    let became = ap (λ (r : Region). by (region_seen r)) (sym c.index_mut-region.ensures.value) in
+    let became = ap (λ (r : Region). by (region_seen r)) (sym c.get-region.ensures) in
     let x : Region = record old { prot = c.args.prot } in
-    let made = changed c.args.id.0 c.self.inside.page_bytes by rs k old x place became (prot_keeps c.self.inside.page_bytes c.args.prot) c.self.invariant.order in
-    let spare = vec_capacity c.self.inside.regions - vec_len c.self.inside.regions in
-    subst (λ (s : AddressSpace). space c.self.inside.page_bytes spare (map region_seen (set rs k x)) ≡ record s { regions = replace_region c.args.id.0 by s.regions })
-    c.self.view_is
-    (same_space c.self.inside.page_bytes spare spare _ _ refl made.there)
+    let made = changed c.args.id.0 b by (entries l) k old x c.known_spot-spot.ensures.place became (prot_keeps b c.args.prot) c.self.invariant.order in
+    subst (λ (s : AddressSpace). space b c.set.new.self ≡ record s { regions = replace_region c.args.id.0 by s.regions }) c.self.view_is
+    (as_many b l c.set.new.self (set (entries l) k x) _ c.set.ensures.places c.set.ensures.entries (length-set (entries l) k x) made.there)
