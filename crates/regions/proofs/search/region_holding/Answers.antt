@@ -1,4 +1,4 @@
-use Rattle.std.proofs.Common.{◌≡◌, ◌≤◌, ◌<◌, Bor, Option, sym, ap, subst, ◌∙◌, arith}
+use Rattle.std.proofs.Common.{Bor, sym, ap, subst, ◌∙◌, arith}
 use Rattle.std.specs.Prelude.{option_map}
 use Rattle.stretches.specs.Leaves.{entries}
 use Rattle.stretches.specs.Spots.{index}

@@ -1,4 +1,4 @@
-use Rattle.std.proofs.Common.{◌≡◌, ap, sym, ◌∙◌}
+use Rattle.std.proofs.Common.{ap, sym, ◌∙◌}
 use Rattle.stretches.proofs.Nothing.{match_none}
 use Rattle.regions.specs.declared.region.Region.{Region}
 use Rattle.regions.proofs.Found.{last_is, last_other, none_starts}

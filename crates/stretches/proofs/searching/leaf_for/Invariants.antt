@@ -1,4 +1,4 @@
-use Rattle.std.proofs.Common.{ℕ, ◌-◌, ◌<◌, ◌≤◌, length}
+use Rattle.std.proofs.Common.{◌-◌, ◌<◌, ◌≤◌, length}
 use Rattle.stretches.specs.Leaves.{leaf_at}
 use Rattle.stretches.specs.Places.{first_key}
 use Rattle.stretches.proofs.searching.leaf_for.Given as goal

@@ -1,4 +1,4 @@
-use Rattle.std.proofs.Common.{◌≡◌, List, length, sym, subst, ◌∙◌, arith}
+use Rattle.std.proofs.Common.{List, sym, subst, ◌∙◌}
 use Rattle.std.specs.List.Sorted.{IsNonDecreasingBy}
 use Rattle.stretches.specs.Parted.{IsParted}
 use Rattle.stretches.proofs.Leaves.Finding.{leaf_rises, parted_flat, parted_none}
