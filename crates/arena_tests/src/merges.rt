@@ -1,12 +1,12 @@
 // Pages that are copied or retired at once, and a step of settle.
 use local_cache::Caches;
-use tree_merge::{Released, Step, copy_step, retire_step, settle_step};
+use tree_merge::{Released, Step, copy_step, retire_step, settle_some};
 use vm_ids::{Extent, PageNo, Span};
 
 #[test]
 fn nothing_settles_where_nothing_is(rt: HostRuntime) {
     let mut caches = Caches::new(rt.alloc());
-    assert_eq!(&rt; settle_step(&mut caches), None);
+    assert_eq!(&rt; settle_some(&mut caches), None);
 }
 
 #[test]

@@ -160,15 +160,6 @@ sunk old new stands i below s r low high within less least =
       ];
     }
 
--- the place at the index is written down
-closed : (heap : List Numbered) (stands : List ℕ) (i : ℕ) → IsOpen heap stands i → AreStanding heap (set stands (place_at heap i) i)
-closed heap stands i o k within =
-    let wide : length (set stands (place_at heap i) i) ≡ length stands = length-set stands (place_at heap i) i in
-    elim (cases_eq k i) [
-      | inl is ↦ (subst (λ (n : ℕ). place_at heap n < length (set stands (place_at heap i) i)) (sym is) (omega (arith, o.place)), ap (λ (n : ℕ). stand_of (set stands (place_at heap i) i) (place_at heap n)) is ∙ get_or-set_same stands (place_at heap i) i 0 o.place ∙ sym is)
-      | inr other ↦ (omega (arith, (o.standing k within other).0), get_or-set_other stands (place_at heap i) (place_at heap k) i 0 (o.apart k within other) ∙ (o.standing k within other).1)
-    ]
-
 -- the first number is the least
 pub least_first : (heap : List Numbered) → IsOrdered heap → (n i : ℕ) → i ≤ n → i < length heap → number_at heap 0 ≤ number_at heap i
 least_first heap ordered zero i le within = let is : i ≡ 0 = omega arith in omega (arith, ap (number_at heap) is)
@@ -179,9 +170,6 @@ least_first heap ordered (suc n) i le within = elim (cases_eq i 0) [
 
 pub same_through : (a b c : List Numbered) → SameNumbers a b → SameNumbers b c → SameNumbers a c
 same_through a b c s t = record { on = λ p n at. t.on p n (s.on p n at); back = λ p n at. s.back p n (t.back p n at) }
-
-pub same_itself : (a : List Numbered) → SameNumbers a a
-same_itself a = record { on = λ p n at. at; back = λ p n at. at }
 
 -- how far a number has come on its way from an index: it stands in the hole as if it were written
 -- there
@@ -226,10 +214,3 @@ sink_on start heap stands hole below x other w low high in_heap less least is =
       within = omega (arith, length-set heap hole other);
       same = subst (λ (y : Numbered). SameNumbers start (set (set heap hole y) below x)) (sym is) (same_through start (set heap hole x) _ w.same (swapped_same _ _ hole below s inside inside_below));
     }
-
-place_in : (heap : List Numbered) (hole : ℕ) (x : Numbered) → hole < length heap → place_at (set heap hole x) hole ≡ x.place
-place_in heap hole x less = ap (λ (y : Numbered). y.place) (entry_set heap hole x less)
-
--- the place that is on its way has an index in memory
-pub place_below : (start heap : List Numbered) (stands : List ℕ) (hole : ℕ) (x : Numbered) → hole < length heap → IsOpen (set heap hole x) stands hole → x.place < length stands
-place_below start heap stands hole x less o = subst (λ (p : ℕ). p < length stands) (place_in heap hole x less) o.place

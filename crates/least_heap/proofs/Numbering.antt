@@ -341,12 +341,3 @@ none_numbered heap e = ap numbers_of e
 pub record IsCovering (old new : List ℕ) (place : ℕ) : Type 0 where
   pub same : Extends old new
   pub few : (room : ℕ) → length old ≤ room → place < room → length new ≤ room
-
-pub covering : (stands : List ℕ) (place : ℕ) → IsCovering stands stands place
-covering stands place = record { same = ([], sym (append-nil stands)); few = λ room h less. h }
-
-pub cover_on : (old new : List ℕ) (place x : ℕ) → IsCovering old new place → length new ≤ place → IsCovering old (new ++ x ∷ []) place
-cover_on old new place x c short = record {
-  same = (c.same.0 ++ x ∷ [], ap (λ (l : List ℕ). l ++ x ∷ []) c.same.1 ∙ append_assoc old c.same.0 (x ∷ []));
-  few = λ room h less. omega (arith, length_push new x);
-}

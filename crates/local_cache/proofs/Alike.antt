@@ -93,10 +93,6 @@ pub node_here : (o : Option NodeId) → next_if o 0 ≡ o
 node_here None = refl
 node_here (Some n) = (let e : n.0 + 0 ≡ n.0 = omega arith in λ i. Some (record { 0 = e i }))
 
-some_mapped : {A B : Type 0} (v : A → B) (o : Option A) → is_some (option_map v o) ≡ is_some o
-some_mapped v None = refl
-some_mapped v (Some x) = refl
-
 -- one more node that stands alone
 pub said_first : (t : Table) (n : ℕ) (r : Run) → IsStandingAs t n r → AreSaidBy t n r 1
 said_first t n r one k less =

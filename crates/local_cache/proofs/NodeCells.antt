@@ -46,13 +46,6 @@ module _ {X : Type 0} where
     | inr other ↦ others q other ∙ sym (inserted_other m k x q other)
   ])
 
-  pub removed_by : (m n : FinMap nat_cmp X) (k : ℕ) → map.get n k ≡ None
-      → ((q : ℕ) → q ≢ k → map.get n q ≡ map.get m q) → n ≡ map.remove m k
-  removed_by m n k here others = same_maps _ _ (λ q. elim (cases_eq q k) [
-    | inl same ↦ ap (map.get n) same ∙ here ∙ sym (ap (map.get (map.remove m k)) same ∙ removed_here m k)
-    | inr other ↦ others q other ∙ sym (removed_other m k q other)
-  ])
-
 -- How many numbers a map has
 
 module _ {X : Type 0} where

@@ -34,13 +34,6 @@ no_page : (x : NodeName) (k : ℕ) → number_of_name x ≡ Some k → page_of_n
 no_page (Live cache page) k e = absurd (none-some k e)
 no_page (WorkingNode j) k e = refl
 
--- a number that is above all others is free
-pub next_free : (m : Cells) (c : Counters) (r : Stretch Run) → AreNumbered m c → working_number (run_cell r.value) ≡ Some (c.made + 1) → HaveFreeNumbers m r
-next_free m c r numbered is k less =
-    is_free m (working_number (run_cell (run_after r.value k))) (λ j n e h.
-    let at : c.made + 1 + k ≡ j = same_Some _ _ (sym (run_working r.value k ∙ ap (option_map (λ (i : ℕ). i + k)) is) ∙ e) in
-    omega (arith, at, numbered.named n j h))
-
 -- no node has a number of the next working nodes
 pub next_vacant : (m : Cells) (c : Counters) (r : Stretch Run) → AreNumbered m c → r.first ≡ 2 ^ 63 + c.working → (n : ℕ) → is_in r n ≡ true → map.get m n ≡ None
 next_vacant m c r numbered first n inside =

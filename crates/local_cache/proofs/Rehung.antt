@@ -17,9 +17,3 @@ changed_twice m n f g =
     ∙ inserted_by m _ n (g (f (unwrap_or (map.get m n) blank)))
     (inserted_here (changed m n f) n (g (f (unwrap_or (map.get m n) blank))))
     (λ q other. inserted_other (changed m n f) n _ q other ∙ inserted_other m n _ q other)
-
-pub rehung_is : (a : Arena) (n : NodeId) (s : OwnState) (p : Option NodeId) → on_cell a n (λ d. hanging p (owning s d)) ≡ hung (with_own a n s) n p
-unfolding put cell
-rehung_is a n s p =
-    let twice = changed_twice a.cells n.0 (owning s) (hanging p) in
-    λ i. record a { cells = sym twice i }

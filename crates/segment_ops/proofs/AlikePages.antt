@@ -23,9 +23,6 @@ use Rattle.segment_ops.proofs.Saves.{both_false}
 use Rattle.segment_ops.proofs.SyncedPages.{clean_synced}
 use Rattle.segment_ops.proofs.Unsaved.{bare_saved}
 
-pub fewer : (a : Arena) (n : NodeId) (most count : ℕ) → count ≤ most → AreAlike a n most → AreAlike a n count
-fewer a n most count few alike k low = alike k (omega arith)
-
 pub no_children : (ms : List NodeId) → slice_get ms 0 ≡ None → ms ≡ []
 no_children [] e = refl
 no_children (m ∷ ms) e = absurd (cc e)

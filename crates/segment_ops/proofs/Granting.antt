@@ -185,15 +185,6 @@ map_changed : (ts : List (Option Table)) (cache page : ℕ) → map (option_map 
 map_changed ts zero page = refl
 map_changed ts (suc k) page = map_set ts k page
 
-pub no_grants : (range : Extent) (a : Arena) → GrantsBefore range range.first.0 a a
-no_grants range a = record {
-  granted = λ page from below. absurd (omega (arith, from, below));
-  others = λ cache page out. refl;
-  tables = refl;
-  rest = refl;
-  none = λ first. refl;
-}
-
 -- one page more was granted before
 pub granted_on : (range : Extent) (at : ℕ) (a b : Arena) → range.first.0 ≤ at → GrantsBefore range at a b → is_granted b range.cache.0 at ≡ true → GrantsBefore range (at + 1) a b
 granted_on range at a b low grants now = record {

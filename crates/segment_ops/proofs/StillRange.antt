@@ -48,6 +48,3 @@ module _ {old w : World} (still : Still old w) (whole : IsWhole old.caches) wher
     module _ (named : IsNamed old.caches range) where
       pub now_named : IsNamed w.caches range
       now_named = (named.0, (sizes_same old.caches w.caches like.caches).segments range.cache.0 ∙ named.1)
-
-      pub now_home : (page : ℕ) (n : NodeId) → node_at w.caches range.cache.0 page ≡ Some n → IsSome (home_of w.caches n)
-      now_home page n at = ap is_some (range_home w.caches now_sound range.cache page n now_named.0 at now_named.1)

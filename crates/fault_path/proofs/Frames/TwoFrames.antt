@@ -104,9 +104,6 @@ module _ (old w v : World) (f : ℕ) (gathered : IsGathered f old w) (none : Non
   pub taken_still : IsTaken v f
   taken_still = record { within = omega (arith, gathered.taken.within, none.still.stays.frames); pinned = stays.pinned; unbound = stays.node ∙ gathered.taken.unbound }
 
-  abbrev left : World
-  left = record v { frames = record v.frames { held = set v.frames.held f false; pinned = set v.frames.pinned f false } }
-
   is_left : given_up v f (bytes_of v.frames f) ≡ record v { frames = record v.frames { held = set v.frames.held f false; pinned = set v.frames.pinned f false } }
   is_left = λ i. record v { frames = record v.frames { held = set v.frames.held f false; pinned = set v.frames.pinned f false; bytes = set-get_or v.frames.bytes f [] i } }
 

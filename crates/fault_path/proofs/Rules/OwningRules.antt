@@ -31,19 +31,6 @@ use Rattle.page_stubs.specs.Under.IsUnder.{itself as the_same, below as lower}
 use Rattle.page_stubs.proofs.Rules.Ranks.{under_ranked}
 use Rattle.fault_path.proofs.Rules.ForestSize.{more_names}
 
--- the own state of the owner is the page that a node reads
-pub owner_page : (a : Arena) → IsSound a → IsWellShaped (forest_of a) → (n o : NodeId) → HasNode a n → HasNode a o → name_of a o ≡ owner_of (forest_of a) (name_of a n) → (s : OwnState) → s ≡ (cell a o).own → page_of s ≡ value_of (forest_of a) (name_of a n)
-owner_page a sound shaped n o hn ho named s is =
-    ap page_of is ∙ sym (ap (λ m. m.own) (node-forest_of a sound.kept.named o ho)) ∙ ap (λ x. (node (forest_of a) x).own) named ∙ owners_own_values (forest_of a) shaped (name_of a n) (IsNode-forest_of a sound.kept.named n hn)
-
--- an own page is the page that a node reads
-pub own_page : (a : Arena) → IsSound a → (n : NodeId) → HasNode a n → IsSome (node (forest_of a) (name_of a n)).own → (s : OwnState) → s ≡ (cell a n).own → page_of s ≡ value_of (forest_of a) (name_of a n)
-own_page a sound n hn some s is = ap page_of is ∙ sym (ap (λ m. m.own) (node-forest_of a sound.kept.named n hn)) ∙ go (node (forest_of a) (name_of a n)).own refl some
-  where
-    go : (o : Option OwnState) → (node (forest_of a) (name_of a n)).own ≡ o → IsSome o → (node (forest_of a) (name_of a n)).own ≡ value_of (forest_of a) (name_of a n)
-    go None e some = absurd (false≢true some)
-    go (Some v) e some = e ∙ sym (value-IsValue (forest_of a) sound.linked (itself e))
-
 module _ {P : Type 0} where
   -- The heir of x, once it has the page, isn't under a stub that is left at x.
   module _ (f : Forest P) (linked : IsLinked f) (x h : NodeName) (is : heir f x ≡ Some h) (v : Option P) (after : IsLinked (gets f h v)) where
@@ -57,9 +44,6 @@ module _ {P : Type 0} where
         let low = after.order.1 y x (ap parent_of s) in
         absurd (omega arith)
 
-    same_hang : (y : NodeName) → h ≡ y → (node (gets f h v) h).hang ≡ (node (gets f h v) y).hang
-    same_hang y e = ap (λ z. (node (gets f h v) z).hang) e
-
     from_heir : (y : NodeName) → (node (gets f h v) y).hang ≡ StubOf x → ((node (gets f h v) h).hang ≡ TreeOf x) ⊎ ((node (gets f h v) h).hang ≡ Root) → IsUnder (gets f h v) h y → ⊥
     from_heir y s (inl t) the_same = let e : TreeOf x ≡ StubOf x = sym t ∙ s in cc e
     from_heir y s (inr r) the_same = let e : Root ≡ StubOf x = sym r ∙ s in cc e
@@ -68,10 +52,6 @@ module _ {P : Type 0} where
 
     pub heir_clear : (y : NodeName) → y ∈ (node (gets f h v) x).stubs → IsUnder (gets f h v) h y → ⊥
     heir_clear y i = from_heir y ((after.stub_links y x).0 i) hangs
-
-  -- no node comes or goes where one gets a page
-  pub gets_len : (f : Forest P) → IsLinked f → (x : NodeName) (v : Option P) → IsNode f x → len (gets f x v).nodes ≤ len f.nodes
-  gets_len f linked x v is = let most = more_names f (gets f x v) [] (λ z there. inr (sym (gets-names f linked x v is z) ∙ there)) in omega (arith, most)
 
   -- heir_gets, where there is an heir, and where there is none
   pub handed_on : (f : Forest P) (x h : NodeName) → heir f x ≡ Some h → count_copy (hand_stubs (gets f h (value_of f x)) x h) ≡ heir_gets f x
@@ -102,27 +82,3 @@ module _ (a b : Arena) (sound : IsSound a) (n h : NodeId) (hn : HasNode a n) (hh
       heir_clear (forest_of a) sound.linked (name_of a n) (name_of a h) is (page_of s) (subst IsLinked forest after.linked) y
       (subst (λ g. y ∈ (node g (name_of a n)).stubs) forest (subst (λ x. y ∈ (node (forest_of b) x).stubs) (like.name n) i))
       (subst (λ g. IsUnder g (name_of a h) y) forest (subst (λ x. IsUnder (forest_of b) x y) (like.name h) u))
-
-  pub few : len (forest_of b).nodes ≤ len (forest_of a).nodes
-  few = subst (λ g. len g.nodes ≤ len (forest_of a).nodes) (sym forest) (gets_len (forest_of a) sound.linked (name_of a h) (page_of s) (IsNode-forest_of a sound.kept.named h hh))
-
-  -- the other stubs handed over, and the copy counted
-  pub handed_forest : IsSome (node (forest_of a) (name_of a n)).own → s ≡ (cell a n).own → (c : Forest OwnState) → c ≡ hand_stubs (forest_of b) (name_of b n) (name_of b h) → count_copy c ≡ heir_gets (forest_of a) (name_of a n)
-  handed_forest some page c changed =
-      let v : page_of s ≡ value_of (forest_of a) (name_of a n) = own_page a sound n hn some s page in
-      ap (λ g. count_copy g) (changed ∙ ap (λ x. hand_stubs (forest_of b) x (name_of b h)) (like.name n) ∙ ap (hand_stubs (forest_of b) (name_of a n)) (like.name h)
-      ∙ ap (λ g. hand_stubs g (name_of a n) (name_of a h)) forest ∙ ap (λ w. hand_stubs (gets (forest_of a) (name_of a h) w) (name_of a n) (name_of a h)) v)
-      ∙ handed_on (forest_of a) (name_of a n) (name_of a h) is
-
--- a copy that is counted changes no node
-like_counted : (a : Arena) → Like a (record a { copies = a.copies + 1 })
-unfolding cell
-like_counted a = record { held = λ n. refl; name = λ n. refl; caches = refl }
-
--- an own page is its own state
-pub page_told : (s : OwnState) → IsSome (page_of s) → page_of s ≡ Some s
-page_told Absent h = absurd (false≢true h)
-page_told Zero h = refl
-page_told (Resident d) h = refl
-page_told (Slot k) h = refl
-page_told OnSegment h = refl

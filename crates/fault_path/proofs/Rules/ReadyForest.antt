@@ -40,11 +40,6 @@ module _ (w : World) (sound : IsSound w.caches) (shaped : IsWellShaped (forest_o
   pub handed_ready : HasOwnPage w.caches n → heir_gets (store_forest w) (name_of w.caches n) ≡ readied (store_forest w) (name_of w.caches n)
   handed_ready own = readied_own (store_forest w) (name_of w.caches n) (some_own own)
 
--- The bytes of a node that is ready are written: that is the rule write.
-pub written : {P : Type 0} (f : Forest P) (x : NodeName) (v u : P) → (node (readied f x) x).own ≡ Some u → edit (readied f x) x (with_own (Some v)) ≡ write f x (λ _. v)
-unfolding write
-written f x v u own = ap (λ o. put (readied f x) x (with_own (option_map (λ _. v) o) (node (readied f x) x))) (sym own)
-
 -- a node that is ready for a write has its page to itself
 pub ready_alone : (old new : World) → IsSound old.caches → IsWellShaped (forest_of old.caches) → Kept old new → (n : NodeId) → HasNode old.caches n → is_live (name_of old.caches n) ≡ true → (f : ℕ) → IsFramed readied n f old new → IsAlone new.caches (name_of new.caches n)
 ready_alone old new sound shaped kept n there live f framed =

@@ -141,16 +141,6 @@ module _ (m : PageNodes) (c : CacheRows) (cache : ℕ) where
         by_entry None = refl
         by_entry (Some t) = refl
 
-    -- where a page of a live cache has no node, none is found under its number
-    pub vacant_is : entry_at (arena_by m c).caches cache page ≡ Some (record { node = None })
-        → HasRow c.rows cache page × (ids.get m.pages (page_number cache page) ≡ None)
-    vacant_is vacant =
-        let has = has_row (ap is_some vacant) in
-        let same = same_Some _ _ (sym (entry_is has) ∙ vacant) in (
-          has,
-          ap (λ (e : PageEntry). e.node) same,
-        )
-
     -- the same, of a page of which the arena says that it has no node
     pub none_is : node_at (arena_by m c) cache page ≡ None → HasRow c.rows cache page
         → ids.get m.pages (page_number cache page) ≡ None

@@ -133,9 +133,6 @@ module _ (es : List (Option CacheEntry)) (grants : Stretches Granted) (locks : S
       (counted_here (cells locks_say locks.list) (page_number cache page) count)
       (counted_other (cells locks_say locks.list) (page_number cache page) count))
 
-  abbrev before : ℕ
-  before = row_locks (rows_of es grants locks) cache page
-
   here : row_at (rows_of es grants locks) cache
       ≡ Some (row_by (granted_in grants) (locks_in locks) cache e)
   here = row_there (granted_in grants) (locks_in locks) es cache e is

@@ -23,10 +23,6 @@ module _ (a b : Arena) (granted place : ℕ) (e : b ≡ with_grant a granted pla
   pub granted_other : (cache page : ℕ) → (cache ≡ granted → page ≡ place → ⊥) → is_granted b cache page ≡ is_granted a cache page
   granted_other cache page apart = ap (λ x. is_granted x cache page) e ∙ part-others (λ (t : Table). t.grants) false (table_granting place) place true (λ t. refl) a.caches granted cache page apart
 
-  -- the locks of all pages stay
-  pub granted_locks : (cache page : ℕ) → locks_of b cache page ≡ locks_of a cache page
-  granted_locks cache page = ap (λ x. locks_of x cache page) e ∙ part-changed (λ (t : Table). t.locks) 0 (table_granting place) (λ t. refl) a.caches granted cache page
-
 -- What leaves the grants
 
 -- where the tables stay

@@ -58,9 +58,6 @@ module _ (change : Table → Table) (same : (t : Table) → (change t).pages ≡
         ap (λ (x : Arena). entry_at x.caches cache page) e ∙ entry_by (changed_at a.caches at change) cache page
         ∙ ap (entry_among page) (each_changed (λ (t : Table). t.pages) change same a.caches at cache) ∙ sym (entry_by a.caches cache page)
 
-    pub changed_place : (cache : CacheId) (page : PageNo) → HasPlace a cache page → HasPlace b cache page
-    changed_place cache page has = ap is_some (changed_entry cache.0 page.0) ∙ has
-
 -- Which pages there are
 
 -- a page that has a node is there

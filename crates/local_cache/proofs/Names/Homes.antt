@@ -119,10 +119,6 @@ counted_home : (a : Arena) (made : ℕ) (m : NodeId) → home_of (record a { mad
 unfolding cell
 counted_home a made m = refl
 
-find-without : (a : Arena) (n m : NodeId) → m ≢ n → find (without a n) m ≡ find a m
-unfolding without
-find-without a n m ne = get-remove nat_cmp_total a.cells n.0 m.0 ∙ rw (apart m.0 n.0 (λ e. ne (λ i. record { 0 = e i })))
-
 -- where there is no node there is no home
 pub home_none : (a : Arena) (n : NodeId) → find a n ≡ None → home_of a n ≡ None
 home_none a n none = ap (λ (c : Cell). home_named a.caches c.name) (cell_of a n ∙ ap (λ (o : Option Cell). unwrap_or o blank) none)

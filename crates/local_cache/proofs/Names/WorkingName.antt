@@ -32,7 +32,3 @@ vacated a n cache page name at =
     go : (o : Option PageEntry) → option_and_then (λ (e : PageEntry). e.node) o ≡ Some n → option_map no_node o ≡ Some (record { node = None })
     go None e = absurd (cc e)
     go (Some entry) e = refl
-
-pub page_named : (a : Arena) (cache : CacheId) (page : ℕ) (own : OwnState) (n : NodeId) → HasPage a cache page own → node_at a cache.0 page ≡ Some n → (cell a n).name ≡ Live cache (record { 0 = page })
-unfolding cell
-page_named a cache page own n p e = ap (λ (o : Option Cell). (unwrap_or o blank).name) (page_node a cache page own n p e)

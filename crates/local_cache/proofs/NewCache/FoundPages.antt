@@ -64,16 +64,6 @@ last_table old new cache segment own ns m =
     ∙ ap (λ (ts : List (Option Table)). get_or ts (length old.caches) None) m.caches
     ∙ get_or-append_seam old.caches (Some t) [] None
 
--- no page of it is granted
-alike : {X : Type 0} (x : X) (n page : ℕ) → unwrap_or (slice_get (replicate n x) page) x ≡ x
-alike x zero page = refl
-alike x (suc n) zero = refl
-alike x (suc n) (suc page) = alike x n page
-
-pub made_ungranted : (old new : Arena) (cache : CacheId) (segment : Option SegId) (own : OwnState) (ns : List NodeId) (page : ℕ) → IsMade old new cache segment own ns → is_granted new cache.0 page ≡ false
-made_ungranted old new cache segment own ns page m =
-    ap (λ (o : Option Table). unwrap_or (option_and_then (λ (t : Table). slice_get t.grants page) o) false) (last_table old new cache segment own ns m) ∙ alike false (length ns) page
-
 -- its segment
 pub made_segment : (old new : Arena) (cache : CacheId) (segment : Option SegId) (own : OwnState) (ns : List NodeId) → IsMade old new cache segment own ns → segment_of new cache.0 ≡ Some segment
 made_segment old new cache segment own ns m = ap (option_map (λ (t : Table). t.segment)) (last_table old new cache segment own ns m)
@@ -118,6 +108,3 @@ page_node a cache page own n p e =
     let two : Some p.node ≡ Some n = sym p.at ∙ e in
     let same : p.node ≡ n = cc in
     ap (find a) (sym same) ∙ p.is
-
-pub page_held : (a : Arena) (cache : CacheId) (page : ℕ) (own : OwnState) (n : NodeId) → HasPage a cache page own → node_at a cache.0 page ≡ Some n → HasNode a n
-page_held a cache page own n p e = ap is_some (page_node a cache page own n p e)

@@ -8,7 +8,7 @@ ghost use Rattle.local_cache.specs.OnCells.{on_cell, on_cells};
 
 use crate::caches::Caches;
 use crate::runs::{
-    Adopt, Exchange, Hang, Inherit, Rehang, SetBefore, SetBehind, SetEnds, SetOwn, SetPlace,
+    Adopt, Exchange, Hang, Inherit, SetBefore, SetBehind, SetEnds, SetOwn, SetPlace,
 };
 use crate::{Ends, OwnState};
 use vm_ids::NodeId;
@@ -92,17 +92,6 @@ impl Caches {
         ensures stays { NodesStay self.old self.new }
     {
         self.nodes.change(node, Hang(parent));
-    }
-
-    /// Gives a node this own state and hangs it on this parent by a tree link, or on none, in one
-    /// write. Nothing is done to the children of its old and new parent.
-    pub fn rehang(&mut self, node: NodeId, state: OwnState, parent: Option<NodeId>)
-        requires { HasNode self.old node }
-        ensures changed { self.new ≡ hung (with_own self.old node state) node parent }
-        ensures stays { NodesStay self.old self.new }
-    {
-        let change = Rehang { own: state, parent };
-        self.nodes.change(node, change);
     }
 
     /// Hangs so many nodes, from one on, each on the next parent by a tree link. Nothing is done to

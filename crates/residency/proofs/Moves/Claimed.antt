@@ -18,54 +18,6 @@ use Rattle.residency.proofs.Worlds.Nodes.{same}
 abbrev pub claimed : World → ℕ → World
 claimed w f = record w { frames = record w.frames { held = set w.frames.held f true; pinned = set w.frames.pinned f true } }
 
--- a frame that isn't held is neither bound nor pinned
-neither : (o : Option NodeId) (p : Bool) → false ≡ (is_some o || p) → (o ≡ None) × (p ≡ false)
-neither None false e = (refl, refl)
-neither None true e = absurd (cc)
-neither (Some n) p e = absurd (cc)
-
-true_or : (b : Bool) → true ≡ (b || true)
-true_or true = refl
-true_or false = refl
-
-held_after : (w : World) (f : ℕ) → IsStoreRight w → f < length w.frames.held → (g : ℕ) → get_or (set w.frames.held f true) g false ≡ (is_bound w g || get_or (set w.frames.pinned f true) g false)
-held_after w f right within g =
-    let pin : f < length w.frames.pinned = omega (arith, right.tied.fitted.pinned_frames) in
-    elim (cases_eq g f) [
-      | inl e ↦ (
-          let left : get_or (set w.frames.held f true) g false ≡ true = ap (λ (k : ℕ). get_or (set w.frames.held f true) k false) e ∙ get_or-set_same w.frames.held f true false within in
-          let here : get_or (set w.frames.pinned f true) g false ≡ true = ap (λ (k : ℕ). get_or (set w.frames.pinned f true) k false) e ∙ get_or-set_same w.frames.pinned f true false pin in
-          left ∙ true_or (is_bound w g) ∙ sym (ap (λ (b : Bool). is_bound w g || b) here))
-      | inr d ↦ get_or-set_other w.frames.held f g true false d ∙ right.tied.placed.held g ∙ ap (λ (b : Bool). is_bound w g || b) (sym (get_or-set_other w.frames.pinned f g true false d))
-    ]
-
-pinned_after : (w : World) (f : ℕ) → is_pinned w.frames f ≡ false → (g : ℕ) → is_pinned w.frames g ≡ true → PinnedStays w (claimed w f) g
-pinned_after w f loose g pinned = record {
-  pinned = get_or-set_other w.frames.pinned f g true false (λ e. absurd (let t : is_pinned w.frames g ≡ false = ap (is_pinned w.frames) e ∙ loose in cc)) ∙ pinned;
-  bytes = refl;
-  node = refl;
-}
-
--- after an eviction
-pub free_then : (a b c : World) (f : ℕ) → length b.frames.held ≡ length a.frames.held → b.frames.pinned ≡ a.frames.pinned → IsMadeFree f b c → IsMadeFree f a c
-free_then a b c f frames pinned m = record {
-  within = omega (arith, m.within);
-  loose = ap (λ (xs : List Bool). get_or xs f false) (sym pinned) ∙ m.loose;
-  pinned = m.pinned ∙ ap (λ (xs : List Bool). set xs f true) pinned;
-  held = m.held;
-  unbound = m.unbound;
-}
-
--- and after its taker filled it or gave it up
-pub taken_then : (a b c : World) (f : ℕ) → Still a b → IsMadeFree f a b → StillBut f b c → Still a c
-taken_then a b c f p m q = record {
-  stays = stays_then a b c p.stays q.stays;
-  pinned = λ g h. (
-      let i = p.pinned g h in
-      let j = q.pinned g (λ e. absurd (let t : is_pinned a.frames g ≡ false = ap (is_pinned a.frames) e ∙ m.loose in cc)) i.pinned in
-      record { pinned = j.pinned; bytes = j.bytes ∙ i.bytes; node = j.node ∙ i.node });
-}
-
 -- where all frames are held, one may be evicted
 pub may_evict : (p : Frames) → length p.pinned ≡ length p.held → All (λ h. h ≡ true) p.held → HasUnpinned p → (f : ℕ) × (f < length p.held) × (is_evictable p f ≡ true)
 may_evict p same all some =
