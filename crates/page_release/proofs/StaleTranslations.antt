@@ -6,6 +6,8 @@ pub mod Seen
 pub mod Alike
 -- The translations of a range, some pages after others.
 pub mod Ranges
+-- The frames of the own pages of some nodes are those in which the map has these.
+pub mod Owned
 -- What is left of the translations.
 pub mod Left
 -- What is kept from before translations alone were dropped or narrowed.

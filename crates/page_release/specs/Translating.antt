@@ -7,7 +7,7 @@ use Rattle.vm_ids.specs.Forest.Nodes.{is_live, node}
 use Rattle.global_map.specs.Pairs.{node_of}
 use Rattle.local_cache.specs.Arena.{Arena}
 use Rattle.page_tables.specs.Entries.{read_only}
-use Rattle.page_tables.specs.Translations.{entry_at}
+use Rattle.page_tables.specs.Translations.{entry_at, narrowed_in}
 use Rattle.page_tables.specs.declared.entry.Entry.{Entry}
 use Rattle.residency.specs.Seeing.{IsAlone, frame_forest, seen_in}
 use Rattle.residency.specs.Translating.{without}
@@ -33,12 +33,6 @@ own_in a map x = option_and_then (λ frame. frame) (node (frame_forest a map) x)
 -- one of these nodes has its own page in this frame
 abbrev pub is_owned : Arena → List (Option NodeId) → List NodeName → ℕ → Bool
 is_owned a map names frame = list_any (λ x. is_frame (own_in a map x) frame) names
-
--- what is at a place, for reading alone where it leads to one of these frames
-abbrev pub narrowed_in : (ℕ → Bool) → Option Entry → Option Entry
-narrowed_in frames None = None
-narrowed_in frames (Some entry) =
-    Some (if frames entry.to.frame.0 then read_only entry else entry)
 
 -- the tables where the translations that lead to these frames are for reading alone
 abbrev pub with_narrowed : (frames : ℕ → Bool) → List (Option Entry) → List (Option Entry)

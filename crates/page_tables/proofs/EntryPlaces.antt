@@ -87,11 +87,11 @@ row_of f g true false e = (let z : false ≡ true = (and_parts (g == f) false e)
 row_of f g false true e = (let z : false ≡ true = (and_parts (g == f) false e).1 in absurd (cc))
 row_of f g false false e = ap (λ (n : ℕ). 1 + 2 * n) (equal_from g f ((and_parts (g == f) true e).0))
 
-leads_by : (o : Option Entry) (frame : ℕ) (writable : Bool) → place_list o ≡ frame_row frame writable → holds (leads_to frame writable) o ≡ true
+pub leads_by : (o : Option Entry) (frame : ℕ) (writable : Bool) → place_list o ≡ frame_row frame writable → holds (leads_to frame writable) o ≡ true
 leads_by None frame writable e = absurd (some_frame frame writable (sym e))
 leads_by (Some entry) frame writable e = leads frame entry.to.frame.0 writable entry.to.writable e
 
-listed_by : (o : Option Entry) (frame : ℕ) (writable : Bool) → holds (leads_to frame writable) o ≡ true → place_list o ≡ frame_row frame writable
+pub listed_by : (o : Option Entry) (frame : ℕ) (writable : Bool) → holds (leads_to frame writable) o ≡ true → place_list o ≡ frame_row frame writable
 listed_by None frame writable e = absurd (cc)
 listed_by (Some entry) frame writable e = row_of frame entry.to.frame.0 writable entry.to.writable e
 

@@ -3,7 +3,7 @@ use Rattle.std.proofs.Common.{◌≡◌, ℕ, zero, suc, ◌+◌, ◌-◌, ◌<�
 use Rattle.std.specs.Prelude.{count_by, if◌then◌else◌}
 use Rattle.std.specs.List.{range_with_len}
 use Rattle.std.proofs.lemmas.Bool.{cases_eq, cases_lt, cond-false, cond-true}
-use Rattle.std.proofs.lemmas.List.{get_or-append_right, get_or-set_other, get_or-set_same, get_or_past, length-replicate, length_push, replicate-append-replicate, set-append_left}
+use Rattle.std.proofs.lemmas.List.{get_or_append_left, get_or_default, get_or-append_right, get_or-set_other, get_or-set_same, get_or_past, length-replicate, length_push, replicate-append-replicate, set-append_left}
 use Rattle.std.proofs.lemmas.List.FromFn.{get_or-map-range_with_len, length-map-range_with_len}
 use Rattle.vm_ids.proofs.Places.{bit_true, count_cons, count-replicate_none, other_number, same_all, same_number}
 use Rattle.page_tables.specs.Membership.{is_on}
@@ -23,6 +23,12 @@ pub link_first : (list : Option ℕ) (n : ℕ) (xs : List Link) (i : ℕ) → le
 link_first list n xs i past below =
     get_or-append_right xs (map (first_link list n) (range_with_len (length xs) (n - length xs))) (length xs) i loose refl past
     ∙ get_or-map-range_with_len (first_link list n) (length xs) (n - length xs) (i - length xs) i loose (omega (arith, past, below)) (omega (arith, past))
+
+-- a link that is there
+pub link_there : (list : Option ℕ) (n : ℕ) (xs : List Link) (i : ℕ) (x : Link) → i < length xs → x ≡ get_or xs i x → x ≡ link_of (links_in list n xs) i
+link_there list n xs i x h here =
+    here ∙ get_or_default xs i x loose h
+    ∙ sym (get_or_append_left xs (map (first_link list n) (range_with_len (length xs) (n - length xs))) loose i h)
 
 -- one link more is there
 pub link_more : (list : Option ℕ) (n : ℕ) (xs : List Link) → length xs < n

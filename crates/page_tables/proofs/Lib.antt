@@ -2,8 +2,11 @@ pub mod Columns
 pub mod Threading
 pub mod LinkReads
 pub mod FirstLinks
+pub mod FrameSets
 pub mod EntryPlaces
 pub mod Seeing
 pub mod Dropping
+pub mod Writing
+pub mod Narrowing
 pub mod RowPlaces
 pub mod EachEntry

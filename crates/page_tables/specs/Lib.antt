@@ -1,4 +1,5 @@
 pub mod Entries
+pub mod FrameSets
 pub mod Indexes
 pub mod Links
 pub mod Membership
@@ -6,3 +7,4 @@ pub mod Places
 pub mod Rows
 pub mod Threads
 pub mod Translations
+pub mod Writing

@@ -1,7 +1,7 @@
 -- The page tables as a list of places, each empty or with an entry.
-use Rattle.std.specs.Prelude.{◌≡◌, ℕ, ◌+◌, ◌*◌, ◌<◌, ◌≤◌, Bool, true, false, List, length, Option, Some, None, slice_index_or, slice_set, SomeIndex, count_by, is_some, if◌then◌else◌}
-use Rattle.std.specs.List.{position_or_len}
-use Rattle.page_tables.specs.Entries.{is_for, is_in_frame, read_only}
+use Rattle.std.specs.Prelude.{◌≡◌, ℕ, ◌+◌, ◌*◌, ◌<◌, ◌≤◌, ◌==◌, Bool, true, false, nat_lt, List, length, map, Option, Some, None, slice_index_or, slice_set, SomeIndex, count_by, is_some, if◌then◌else◌}
+use Rattle.std.specs.List.{position_or_len, range_with_len}
+use Rattle.page_tables.specs.Entries.{is_for, leads_to, read_only}
 use Rattle.page_tables.specs.declared.entry.Entry.{Entry}
 use Rattle.page_tables.specs.declared.entry.Translation.{Translation}
 
@@ -56,12 +56,32 @@ abbrev pub unless : (Entry → Bool) → Option Entry → Option Entry
 unless test None = None
 unless test (Some entry) = if test entry then None else Some entry
 
+-- what is at a place, read-only if it leads to one of these frames
+abbrev pub narrowed_in : (ℕ → Bool) → Option Entry → Option Entry
+narrowed_in frames None = None
+narrowed_in frames (Some entry) =
+    Some (if frames entry.to.frame.0 then read_only entry else entry)
+
 -- an entry is read-only if it leads to a frame
 abbrev pub narrowed : ℕ → Option Entry → Option Entry
-narrowed frame None = None
-narrowed frame (Some entry) = Some (if is_in_frame frame entry then read_only entry else entry)
+narrowed frame = narrowed_in (λ other. other == frame)
 
 -- what is at a place, read-only
 abbrev pub read_only_at : Option Entry → Option Entry
 read_only_at None = None
 read_only_at (Some entry) = Some (read_only entry)
+
+-- an entry for writing leads to a frame
+abbrev pub is_written : List (Option Entry) → ℕ → Bool
+is_written places frame = nat_lt 0 (count_by (holds (leads_to frame true)) places)
+
+-- to how many of so many frames one does
+abbrev pub written_count : List (Option Entry) → ℕ → ℕ
+written_count places frames = count_by (is_written places) (range_with_len 0 frames)
+
+-- the entries that lead to some frames are read-only, and of each frame to which one led for writing
+-- it was answered whether it is one of these
+pub record Narrows (old new : List (Option Entry)) (answer : ℕ → Bool → Type 0) : Type 0 where
+  pub frames : ℕ → Bool
+  pub tables : new ≡ map (narrowed_in frames) old
+  pub answered : (frame : ℕ) → is_written old frame ≡ true → answer frame (frames frame)

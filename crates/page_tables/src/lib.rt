@@ -12,12 +12,15 @@
 //! An entry is found by the hash of its actor and page (`probe_table`). The places of a frame, and
 //! those of a row of actors, are on lists that are threaded through them, so a drop walks along one
 //! list, or looks up the pages that it drops; no call goes through all places, and none but `new`
-//! takes memory. Room for all places is taken there, and those that were never used aren't filled
-//! in. This crate stands on `vm_ids` and `probe_table`.
+//! takes memory. The frames to which an entry for writing leads are a set that can be gone through:
+//! so those of a large range are made read-only without a look at each of its pages. Room for all
+//! places is taken by `new`, and those that were never used aren't filled in. This crate stands on
+//! `vm_ids` and `probe_table`.
 #![tactic(auto)]
 
 mod entries;
 mod entry;
+mod frames;
 mod links;
 mod lists;
 mod places;

@@ -1,8 +1,8 @@
 // The links of entries, of which those that were never written take room alone.
-ghost use Rattle.std.specs.Prelude.{◌≡◌, ◌<◌, ◌≤◌, ◌^◌, length, map, slice_set, vec_capacity, IfOk};
+ghost use Rattle.std.specs.Prelude.{◌≡◌, ◌<◌, ◌≤◌, ◌^◌, Some, length, map, slice_set, vec_capacity, IfOk};
 ghost use Rattle.std.specs.List.{range_with_len};
 ghost use Rattle.page_tables.specs.Links as spec;
-ghost use Rattle.page_tables.specs.Links.{link_of, links_in, number_before};
+ghost use Rattle.page_tables.specs.Links.{link_of, links_in, number_before, with_before, with_behind};
 
 use crate::lists::{LOOSE, Link};
 use std::alloc::Global;
@@ -60,7 +60,8 @@ fn first_link(list: Option<u32>, entries: u32, entry: u32) -> Link
 }
 
 // Makes the links up to that of an entry be there.
-fn bring(there: &mut Vec<Link>, list: Option<u32>, entries: u32, entry: u32)
+#[inline(never)]
+fn extend(there: &mut Vec<Link>, list: Option<u32>, entries: u32, entry: u32)
     requires below { entry < entries }
     requires within { length there.old.items ≤ entries }
     requires room { entries ≤ vec_capacity there.old }
@@ -72,6 +73,22 @@ fn bring(there: &mut Vec<Link>, list: Option<u32>, entries: u32, entry: u32)
     while there.len() <= entry as usize {
         let next = there.len() as u32;
         there.push_reserved(first_link(list, entries, next));
+    }
+}
+
+// Sees to it that the link of an entry is there.
+#[inline(always)]
+fn bring(there: &mut Vec<Link>, list: Option<u32>, entries: u32, entry: u32)
+    requires below { entry < entries }
+    requires within { length there.old.items ≤ entries }
+    requires room { entries ≤ vec_capacity there.old }
+    ensures at { entry < length there.new.items }
+    ensures within { length there.new.items ≤ entries }
+    ensures room { entries ≤ vec_capacity there.new }
+    ensures same { links_in list entries there.new.items ≡ links_in list entries there.old.items }
+{
+    if there.len() <= entry as usize {
+        extend(there, list, entries, entry);
     }
 }
 
@@ -89,6 +106,7 @@ impl Links {
     }
 
     /// The link of an entry.
+    #[inline(always)]
     pub fn get(&self, entry: u32) -> Link
         requires { entry < length self.now }
         ensures { result ≡ link_of self.now entry }
@@ -101,11 +119,34 @@ impl Links {
     }
 
     /// Sets the link of an entry.
+    #[inline(always)]
     pub fn set(&mut self, entry: u32, link: Link)
         requires { entry < length self.old }
         ensures { self.new ≡ slice_set self.old entry link }
     {
         bring(&mut self.there, self.list, self.entries, entry);
         self.there[entry as usize] = link;
+    }
+
+    /// Sets who stands before an entry.
+    #[inline(always)]
+    pub fn set_before(&mut self, entry: u32, before: Option<u32>)
+        requires { entry < length self.old }
+        ensures { self.new ≡ with_before self.old (Some entry) before }
+    {
+        bring(&mut self.there, self.list, self.entries, entry);
+        let link = &mut self.there[entry as usize];
+        link.before = before;
+    }
+
+    /// Sets who stands behind an entry.
+    #[inline(always)]
+    pub fn set_behind(&mut self, entry: u32, behind: Option<u32>)
+        requires { entry < length self.old }
+        ensures { self.new ≡ with_behind self.old (Some entry) behind }
+    {
+        bring(&mut self.there, self.list, self.entries, entry);
+        let link = &mut self.there[entry as usize];
+        link.behind = behind;
     }
 }

@@ -51,8 +51,7 @@ fn set_before(links: &mut Links, at: Option<u32>, before: Option<u32>)
     ensures { links.new ≡ with_before links.old at before }
 {
     if let Some(entry) = at {
-        let link = links.get(entry);
-        links.set(entry, Link { before, ..link });
+        links.set_before(entry, before);
     }
 }
 
@@ -62,8 +61,7 @@ fn set_behind(links: &mut Links, at: Option<u32>, behind: Option<u32>)
     ensures { links.new ≡ with_behind links.old at behind }
 {
     if let Some(entry) = at {
-        let link = links.get(entry);
-        links.set(entry, Link { behind, ..link });
+        links.set_behind(entry, behind);
     }
 }
 

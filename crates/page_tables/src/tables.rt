@@ -1,10 +1,11 @@
 // The page tables: the places of entries, and the rows in which those of an actor are found.
 ghost use Rattle.std.specs.Prelude.{◌≡◌, ◌≢◌, ℕ, ◌+◌, ◌*◌, ◌<◌, ◌≤◌, ◌^◌, true, false, None, Some, length, map, replicate, slice_set, IfOk, IfSome, MatchOption};
+ghost use Rattle.vm_ids.specs.declared.numbers.FrameId.{FrameId};
 ghost use Rattle.page_tables.specs.Entries.{is_in_frame, is_in_range, is_of_actor, is_picked};
 ghost use Rattle.page_tables.specs.Indexes.{place_row};
 ghost use Rattle.page_tables.specs.Membership.{list_of, Membership};
 ghost use Rattle.page_tables.specs.Rows.{IsAside, IsInRows};
-ghost use Rattle.page_tables.specs.Translations.{entries_for, entry_at, holds, narrowed, read_only_at, translation, unless, IsEntered, IsFrame, IsPlaceFor};
+ghost use Rattle.page_tables.specs.Translations.{entries_for, entry_at, holds, narrowed, translation, unless, written_count, IsEntered, IsFrame, IsPlaceFor, Narrows};
 
 use crate::entry::{Entry, Pages, ROWS, Translation, actor_row};
 use crate::lists::EntryLists;
@@ -159,9 +160,25 @@ impl PageTables {
         requires { IsFrame self.old frame.0 }
         ensures { self.new ≡ map (narrowed frame.0) self.old }
     {
-        while let Some(place) = self.places.first_of(frame, true) {
-            self.narrow(place);
-        }
+        self.places.narrow_frame(frame);
+    }
+
+    /// To how many frames an entry for writing leads.
+    pub fn written(&self) -> u32
+        ensures { (frames : ℕ) → length self.now ≡ 4 * frames →
+            result ≡ written_count self.now frames }
+    {
+        self.places.written()
+    }
+
+    /// Makes each entry read-only that leads to a frame that is picked. It is asked once of each
+    /// frame to which an entry for writing leads, and of no other, in any order.
+    pub fn narrow_picked<F: Fn(FrameId) -> bool>(&mut self, picks: F)
+        requires { (frame : FrameId) → IsFrame self.old frame.0 → F.pre picks frame }
+        ensures { Narrows self.old self.new
+            (λ frame picked. F.post picks (record { 0 = frame }) picked) }
+    {
+        self.places.narrow_picked(picks);
     }
 
     /// Drops the entries of so many pages of an actor, from the first one on.
@@ -226,22 +243,6 @@ impl PageTables {
         let place = self.hand % self.places.count();
         self.hand = place + 1;
         place
-    }
-
-    // The entry at a place is read-only.
-    fn narrow(&mut self, place: u32)
-        requires below { place < length self.old }
-        requires frame { IfSome (entry_at self.old place)
-            (λ entry. IsFrame self.old entry.to.frame.0) }
-        ensures { self.new ≡ slice_set self.old place (read_only_at (entry_at self.old place)) }
-    {
-        if let Some(entry) = self.places.get(place) {
-            let to = Translation {
-                writable: false,
-                ..entry.to
-            };
-            self.put(place, Some(Entry { to, ..entry }));
-        }
     }
 
     // Puts this at a place, an entry or nothing, whatever was there.

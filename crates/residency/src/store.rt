@@ -1,12 +1,13 @@
 // Frames, slots, page tables and the map, and the calls that move pages between them.
-ghost use Rattle.std.specs.Prelude.{◌≡◌, ◌≢◌, ℕ, ◌+◌, ◌-◌, ◌*◌, ◌<◌, ◌≤◌, ◌^◌, ◌++◌, [], length, map, replicate, slice_set, true, false, Option, Some, None, IfSome, IfOk, OnOk, OnErr, IsOk};
+ghost use Rattle.std.specs.Prelude.{◌≡◌, ◌≢◌, ℕ, ◌+◌, ◌-◌, ◌*◌, ◌<◌, ◌≤◌, ◌^◌, ◌++◌, [], length, map, replicate, slice_set, true, false, Option, Some, None, IfSome, MatchOption, IfOk, OnOk, OnErr, IsOk};
 ghost use Rattle.std.specs.Borrow.{sem};
+ghost use Rattle.vm_ids.specs.declared.numbers.NodeId.{NodeId};
 ghost use Rattle.vm_ids.specs.Held.{Held};
 ghost use Rattle.frame_pool.specs.Pool.{bytes_of, is_held, is_pinned, with_bytes};
 ghost use Rattle.slot_pool.specs.Slots as swap;
 ghost use Rattle.global_map.specs.Pairs.{bound_times, frame_of, node_of};
 ghost use Rattle.page_tables.specs.Entries.{is_in_frame};
-ghost use Rattle.page_tables.specs.Translations.{IsFrame, unless};
+ghost use Rattle.page_tables.specs.Translations.{IsFrame, Narrows, unless};
 ghost use Rattle.local_cache.specs.Arena.{Arena};
 ghost use Rattle.residency.specs.Frames.{free_frames, with_held, with_pinned};
 ghost use Rattle.residency.specs.Lending.{LendsFrame, LendsTables};
@@ -108,6 +109,33 @@ impl Store {
         ensures tables { result.now ≡ self.old.tables }
     {
         &mut self.tables
+    }
+
+    /// Makes the translations read-only that lead to the frame of a node that is picked. It is
+    /// asked of each node to whose frame a translation for writing leads, in any order.
+    pub fn narrow_picked<F: Fn(NodeId) -> bool>(&mut self, picks: F)
+        requires places { length self.old.tables ≡ 4 * length self.old.map }
+        requires callable { (frame : ℕ) (node : NodeId) → node_of self.old.map frame ≡ Some node →
+            F.pre picks node }
+        ensures same { self.new ≡ record self.old { tables = self.new.tables } }
+        ensures narrowed { Narrows self.old.tables self.new.tables (λ frame picked.
+            MatchOption (node_of self.old.map frame) (picked ≡ false)
+            (λ node. F.post picks node picked)) }
+    {
+        let map = &self.map;
+        self.tables.narrow_picked(
+            |frame|
+                requires frame { frame.0 < length map.now }
+                requires node { IfSome (node_of map.now frame.0) (λ node. F.pre picks node) }
+                ensures { MatchOption (node_of map.now frame.0) (result ≡ false)
+                    (λ node. F.post picks node result) }
+            {
+                match map.node_at(frame) {
+                    Some(node) => picks(node),
+                    None => false,
+                }
+            },
+        );
     }
 
     /// The bytes of a frame, to be written.

@@ -11,12 +11,12 @@ use Rattle.local_cache.specs.Arena.{Arena}
 use Rattle.local_cache.specs.Reading.{forest_of}
 use Rattle.local_cache.specs.Sound.{IsSound}
 use Rattle.page_tables.specs.Entries.{read_only}
-use Rattle.page_tables.specs.Translations.{entry_at, unless}
+use Rattle.page_tables.specs.Translations.{entry_at, narrowed_in, unless}
 use Rattle.page_tables.specs.declared.entry.Entry.{Entry}
 use Rattle.residency.specs.declared.store.Store.{Store}
 use Rattle.residency.specs.Seeing.{IsAlone, seen_in}
 use Rattle.residency.specs.Translating.{without}
-use Rattle.page_release.specs.Translating.{Leaves, Replaces, WasEntered, freed, is_frame, is_owned, is_seen, narrowed_in, own_in, with_narrowed}
+use Rattle.page_release.specs.Translating.{Leaves, Replaces, WasEntered, freed, is_frame, is_owned, is_seen, own_in, with_narrowed}
 use Rattle.page_release.proofs.StaleTranslations.Ranges.{OnlyTables, same_map, tables_mapped, tables_then}
 use Rattle.page_release.proofs.StaleTranslations.Seen.{alone_own}
 
@@ -72,7 +72,7 @@ none_of true c e = absurd (cc e)
 none_of false c e = (refl, e)
 
 -- a frame that is that of none of these pages
-not_at : (at : NodeName → Option ℕ) (names : List NodeName) (f : ℕ) → list_any (λ x. is_frame (at x) f) names ≡ false → (x : NodeName) → x ∈ names → at x ≢ Some f
+pub not_at : (at : NodeName → Option ℕ) (names : List NodeName) (f : ℕ) → list_any (λ x. is_frame (at x) f) names ≡ false → (x : NodeName) → x ∈ names → at x ≢ Some f
 not_at at [] f none x i e = absurd i
 not_at at (y ∷ ys) f none x i e =
     let both = none_of (is_frame (at y) f) (list_any (λ z. is_frame (at z) f) ys) none in

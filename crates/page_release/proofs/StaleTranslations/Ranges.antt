@@ -11,12 +11,13 @@ use Rattle.local_cache.specs.Arena.{Arena}
 use Rattle.page_tables.specs.Entries.{is_in_frame, read_only}
 use Rattle.page_tables.specs.Translations.{narrowed, unless}
 use Rattle.page_tables.specs.declared.entry.Entry.{Entry}
+use Rattle.page_tables.proofs.Narrowing.{narrowed_as, narrowed_none, narrowed_twice}
 use Rattle.residency.specs.declared.store.Store.{Store}
 use Rattle.residency.specs.Translating.{without}
 use Rattle.residency.specs.World.{IsTied, world}
 use Rattle.residency.proofs.Translations.Dropped.{twice, without_as, without_none}
 use Rattle.page_release.specs.Steps.{IsStoreTied}
-use Rattle.page_release.specs.Translating.{is_frame, narrowed_in, with_narrowed}
+use Rattle.page_release.specs.Translating.{is_frame, with_narrowed}
 use Rattle.page_release.proofs.Forgotten.Range.{names_end}
 
 -- the names of so many pages, and of those behind them
@@ -33,42 +34,6 @@ names_apart c p (suc m) r =
 or_false : (b : Bool) → (b || false) ≡ b
 or_false true = refl
 or_false false = refl
-
--- Some frames' translations, for reading alone
-narrowed_as : (p q : ℕ → Bool) (tables : List (Option Entry)) → ((f : ℕ) → p f ≡ q f) → with_narrowed p tables ≡ with_narrowed q tables
-narrowed_as p q tables same = λ i. with_narrowed (λ f. same f i) tables
-
-narrowed_none_at : (x : Option Entry) → narrowed_in (λ f. false) x ≡ x
-narrowed_none_at None = refl
-narrowed_none_at (Some e) = refl
-
-narrowed_none : (tables : List (Option Entry)) → with_narrowed (λ f. false) tables ≡ tables
-narrowed_none [] = refl
-narrowed_none (x ∷ xs) = λ i. narrowed_none_at x i ∷ narrowed_none xs i
-
-narrowed_one_at : (f : ℕ) (x : Option Entry) → narrowed f x ≡ narrowed_in (λ g. g == f) x
-narrowed_one_at f None = refl
-narrowed_one_at f (Some e) = refl
-
-narrowed_one : (f : ℕ) (tables : List (Option Entry)) → map (narrowed f) tables ≡ with_narrowed (λ g. g == f) tables
-narrowed_one f [] = refl
-narrowed_one f (x ∷ xs) = λ i. narrowed_one_at f x i ∷ narrowed_one f xs i
-
-narrowed_both : (q : ℕ → Bool) (b : Bool) (e : Entry) → narrowed_in q (Some (cond b (read_only e) e)) ≡ Some (cond (b || q e.to.frame.0) (read_only e) e)
-narrowed_both q true e = again (q e.to.frame.0)
-  where
-    again : (c : Bool) → Some (cond c (read_only (read_only e)) (read_only e)) ≡ Some (read_only e)
-    again true = refl
-    again false = refl
-narrowed_both q false e = refl
-
-narrowed_twice_at : (p q : ℕ → Bool) (x : Option Entry) → narrowed_in q (narrowed_in p x) ≡ narrowed_in (λ f. p f || q f) x
-narrowed_twice_at p q None = refl
-narrowed_twice_at p q (Some e) = narrowed_both q (p e.to.frame.0) e
-
-narrowed_twice : (p q : ℕ → Bool) (tables : List (Option Entry)) → with_narrowed q (with_narrowed p tables) ≡ with_narrowed (λ f. p f || q f) tables
-narrowed_twice p q [] = refl
-narrowed_twice p q (x ∷ xs) = λ i. narrowed_twice_at p q x i ∷ narrowed_twice p q xs i
 
 -- The frames of some pages, where `at` tells the frame of each
 module _ (at : NodeName → Option ℕ) where
@@ -104,7 +69,7 @@ module _ (at : NodeName → Option ℕ) where
     narrow_nothing x is = sym (narrowed_none tables) ∙ narrowed_as (is_frame None) (any_at (x ∷ [])) tables (one_at x None is)
 
     pub narrow_frame : (x : NodeName) (f : ℕ) → at x ≡ Some f → map (narrowed f) tables ≡ with_narrowed (any_at (x ∷ [])) tables
-    narrow_frame x f is = narrowed_one f tables ∙ narrowed_as (is_frame (Some f)) (any_at (x ∷ [])) tables (one_at x (Some f) is)
+    narrow_frame x f is = narrowed_as (is_frame (Some f)) (any_at (x ∷ [])) tables (one_at x (Some f) is)
 
     pub drop_frameless : (c : CacheId) (p n : ℕ) → AreFrameless c p n → tables ≡ without (any_at (page_names c p n)) tables
     drop_frameless c p n none = sym (without_none tables) ∙ without_as (λ f. false) (any_at (page_names c p n)) tables (none_at c p n none)

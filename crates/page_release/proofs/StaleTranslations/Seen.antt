@@ -88,7 +88,7 @@ IsFound map n found = MatchOption found (bound_times map n.0 ≡ 0) (λ frame. (
 abbrev pub number_of : Option FrameId → Option ℕ
 number_of found = option_map (λ (f : FrameId). f.0) found
 
-in_frame : (s : OwnState) (f : ℕ) → is_resident s ≡ true → option_and_then (λ frame. frame) (page_by None (Some f) (λ slot. None) None s) ≡ Some f
+pub in_frame : (s : OwnState) (f : ℕ) → is_resident s ≡ true → option_and_then (λ frame. frame) (page_by None (Some f) (λ slot. None) None s) ≡ Some f
 in_frame Absent f h = absurd (false≢true h)
 in_frame Zero f h = absurd (false≢true h)
 in_frame (Resident d) f h = refl

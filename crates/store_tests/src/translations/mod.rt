@@ -22,6 +22,7 @@ fn translations_are_entered_and_dropped(rt: HostRuntime) -> Result<(), Fail> {
     assert_eq!(rt; tables.lookup(actor, 8), None);
     tables.narrow_frame(frame);
     assert_eq!(rt; tables.lookup(actor, 7), seen(false));
+    assert_eq!(rt; tables.written(), 0);
     tables.drop_range(actor, 7, 1);
     assert_eq!(rt; tables.lookup(actor, 7), None);
     assert_eq!(rt; tables.lookup(other, 7), seen(false));
@@ -31,6 +32,29 @@ fn translations_are_entered_and_dropped(rt: HostRuntime) -> Result<(), Fail> {
     assert_eq!(rt; tables.lookup(actor, 9), seen(false));
     tables.drop_frame(frame);
     assert_eq!(rt; tables.lookup(actor, 9), None);
+    Ok(())
+}
+
+#[test]
+fn picked_frames_are_narrowed(rt: HostRuntime) -> Result<(), Fail> {
+    let mut tables = PageTables::new(rt.alloc(), 3)?;
+    let actor = ActorId(1);
+    let seen = |number, writable| {
+        let frame = FrameId(number);
+        Some(Translation { frame, writable })
+    };
+    for number in 0..3 {
+        tables.enter(actor, number as u64, FrameId(number), number < 2);
+    }
+    tables.enter(actor, 8, FrameId(0), true);
+    assert_eq!(rt; tables.written(), 2);
+    tables.narrow_picked(|frame| frame.0 == 0);
+    assert_eq!(rt; tables.lookup(actor, 0), seen(0, false));
+    assert_eq!(rt; tables.lookup(actor, 8), seen(0, false));
+    assert_eq!(rt; tables.lookup(actor, 1), seen(1, true));
+    assert_eq!(rt; tables.written(), 1);
+    tables.drop_frame(FrameId(1));
+    assert_eq!(rt; tables.written(), 0);
     Ok(())
 }
 
@@ -73,6 +97,14 @@ fn call_both(
         3 => {
             tables.drop_actor(actor);
             slow.drop_actor(actor);
+        }
+        4 => {
+            tables.narrow_picked(|other| other != frame);
+            for number in 0..3 {
+                if number != frame.0 {
+                    slow.narrow_frame(FrameId(number));
+                }
+            }
         }
         _ => {
             let to = Translation {

@@ -34,6 +34,16 @@ loop-done-preserved c =
           ∙ narrow_step (own_in a s.map) t.tables c.args.extent.cache c.args.extent.first.0 c.args.extent.pages k m most ∙ i.tables;
     }
 
+pub returns-then-looks-eq0 : goal.returns-then-looks-eq0
+returns-then-looks-eq0 c =
+    let i = c.loop-done.invariant in
+    let s = c.args.store.now in
+    let t = c.loop-done.store in
+    let a = c.args.caches.now in
+    let left = page_names c.args.extent.cache (c.args.extent.first.0 + c.loop-done.done) (c.args.extent.pages - c.loop-done.done) in
+    let here = ap (λ (l : List (Option NodeId)). with_tables t (with_narrowed (is_owned a l left) t.tables)) (same_map s t i.only) in
+    c.narrow_written.ensures ∙ here ∙ ap (λ (r : Store). with_tables r (with_narrowed (is_owned a s.map left) t.tables)) i.only.is ∙ ap (with_tables s) i.tables
+
 pub returns : goal.returns
 returns c =
     let i = c.loop-done.invariant in

@@ -1,8 +1,8 @@
-use Rattle.std.proofs.Common.{List, None, Option, Some, map, ap, ◌∙◌, subst}
-use Rattle.vm_ids.specs.declared.node_name.NodeName.TheVariants.{Live}
+use Rattle.std.proofs.Common.{List, None, Option, Some, map, ap, ◌∙◌, refl, subst}
 use Rattle.vm_ids.specs.declared.numbers.NodeId.{NodeId}
 use Rattle.page_tables.specs.Translations.{narrowed}
 use Rattle.page_release.specs.Translating.{own_in}
+use Rattle.local_cache.specs.Reading.{name_of}
 use Rattle.page_release.proofs.StaleTranslations.Ranges.{narrow_frame, narrow_nothing, with_tables}
 use Rattle.page_release.proofs.StaleTranslations.Seen.{IsFound, own_is}
 use Rattle.page_release.proofs.translations.narrow_own_page.Goals as goal
@@ -11,19 +11,17 @@ pub returns-in-Some : goal.returns-in-Some
 returns-in-Some c =
     let s = c.args.store.now in
     let a = c.args.caches.now in
-    let n = c.node_of.result in
-    let x = Live c.args.cache c.args.page in
-    let at = c.requires.sound.kept.listed.nodes c.args.cache.0 c.args.page.0 n c.node_of.ensures in
+    let n = c.args.node in
+    let x = name_of a n in
     let f = c.in-Some.frame in
-    let own = own_is s a c.requires.tied c.requires.sound n at.0 x at.1 (Some f) (subst (λ (m : List (Option NodeId)). IsFound m n (Some f)) c.map.ensures c.in-Some.ensures.found) in
+    let own = own_is s a c.requires.tied c.requires.sound n c.requires.node x refl (Some f) (subst (λ (m : List (Option NodeId)). IsFound m n (Some f)) c.map.ensures c.in-Some.ensures.found) in
     ap (with_tables s) (c.narrow_frame.ensures ∙ ap (map (narrowed f.0)) c.tables_mut.ensures.tables ∙ narrow_frame (own_in a s.map) s.tables x f.0 own)
 
 pub returns-in_default : goal.returns-in_default
 returns-in_default c =
     let s = c.args.store.now in
     let a = c.args.caches.now in
-    let n = c.node_of.result in
-    let x = Live c.args.cache c.args.page in
-    let at = c.requires.sound.kept.listed.nodes c.args.cache.0 c.args.page.0 n c.node_of.ensures in
-    let own = own_is s a c.requires.tied c.requires.sound n at.0 x at.1 None (subst (λ (m : List (Option NodeId)). IsFound m n None) c.map.ensures c.in_default.ensures.found) in
+    let n = c.args.node in
+    let x = name_of a n in
+    let own = own_is s a c.requires.tied c.requires.sound n c.requires.node x refl None (subst (λ (m : List (Option NodeId)). IsFound m n None) c.map.ensures c.in_default.ensures.found) in
     ap (with_tables s) (narrow_nothing (own_in a s.map) s.tables x own)

@@ -8,4 +8,4 @@ use Rattle.page_tables.proofs.places.Places.empty.Goals as goal
 pub returns : goal.returns
 returns c =
     let P : List (Option Entry) → Type 0 = λ xs. MatchOption c.first.result ((place : ℕ) → place < length xs → entry_at xs place ≢ None) (λ place. (place < length xs) × (entry_at xs place ≡ None)) in
-    subst P c.self.view_is (first_empty c.self.inside.entries c.self.inside.by_frame c.self.invariant.on_lists c.first.result c.first.ensures)
+    subst P c.self.view_is (first_empty c.self.inside.entries c.self.inside.by_frame c.self.invariant.0.on_lists c.first.result c.first.ensures)

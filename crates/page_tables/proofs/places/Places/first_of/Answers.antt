@@ -11,4 +11,4 @@ pub returns : goal.returns
 returns c =
     let P : List (Option Entry) → Type 0 = λ xs. MatchOption c.first.result ((place : ℕ) → holds (leads_to c.args.frame.0 c.args.writable) (entry_at xs place) ≡ false) (λ place. (place < length xs) × (holds (leads_to c.args.frame.0 c.args.writable) (entry_at xs place) ≡ true)) in
     let Q : ℕ → Type 0 = λ k. MatchOption c.first.result ((entry : ℕ) → list_of c.self.inside.by_frame entry ≢ Some k) (λ entry. list_of c.self.inside.by_frame entry ≡ Some k) in
-    subst P c.self.view_is (first_leading c.self.inside.entries c.self.inside.by_frame c.args.frame.0 c.args.writable c.self.invariant.on_lists c.first.result (subst Q c.frame_list.ensures c.first.ensures))
+    subst P c.self.view_is (first_leading c.self.inside.entries c.self.inside.by_frame c.args.frame.0 c.args.writable c.self.invariant.0.on_lists c.first.result (subst Q c.frame_list.ensures c.first.ensures))

@@ -9,4 +9,4 @@ pub returns-clause-alone : goal.returns-clause-alone
 returns-clause-alone c =
     let P : List (Option Entry) → Type 0 = λ xs. IfSome c.get.result (λ e. entries_for (set xs c.args.place None) e.actor.0 e.page ≡ 0) in
     let below : c.args.place < length c.self.inside.entries = subst (λ (xs : List (Option Entry)). c.args.place < length xs) (sym c.self.view_is) c.requires in
-    subst P c.self.view_is (alone_at c.self.inside.entries c.args.place c.self.invariant.once below c.get.result (sym c.get.ensures))
+    subst P c.self.view_is (alone_at c.self.inside.entries c.args.place c.self.invariant.0.once below c.get.result (sym c.get.ensures))

@@ -1,6 +1,6 @@
 use Rattle.std.proofs.Common.{◌≡◌, ◌+◌, ◌-◌, ◌≤◌, length, vec_capacity}
 use Rattle.page_tables.specs.Links.{links_in}
-use Rattle.page_tables.proofs.links.bring.Given as goal
+use Rattle.page_tables.proofs.links.extend.Given as goal
 
 abbrev pub invariant-loop-list : goal.invariant-loop-list
 invariant-loop-list l = record {

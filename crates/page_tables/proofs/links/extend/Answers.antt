@@ -3,7 +3,7 @@ use Rattle.std.proofs.lemmas.List.{length_push}
 use Rattle.page_tables.specs.Links.{first_link, links_in}
 use Rattle.page_tables.specs.declared.lists.Link.{Link}
 use Rattle.page_tables.proofs.FirstLinks.{link_more}
-use Rattle.page_tables.proofs.links.bring.Goals as goal
+use Rattle.page_tables.proofs.links.extend.Goals as goal
 
 pub loop-list-preserved : goal.loop-list-preserved
 loop-list-preserved c =
