@@ -127,7 +127,7 @@ impl Store {
             |frame|
                 requires frame { frame.0 < length map.now }
                 requires node { IfSome (node_of map.now frame.0) (λ node. F.pre picks node) }
-                ensures { MatchOption (node_of map.now frame.0) (result ≡ false)
+                ensures { MatchOption (node_of map.entry.now frame.0) (result ≡ false)
                     (λ node. F.post picks node result) }
             {
                 match map.node_at(frame) {
