@@ -29,6 +29,6 @@ mod place;
 
 pub use alone::{Alone, Same};
 pub use found::Found;
-pub(crate) use lone_map::LoneMap;
+pub use lone_map::LoneMap;
 pub use mixed_map::MixedMap;
 pub use place::Place;

@@ -25,9 +25,10 @@ fn roomier<S: Same>(slots: &Slab<S>, room: u32) -> Result<Slab<S>, AllocError>
     Ok(more)
 }
 
-// A finite map by number: an index from numbers to slots.
+/// A finite map by number, whose entries each have a slot of their own. An entry keeps its slot as
+/// long as it stands.
 #[derive(Drop)]
-pub(crate) struct LoneMap<S> {
+pub struct LoneMap<S> {
     // The slot of each number.
     index: Index,
     // The entry in each slot: the slot is its key.
@@ -57,8 +58,8 @@ impl<S> Model for LoneMap<S> {
 impl<S> LoneMap<S> {
     ghost use Rattle.mixed_map.specs.Lending.{LendsAlone};
 
-    // No entry, and no memory for one.
-    pub(crate) fn new(alloc: Global) -> Self
+    /// No entry, and no memory for one.
+    pub fn new(alloc: Global) -> Self
         ensures { result ≡ record { entries = map.empty; slots = map.empty; room = 0 } }
     {
         LoneMap {
@@ -68,9 +69,9 @@ impl<S> LoneMap<S> {
         }
     }
 
-    // Makes room for so many entries in all. It can fail only where there was less room, and then
-    // nothing changes.
-    pub(crate) fn reserve(&mut self, room: u32) -> Result<(), AllocError>
+    /// Makes room for so many entries in all. It can fail only where there was less room, and then
+    /// nothing changes.
+    pub fn reserve(&mut self, room: u32) -> Result<(), AllocError>
     where
         S: Same,
         ensures ok { OnOk result (self.new ≡ record self.old { room = max self.old.room room }) }
@@ -86,9 +87,9 @@ impl<S> LoneMap<S> {
         Ok(())
     }
 
-    // Where the entry of a number stands. `None` exactly where it has none.
+    /// Where the entry of a number stands. `None` exactly where it has none.
     #[inline(always)]
-    pub(crate) fn place(&self, number: u64) -> Option<Place>
+    pub fn place(&self, number: u64) -> Option<Place>
         ensures place { IfSome result (λ place. (place.number ≡ number)
             × IsPlace self.now.slots place) }
         ensures none { IfNone result ((map.get self.now.slots number ≡ None)
@@ -111,9 +112,9 @@ impl<S> LoneMap<S> {
         Some(Place { number, slot })
     }
 
-    // The same, where it was found lately; or else `None`.
+    /// The same, where it was found lately; or else `None`.
     #[inline(always)]
-    pub(crate) fn recent_place(&self, number: u64) -> Option<Place>
+    pub fn recent_place(&self, number: u64) -> Option<Place>
         ensures { IfSome result (λ place. (place.number ≡ number)
             × IsPlace self.now.slots place) }
     {
@@ -121,8 +122,8 @@ impl<S> LoneMap<S> {
         Some(Place { number, slot })
     }
 
-    // The place with this slot, in which an entry is.
-    pub(crate) fn place_of(&self, slot: u32) -> Place
+    /// The place with this slot, in which an entry is.
+    pub fn place_of(&self, slot: u32) -> Place
         requires { (number : ℕ) × (map.get self.now.slots number ≡ Some slot) }
         ensures slot { result.slot ≡ slot }
         ensures place { IsPlace self.now.slots result }
@@ -133,18 +134,18 @@ impl<S> LoneMap<S> {
         }
     }
 
-    // The entry at a place.
+    /// The entry at a place.
     #[inline(always)]
-    pub(crate) fn at(&self, place: Place) -> &S
+    pub fn at(&self, place: Place) -> &S
         requires { IsPlace self.now.slots place }
         ensures { map.get self.now.entries place.number ≡ Some result.now }
     {
         &self.slots[place.slot as usize]
     }
 
-    // The same, to be changed.
+    /// The same, to be changed.
     #[inline(always)]
-    pub(crate) fn at_mut(&mut self, place: Place) -> &mut S
+    pub fn at_mut(&mut self, place: Place) -> &mut S
         requires { IsPlace self.old.slots place }
         ensures* writes_back { sem 𝓛 (LendsAlone S.row self.entry place result) }
         ensures entry { map.get self.old.entries place.number ≡ Some result.now }
@@ -152,16 +153,16 @@ impl<S> LoneMap<S> {
         &mut self.slots[place.slot as usize]
     }
 
-    // The entry of a number. `None` exactly where it has none.
-    pub(crate) fn get(&self, number: u64) -> Option<&S>
+    /// The entry of a number. `None` exactly where it has none.
+    pub fn get(&self, number: u64) -> Option<&S>
         ensures { option_copied result ≡ map.get self.now.entries number }
     {
         let place = self.place(number)?;
         Some(self.at(place))
     }
 
-    // An entry for a number that has none. Its place.
-    pub(crate) fn insert(&mut self, number: u64, entry: S) -> Place
+    /// An entry for a number that has none. Its place.
+    pub fn insert(&mut self, number: u64, entry: S) -> Place
         requires vacant { map.get self.old.entries number ≡ None }
         requires room { map.len self.old.slots < self.old.room }
         ensures number { result.number ≡ number }
@@ -178,8 +179,8 @@ impl<S> LoneMap<S> {
         Place { number, slot }
     }
 
-    // Takes out the entry at a place.
-    pub(crate) fn take(&mut self, place: Place) -> S
+    /// Takes out the entry at a place.
+    pub fn take(&mut self, place: Place) -> S
         requires { IsPlace self.old.slots place }
         ensures entry { map.get self.old.entries place.number ≡ Some result }
         ensures taken { self.new ≡ record self.old {
