@@ -73,7 +73,7 @@ pub fn write_fault<M: Mapper, C: Chooser>(
     write_from_owner(store, caches, node, owner, mapper, chooser)
 }
 
-/// The same where the owner of the node is told.
+/// The page of a node whose owner is told is made ready for a write, as by `write_fault`.
 pub fn write_from_owner<M: Mapper, C: Chooser>(
     store: &mut Store,
     caches: &mut Caches,
@@ -120,8 +120,8 @@ pub fn write_from_owner<M: Mapper, C: Chooser>(
     Ok(frame)
 }
 
-// The same, where the translations that lead to the pages of the node and of its owner are left to
-// the caller.
+// The page of a node is made ready for a write. The translations that lead to the pages of the node
+// and of its owner are left to the caller.
 fn make_ready<M: Mapper, C: Chooser>(
     store: &mut Store,
     caches: &mut Caches,
@@ -170,7 +170,7 @@ fn make_ready<M: Mapper, C: Chooser>(
     }
 }
 
-// The same for a node without an own page, whose heir is told.
+// The page of a node without an own page, whose heir is told, is made ready for a write.
 fn own_and_hand<M: Mapper, C: Chooser>(
     store: &mut Store,
     caches: &mut Caches,
@@ -218,7 +218,7 @@ fn own_and_hand<M: Mapper, C: Chooser>(
     Ok(frame)
 }
 
-// The same for a node that has an own page, and whose heir is told.
+// The own page of a node whose heir is told is made ready for a write.
 fn hand_own<M: Mapper, C: Chooser>(
     store: &mut Store,
     caches: &mut Caches,
@@ -253,7 +253,7 @@ fn hand_own<M: Mapper, C: Chooser>(
     Ok(frame)
 }
 
-// The same for a node that has an own page, and no heir.
+// The own page of a node without an heir is made ready for a write.
 fn bring_dirty<M: Mapper, C: Chooser>(
     store: &mut Store,
     caches: &mut Caches,

@@ -16,9 +16,9 @@ fn run_mut(bytes: &mut Vec<u8>, start: usize, end: usize) -> &mut [u8]
     bytes.slice_mut(start..end)
 }
 
-// The same, where the clause counts on the length: what is lent as a slice comes back as long as it
-// was, and the other bytes are as before. The borrow checker shows no such clause, so its proof is
-// written by hand.
+// A run of the bytes as a slice, where the clause counts on the length: what is lent comes back as
+// long as it was, and the other bytes are as before. The borrow checker shows no such clause, so
+// its proof is written by hand.
 pub(crate) fn part_mut(bytes: &mut Vec<u8>, start: usize, end: usize) -> &mut [u8]
     requires order { start ≤ end }
     requires within { end ≤ vec_len bytes.old }

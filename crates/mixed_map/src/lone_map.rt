@@ -10,9 +10,9 @@ use slab::Slab;
 use std::alloc::{AllocError, Global};
 use std::marker::Model;
 
-// The same entries under the same keys, with room for just so many in all. A slab that grows may
-// come to have room for more than it was asked for, and give out keys up to there: so its room is
-// looked at before it is used.
+// These entries under their keys, with room for just so many in all. A slab that grows may come to
+// have room for more than it was asked for, and give out keys up to there: so its room is looked at
+// before it is used.
 fn roomier<S: Same>(slots: &Slab<S>, room: u32) -> Result<Slab<S>, AllocError>
     ensures { IfOk result (λ more. more ≡ record slots.now { capacity = room }) }
 {
@@ -101,7 +101,7 @@ impl<S> LoneMap<S> {
         }
     }
 
-    // The same, by the index alone.
+    // What `place` tells, by the index alone.
     fn search(&self, number: u64) -> Option<Place>
         ensures place { IfSome result (λ place. (place.number ≡ number)
             × IsPlace self.now.slots place) }
@@ -112,7 +112,7 @@ impl<S> LoneMap<S> {
         Some(Place { number, slot })
     }
 
-    /// The same, where it was found lately; or else `None`.
+    /// What `place` tells where the entry was found lately; or else `None`.
     #[inline(always)]
     pub fn recent_place(&self, number: u64) -> Option<Place>
         ensures { IfSome result (λ place. (place.number ≡ number)
@@ -143,7 +143,7 @@ impl<S> LoneMap<S> {
         &self.slots[place.slot as usize]
     }
 
-    /// The same, to be changed.
+    /// The entry at a place, to be changed.
     #[inline(always)]
     pub fn at_mut(&mut self, place: Place) -> &mut S
         requires { IsPlace self.old.slots place }

@@ -103,7 +103,7 @@ impl<V: Says, S: Alone<V>> MixedMap<V, S> {
         Some(self.at(place))
     }
 
-    /// The same, where it was found lately; or else `None`.
+    /// What `lone` tells where the entry was found lately; or else `None`.
     #[inline(always)]
     pub fn recent(&self, number: u64) -> Option<&S>
         ensures slot { IfSome result (λ entry. IsSome (map.get self.now.slots number)) }
@@ -126,7 +126,7 @@ impl<V: Says, S: Alone<V>> MixedMap<V, S> {
         self.lone.place(number)
     }
 
-    /// The same, where it was found lately; or else `None`.
+    /// What `place` tells where the entry was found lately; or else `None`.
     #[inline(always)]
     pub fn recent_place(&self, number: u64) -> Option<Place>
         ensures { IfSome result (λ place. (place.number ≡ number)
@@ -153,7 +153,7 @@ impl<V: Says, S: Alone<V>> MixedMap<V, S> {
         self.lone.at(place)
     }
 
-    /// The same, to be changed.
+    /// The entry at a place, to be changed.
     #[inline(always)]
     pub fn at_mut(&mut self, place: Place) -> &mut S
         requires { IsPlace self.old.slots place }

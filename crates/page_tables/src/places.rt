@@ -128,7 +128,7 @@ fn enlist(by_frame: &mut EntryLists, writing: &mut FrameSet, place: u32, entry: 
     }
 }
 
-// The same entry, for reading alone.
+// The entry, for reading alone.
 fn read_only(entry: Option<Entry>) -> Option<Entry>
     ensures { result ≡ read_only_at entry }
 {

@@ -131,7 +131,7 @@ pub(crate) fn spot_of(
     }
 }
 
-// The same of a number that a region has.
+// The spot of the region with a number that a region has.
 pub(crate) fn known_spot(
     regions: &Directory<Region>,
     page_bytes: u64,

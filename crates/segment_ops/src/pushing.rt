@@ -68,7 +68,7 @@ fn push_page<M: Mapper, C: Chooser>(
     Ok(())
 }
 
-// The same where the home may hold it. Nothing is done then.
+// Pushes what a node reads to its home, if the home doesn't hold it already.
 fn sync_page<M: Mapper, C: Chooser>(
     store: &mut Store,
     caches: &mut Caches,
@@ -211,8 +211,9 @@ fn let_go<M: Mapper>(store: &mut Store, caches: &mut Caches, node: NodeId, mappe
     }
 }
 
-// The same for the first page of a range. As many pages from there on as are alike and in no frame
-// are passed over at once. It answers how many pages were done.
+// Gives up the frame of the first page of a range, which its segment holds. As many pages from
+// there on as are alike and in no frame are passed over at once. It answers how many pages were
+// done.
 fn give_up_next<M: Mapper>(
     store: &mut Store,
     caches: &mut Caches,
@@ -250,7 +251,7 @@ fn give_up_next<M: Mapper>(
     1
 }
 
-// The same for all pages of a range.
+// Gives up the frames of all pages of a range, which their segment holds.
 fn give_up_pages<M: Mapper>(store: &mut Store, caches: &mut Caches, range: Extent, mapper: &mut M)
     requires right { RightStore M.Mapper mapper.old caches.old store.old }
     requires whole { IsWhole caches.old }

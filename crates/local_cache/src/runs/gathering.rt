@@ -86,7 +86,7 @@ impl NodeTable {
 }
 
 impl NodeRuns {
-    // The same of the nodes of pages.
+    // The nodes of pages from this one on that are alike become a run.
     pub(crate) fn gather(&mut self, node: NodeId, most: u32)
         requires { HasNode self.old node }
         ensures { self.new ≡ self.old }

@@ -151,7 +151,7 @@ impl NodeTable {
         }
     }
 
-    // The same of a node that doesn't stand alone.
+    // What `member` tells, of a node that doesn't stand alone.
     fn member_told(&self, node: u64) -> Option<Member>
         requires { IsSome (map.get self.now.cells node)
             → IsSome (said run self.now.list node) }
@@ -215,7 +215,7 @@ impl NodeTable {
         self.search_owner(node)
     }
 
-    // The same, wherever the nodes stand.
+    // What `owner_from` tells, wherever the nodes stand.
     #[inline(never)]
     fn search_owner(&self, first: u64) -> NodeId
         requires { (owner : ℕ) × IsOwner self.now.cells first owner }

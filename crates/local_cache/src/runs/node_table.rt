@@ -121,7 +121,7 @@ impl NodeTable {
         }
     }
 
-    // The same, wherever it stands.
+    // What `single` does, wherever the node stands.
     #[inline(never)]
     fn make_single(&mut self, node: u64) -> Place
         requires { HasCell self.old.cells node }

@@ -85,7 +85,7 @@ impl PageTable {
         }
     }
 
-    // The same, wherever it stands.
+    // What `node_of` tells, wherever the page stands.
     #[inline(never)]
     fn search(&self, page: u64) -> Option<NodeId>
         ensures { result ≡ map.get self.now.nodes.cells page }

@@ -119,7 +119,7 @@ impl ThinNodes {
         }
     }
 
-    // The same, where the numbers are two.
+    // What `change` does, where the numbers are two.
     #[inline(never)]
     fn exchange(&mut self, slot: u32, before: Option<u64>, now: Option<u64>)
         requires before { map.get self.old.alone slot ≡ before }

@@ -108,7 +108,7 @@ impl Store {
         }
     }
 
-    // The same for a page in a slot.
+    // Puts a node's page that is in a slot into a frame, or gives that back.
     fn pull_slot<M: Mapper>(
         &mut self,
         caches: &mut Caches,
@@ -141,7 +141,7 @@ impl Store {
         }
     }
 
-    // The same for a page on its segment.
+    // Puts a node's page that is on its segment into a frame, or gives that back.
     fn pull_home<M: Mapper>(
         &mut self,
         caches: &mut Caches,

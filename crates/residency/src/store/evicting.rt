@@ -186,7 +186,7 @@ impl Store {
         }
     }
 
-    // The same where no frame is free.
+    // A frame for the caller where none is free: that of a page that is evicted.
     fn make_room<M: Mapper, C: Chooser>(
         &mut self,
         caches: &mut Caches,
