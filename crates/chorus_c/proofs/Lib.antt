@@ -1,0 +1,2 @@
+-- By how much a command raises the counters.
+mod Raising

@@ -1,0 +1,4 @@
+pub mod Exchanging
+pub mod Handed
+pub mod Parts
+pub mod Serving
