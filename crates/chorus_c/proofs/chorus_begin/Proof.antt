@@ -67,7 +67,7 @@ chorus_begin_spec 𝓤 𝓛 𝓜 𝓡 wired =
     enter ! 𝓣.C 𝓣.Λ fn args Post $ alloc_all ! (λ l. pass_all ! refl (fa, ((tt, tt), ((tt, record { fits = is_n.1 }), ((tt, record { fits = is_m.1 }), ((tt, record { fits = is_k.1 }), tt))))) $ let Ev = env fn.locals l in
     first ! $ blocks ! $ sets ! (of_opd ! (get ! refl)) refl (tt, tt) $
     -- [the room; the allocator; the locals]
-    let given = (a, (n, (m, (k, tt)))) in
+    let given : Z.Denot × (ℕ × (ℕ × (ℕ × Unit {0}))) = (a, (n, (m, (k, tt)))) in
     let y : G.Ghost = ((tt, tt, tt, given, (hv ∷ [], (vn ∷ [], (vm ∷ [], (vk ∷ [], tt))))), tt) in
     nothing ! $ owned ! u32 (Is u32) (uint_Makes 𝓛 w32) k (vk ∷ []) (refl, is_k.1) $ fjoin ! $ owned ! u32 (Is u32) (uint_Makes 𝓛 w32) m (vm ∷ []) (refl, is_m.1) $ fjoin ! $
     owned ! u32 (Is u32) (uint_Makes 𝓛 w32) n (vn ∷ []) (refl, is_n.1) $ move ! (3 ∷ 0 ∷ 1 ∷ []) $ fjoin3 ! $ nothing ! $ join ! $
