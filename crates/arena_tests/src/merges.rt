@@ -1,13 +1,7 @@
-// Pages that are copied or retired at once, and a step of settle.
+// Pages that are copied or retired at once.
 use local_cache::Caches;
-use tree_merge::{Released, Step, copy_step, retire_step, settle_some};
+use tree_merge::{Released, Step, copy_step, retire_step};
 use vm_ids::{Extent, PageNo, Span};
-
-#[test]
-fn nothing_settles_where_nothing_is(rt: HostRuntime) {
-    let mut caches = Caches::new(rt.alloc());
-    assert_eq!(&rt; settle_some(&mut caches), None);
-}
 
 #[test]
 fn alike_pages_are_copied_at_once(rt: HostRuntime) {
