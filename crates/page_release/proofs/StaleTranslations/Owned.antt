@@ -41,19 +41,24 @@ below_by map f n at = elim (cases_lt f (length map)) [
   | inr b ↦ (let none : None ≡ Some n = sym (get_or_past map f None b) ∙ at in absurd (cc none))
 ]
 
+module _ (s : Store) (a : Arena) (tied : IsStoreTied s a) where
+  -- a node that the map has in a frame is there
+  pub held_there : (f : ℕ) (n : NodeId) → node_of s.map f ≡ Some n → HasNode a n
+  held_there f n at = (home (world None None a s) f n tied (below_by s.map f n at) at).there
+
 module _ (s : Store) (a : Arena) (tied : IsStoreTied s a) (sound : IsSound a) where
   -- the map has a node in the frame of its own page
   bound_there : (n : NodeId) → HasNode a n → (f : ℕ) → own_in a s.map (name_of a n) ≡ Some f → node_of s.map f ≡ Some n
-  bound_there n h f is = elim (cases_Bool (is_resident (own_of a n))) [
-    | inl yes ↦ (
-        let at = stands s.map n (tied.placed.bound n ∙ ap bit yes) in
-        let frame : Some (frame_of s.map n.0) ≡ Some f = sym (own ∙ in_frame (own_of a n) (frame_of s.map n.0) yes) ∙ is in
-        let same : frame_of s.map n.0 ≡ f = cc frame in
-        ap (node_of s.map) (sym same) ∙ at.1)
-    | inr no ↦ (let none : None ≡ Some f = sym (own ∙ in_none (own_of a n) (frame_of s.map n.0) no) ∙ is in absurd (cc none))
-  ]
-  where
-    own = ap (option_and_then (λ frame. frame)) (own_at a s.map sound n h)
+  bound_there n h f is =
+      let own = ap (option_and_then (λ frame. frame)) (own_at a s.map sound n h) in
+      elim (cases_Bool (is_resident (own_of a n))) [
+        | inl in_one ↦ (
+            let at = stands s.map n (tied.placed.bound n ∙ ap bit in_one) in
+            let frame : Some (frame_of s.map n.0) ≡ Some f = sym (own ∙ in_frame (own_of a n) (frame_of s.map n.0) in_one) ∙ is in
+            let same : frame_of s.map n.0 ≡ f = cc frame in
+            ap (node_of s.map) (sym same) ∙ at.1)
+        | inr in_no ↦ (let none : None ≡ Some f = sym (own ∙ in_none (own_of a n) (frame_of s.map n.0) in_no) ∙ is in absurd (cc none))
+      ]
 
   module _ (names : List NodeName) (there : (x : NodeName) → x ∈ names → (n : NodeId) × HasNode a n × (name_of a n ≡ x)) where
     -- whether the node in a frame has one of the names
@@ -64,17 +69,15 @@ module _ (s : Store) (a : Arena) (tied : IsStoreTied s a) (sound : IsSound a) wh
         Says o = MatchOption o (picked ≡ false) (λ n. IsTrue picked ↔ (name_of a n ∈ names))
 
         by : (o : Option NodeId) → node_of s.map f ≡ o → Says o → (is_owned a s.map names f ≡ true) ⊎ (is_owned a s.map names f ≡ false) → picked ≡ is_owned a s.map names f
-        by o at m (inl yes) =
-            let r = some_at (own_in a s.map) names f yes in
+        by o at m (inl owned) =
+            let r = some_at (own_in a s.map) names f owned in
             let n = there r.0 r.1 in
             let here = bound_there n.0 n.1 f (ap (own_in a s.map) n.2 ∙ r.2) in
-            (subst Says (sym at ∙ here) m).1 (subst (λ x. x ∈ names) (sym n.2) r.1) ∙ sym yes
-        by None at m (inr no) = m ∙ sym no
-        by (Some n) at m (inr no) = elim (cases_Bool picked) [
-          | inr f1 ↦ f1 ∙ sym no
-          | inl t ↦ (
-              let within = below_by s.map f n at in
-              let held = (home (world None None a s) f n tied within at).there in
-              let own = own_is s a tied sound n held (name_of a n) refl (Some (record { 0 = f })) (within, at) in
-              absurd (not_at (own_in a s.map) names f no (name_of a n) (m.0 t) own))
+            (subst Says (sym at ∙ here) m).1 (subst (λ x. x ∈ names) (sym n.2) r.1) ∙ sym owned
+        by None at m (inr other) = m ∙ sym other
+        by (Some n) at m (inr other) = elim (cases_Bool picked) [
+          | inr not_so ↦ not_so ∙ sym other
+          | inl is_so ↦ (
+              let own = own_is s a tied sound n (held_there s a tied f n at) (name_of a n) refl (Some (record { 0 = f })) (below_by s.map f n at, at) in
+              absurd (not_at (own_in a s.map) names f other (name_of a n) (m.0 is_so) own))
         ]

@@ -1,25 +1,13 @@
-use Rattle.std.proofs.Common.{◌≡◌, ◌+◌, ◌-◌, ◌<◌, ◌≤◌, ap, ◌∙◌, subst, arith, sym}
-use Rattle.std.specs.Prelude.{◌↔◌}
-use Rattle.vm_ids.specs.declared.command.Extent.{Extent}
-use Rattle.vm_ids.specs.declared.node_name.NodeName.{NodeName}
+use Rattle.std.proofs.Common.{◌∙◌, sym}
+use Rattle.std.proofs.lemmas.Bool.{false≢true}
 use Rattle.vm_ids.specs.declared.node_name.NodeName.TheVariants.{Live, Working}
-use Rattle.vm_ids.specs.declared.numbers.CacheId.{CacheId}
-use Rattle.vm_ids.specs.declared.numbers.PageNo.{PageNo}
-use Rattle.vm_ids.specs.Forest.Commands.{extent_names}
-use Rattle.vm_ids.specs.Forest.NameLists.{◌∈◌}
 use Rattle.vm_ids.proofs.Forest.Laws.Ranges.{ranges_hold_their_pages}
+use Rattle.local_cache.specs.Reading.{name_of}
 use Rattle.page_release.proofs.translations.is_of.Goals as goal
 
-named : (e : Extent) (cache : CacheId) (page : PageNo) → cache.0 ≡ e.cache.0 → e.first.0 ≤ page.0 → page.0 < e.first.0 + e.pages → Live cache page ∈ extent_names e
-named e cache page same from below =
-    let k = page.0 - e.first.0 in
-    let at : page.0 ≡ e.first.0 + k = omega (arith, from) in
-    (ranges_hold_their_pages e.cache e.first.0 e.pages (Live cache page)).1 (k, omega (arith, from, below), λ i. Live (record { 0 = same i }) (record { 0 = at i }))
-
-of_name : (e : Extent) (cache : CacheId) (page : PageNo) → Live cache page ∈ extent_names e → (cache.0 ≡ e.cache.0) × (e.first.0 ≤ page.0) × (page.0 < e.first.0 + e.pages)
-of_name e cache page i =
-    let r = (ranges_hold_their_pages e.cache e.first.0 e.pages (Live cache page)).0 i in
-    let same : cache ≡ e.cache = cc r.2 in
-    let at : page ≡ (record { 0 = e.first.0 + r.0 }) = cc r.2 in
-    let number = ap (λ (p : PageNo). p.0) at in
-    (ap (λ (c : CacheId). c.0) same, omega (arith, number), omega (arith, number, r.1))
+pub returns-in-Working : goal.returns-in-Working
+returns-in-Working c =
+    let e = c.args.extent in (
+      λ t. absurd (false≢true t),
+      λ i. absurd (let r = (ranges_hold_their_pages e.cache e.first.0 e.pages (name_of c.args.caches.now c.args.node)).0 i in cc (r.2, c.name.ensures, c.in-Working.is)),
+    )

@@ -1,6 +1,8 @@
-use Rattle.std.proofs.Common.{◌+◌, ◌-◌, ◌≤◌, List, Option, ap, ◌∙◌, arith}
+use Rattle.std.proofs.Common.{◌≡◌, ℕ, ◌+◌, ◌-◌, ◌≤◌, List, Option, ap, ◌∙◌, subst, arith}
 use Rattle.vm_ids.specs.declared.numbers.NodeId.{NodeId}
-use Rattle.vm_ids.specs.Forest.Commands.{page_names}
+use Rattle.vm_ids.specs.Forest.Commands.{page_name, page_names}
+use Rattle.vm_ids.specs.Forest.Nodes.{IsNode}
+use Rattle.local_cache.specs.Reading.{forest_of}
 use Rattle.local_cache.proofs.Whole.LivePages.{page_there}
 use Rattle.page_tables.specs.declared.entry.Entry.{Entry}
 use Rattle.residency.specs.declared.store.Store.{Store}
@@ -12,6 +14,13 @@ pub narrow_own_next-done-requires-clause-node : goal.narrow_own_next-done-requir
 narrow_own_next-done-requires-clause-node c =
     let k = c.loop-done.done in
     page_there c.args.caches.now c.requires.whole.sound c.args.extent.cache (record { 0 = c.args.extent.first.0 + k }) (c.requires.nodes k c.loop-done-test.true)
+
+pub narrow_written-requires-clause-nodes : goal.narrow_written-requires-clause-nodes
+narrow_written-requires-clause-nodes c = λ i low. (
+    let k = c.loop-done.done in
+    let first = c.args.extent.first.0 in
+    let at : first + (k + i) ≡ first + k + i = omega arith in
+    subst (λ (p : ℕ). IsNode (forest_of c.args.caches.now) (page_name c.args.extent.cache p)) at (c.requires.nodes (k + i) (omega (arith, low))))
 
 pub loop-done-preserved : goal.loop-done-preserved
 loop-done-preserved c =
