@@ -19,13 +19,13 @@ invariant_of-self c =
       few = c.gather.ensures.apart.few;
     })
 
-pub returns-in-Some-clause-was : goal.returns-in-Some-clause-was
-returns-in-Some-clause-was c =
+pub returns-clause-was : goal.returns-clause-was
+returns-clause-was c =
     unsaid_now c.gather.new.blocks c.gather.new.plain c.args.self.now (c.gather.ensures.states ∙ c.self.view_is) c.args.number c.gather.ensures.none
     ∙ sym c.exchange.ensures.was ∙ c.in-Some.is
 
-pub returns-in-Some-clause-set : goal.returns-in-Some-clause-set
-returns-in-Some-clause-set c =
+pub returns-clause-set : goal.returns-clause-set
+returns-clause-set c =
     let b = c.gather.new.blocks in
     let s = c.gather.new.plain in
     let n = c.args.number in

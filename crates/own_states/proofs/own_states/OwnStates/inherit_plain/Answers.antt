@@ -1,5 +1,8 @@
 use Rattle.std.proofs.Common.{◌≡◌, ◌+◌, ◌<◌, ◌≤◌, ℕ, sym, ap, subst, ◌∙◌, arith}
+use Rattle.std.specs.Ordering.{nat_cmp}
+use Rattle.std.specs.FinMap.{FinMap}
 use Rattle.std.specs.FinMap as map
+use Rattle.own_states.specs.declared.own.Own.{Own}
 use Rattle.stretches.specs.declared.stretch.Stretch.{Stretch}
 use Rattle.stretches.specs.Stretches.{AreTogether}
 use Rattle.mixed_map.proofs.Telling.{together_fewer}
@@ -13,7 +16,7 @@ use Rattle.own_states.proofs.own_states.OwnStates.inherit_plain.Goals as goal
 pub returns-then-is_absent-clause-inherited : goal.returns-then-is_absent-clause-inherited
 returns-then-is_absent-clause-inherited c =
     let now = c.args.self.now in
-    λ i. record now { states = inherited_none now.states c.args.to c.args.from c.args.most c.args.plain (sym c.is_absent.ensures ∙ c.if-is_absent.true) c.requires.alike (~ i) }
+    ap (λ (m : FinMap nat_cmp Own). record now { states = m }) (sym (inherited_none now.states c.args.to c.args.from c.args.most c.args.plain (sym c.is_absent.ensures ∙ c.if-is_absent.true) c.requires.alike))
 
 pub put-requires-clause-together : goal.put-requires-clause-together
 put-requires-clause-together c =
@@ -40,7 +43,7 @@ returns-in-Some-clause-inherited c =
     let r : Stretch Plain = record { first = c.args.to; count = k; value = c.args.plain } in
     seen _ _ _ _ _ _
     (joined_also b.states s.list r c.put.new.self.list c.put.ensures.also ∙ ap (λ (v : States). with_plain v.states c.args.to k c.args.plain) c.self.view_is
-    ∙ sym (inherited_all now.states c.args.to c.args.from k c.args.plain c.in-Some.stretch.value (sym c.is_absent.ensures ∙ c.if-is_absent.false) (sym c.is_absent-2.ensures ∙ c.if-is_absent-2.true)
+    ∙ sym (inherited_all now.states c.args.to c.args.from k c.args.plain c.in-Some.stretch.value (sym c.is_absent.ensures ∙ c.if-is_absent.false) c.if-is_absent-2.true
     (λ j less. c.requires.alike j (omega (arith, less)))
     (λ j less. told_at b s now c.self.view_is c.args.to c.in-Some.stretch c.in-Some.ensures.from (c.args.to + j) (omega arith) (omega (arith, less)))))
     (ap (λ (x : ℕ). b.count + x) c.put.ensures.count ∙ ap (λ (v : States). v.count) c.self.view_is)
@@ -49,10 +52,8 @@ returns-in-Some-clause-inherited c =
 pub returns-in-Some-2-clause-inherited : goal.returns-in-Some-2-clause-inherited
 returns-in-Some-2-clause-inherited c =
     let now = c.args.self.now in
-    λ i. record now {
-      states = inherited_held now.states c.args.to c.args.from c.min.result c.in-Some-2.stretch.value (sym c.is_absent-2.ensures ∙ c.if-is_absent-2.false)
-          (λ j less. told_at c.self.inside.blocks c.self.inside.plain now c.self.view_is c.args.to c.in-Some-2.stretch c.in-Some-2.ensures.from (c.args.to + j) (omega arith) (omega (arith, less))) (~ i);
-    }
+    ap (λ (m : FinMap nat_cmp Own). record now { states = m }) (sym (inherited_held now.states c.args.to c.args.from c.min.result c.in-Some-2.stretch.value c.if-is_absent-2.false
+    (λ j less. told_at c.self.inside.blocks c.self.inside.plain now c.self.view_is c.args.to c.in-Some-2.stretch c.in-Some-2.ensures.from (c.args.to + j) (omega arith) (omega (arith, less)))))
 
 pub returns-in-None-clause-inherited : goal.returns-in-None-clause-inherited
-returns-in-None-clause-inherited c = c.inherit_one.ensures ∙ (λ i. record c.args.self.now { states = inherited_one c.args.self.now.states c.args.to c.args.from (~ i) })
+returns-in-None-clause-inherited c = c.inherit_one.ensures ∙ ap (λ (m : FinMap nat_cmp Own). record c.args.self.now { states = m }) (sym (inherited_one c.args.self.now.states c.args.to c.args.from))

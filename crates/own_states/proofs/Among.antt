@@ -1,4 +1,4 @@
--- Kinds of states.
+-- States among kinds.
 use Rattle.std.proofs.Common.{◌≡◌, true, Option, Some, None, refl}
 use Rattle.std.specs.Prelude.{IsSome}
 use Rattle.own_states.specs.declared.kinds.Kinds.{Kinds}
