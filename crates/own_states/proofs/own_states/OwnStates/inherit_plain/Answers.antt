@@ -34,8 +34,8 @@ invariant_of-self c =
       few = omega (arith, c.self.invariant.few, c.put.ensures.count);
     }
 
-pub returns-in-Some-clause-inherited : goal.returns-in-Some-clause-inherited
-returns-in-Some-clause-inherited c =
+pub returns-then-is_absent-2-clause-inherited : goal.returns-then-is_absent-2-clause-inherited
+returns-then-is_absent-2-clause-inherited c =
     let b = c.self.inside.blocks in
     let s = c.self.inside.plain in
     let k = c.min-count.result in
@@ -43,17 +43,17 @@ returns-in-Some-clause-inherited c =
     let r : Stretch Plain = record { first = c.args.to; count = k; value = c.args.plain } in
     seen _ _ _ _ _ _
     (joined_also b.states s.list r c.put.new.self.list c.put.ensures.also ∙ ap (λ (v : States). with_plain v.states c.args.to k c.args.plain) c.self.view_is
-    ∙ sym (inherited_all now.states c.args.to c.args.from k c.args.plain c.in-Some.stretch.value (sym c.is_absent.ensures ∙ c.if-is_absent.false) c.if-is_absent-2.true
+    ∙ sym (inherited_all now.states c.args.to c.args.from k c.args.plain c.in-Some.stretch.value (sym c.is_absent.ensures ∙ c.if-is_absent.false) (sym c.is_absent-in-Some.ensures ∙ c.if-is_absent-2.true)
     (λ j less. c.requires.alike j (omega (arith, less)))
     (λ j less. told_at b s now c.self.view_is c.args.to c.in-Some.stretch c.in-Some.ensures.from (c.args.to + j) (omega arith) (omega (arith, less)))))
     (ap (λ (x : ℕ). b.count + x) c.put.ensures.count ∙ ap (λ (v : States). v.count) c.self.view_is)
     (ap (λ (v : States). v.room) c.self.view_is)
 
-pub returns-in-Some-2-clause-inherited : goal.returns-in-Some-2-clause-inherited
-returns-in-Some-2-clause-inherited c =
+pub returns-else-is_absent-2-clause-inherited : goal.returns-else-is_absent-2-clause-inherited
+returns-else-is_absent-2-clause-inherited c =
     let now = c.args.self.now in
-    ap (λ (m : FinMap nat_cmp Own). record now { states = m }) (sym (inherited_held now.states c.args.to c.args.from c.min.result c.in-Some-2.stretch.value c.if-is_absent-2.false
-    (λ j less. told_at c.self.inside.blocks c.self.inside.plain now c.self.view_is c.args.to c.in-Some-2.stretch c.in-Some-2.ensures.from (c.args.to + j) (omega arith) (omega (arith, less)))))
+    ap (λ (m : FinMap nat_cmp Own). record now { states = m }) (sym (inherited_held now.states c.args.to c.args.from c.min-count.result c.in-Some.stretch.value (sym c.is_absent-in-Some.ensures ∙ c.if-is_absent-2.false)
+    (λ j less. told_at c.self.inside.blocks c.self.inside.plain now c.self.view_is c.args.to c.in-Some.stretch c.in-Some.ensures.from (c.args.to + j) (omega arith) (omega (arith, less)))))
 
 pub returns-in-None-clause-inherited : goal.returns-in-None-clause-inherited
 returns-in-None-clause-inherited c = c.inherit_one.ensures ∙ ap (λ (m : FinMap nat_cmp Own). record c.args.self.now { states = m }) (sym (inherited_one c.args.self.now.states c.args.to c.args.from))
