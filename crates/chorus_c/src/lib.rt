@@ -39,13 +39,7 @@ pub extern "C" fn chorus_size() -> usize
 
 /// Begins a machine in the room that C gives: it is open, or closed and tells why at each call.
 #[unsafe(no_mangle)]
-pub unsafe extern "C" fn chorus_begin(
-    alloc: Global,
-    at: *mut u8,
-    frames: u32,
-    page: u32,
-    swap: u32,
-)
+pub unsafe extern "C" fn chorus_begin(alloc: Global, at: *mut u8, frames: u32, page: u32, swap: u32)
     requires* { sem 𝓛 (room_for_handle at) }
     ensures* { ∃ₛ (λ (new : Held). sem 𝓛 (handle_at at new) ∗ ⌜ Begun frames page swap new ⌝) }
 {

@@ -31,7 +31,7 @@ use Rattle.vm_model.specs.Place.{place}
 use Rattle.vm_port.specs.declared.traits.mapper.Mapper.{Ghosts}
 use Rattle.regions.specs.declared.region.Place.{Place}
 use Rattle.residency.specs.Causes.{Later}
-use Rattle.page_release.specs.Homes.{IsWritable}
+use Rattle.page_commands.specs.Homes.{IsWritable}
 use Rattle.pvm_core.specs.Manager as manager
 use Rattle.pvm_core.specs.Manager.{IsValid, Manager, machine_by, machine_of, nodes_of, numbered, state_at}
 use Rattle.pvm_core.specs.Reaching.{Reach}

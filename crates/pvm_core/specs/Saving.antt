@@ -14,7 +14,7 @@ use Rattle.vm_ids.specs.Forest.Commands.{extent_names}
 use Rattle.vm_ids.specs.Forest.Saving.{saved, saves, unsaved}
 use Rattle.local_cache.specs.Arena.{Arena, table_of}
 use Rattle.local_cache.specs.Whole.{SameCaches, size_of}
-use Rattle.page_release.specs.Homes.{AreAllSaved}
+use Rattle.page_commands.specs.Homes.{AreAllSaved}
 use Rattle.segment_ops.specs.Access.{GrantsBefore, IsGranted}
 use Rattle.segment_ops.specs.Saving.{AreSavedNow}
 use Rattle.segment_ops.specs.Ranges.{IsPageOf}

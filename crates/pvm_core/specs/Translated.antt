@@ -15,7 +15,7 @@ use Rattle.page_tables.specs.declared.entry.Entry.{Entry}
 use Rattle.page_tables.specs.declared.entry.Translation.{Translation}
 use Rattle.residency.specs.Seeing.{IsAlone, seen_in}
 use Rattle.residency.specs.declared.store.Store.{Store}
-use Rattle.page_release.specs.Homes.{IsWritable}
+use Rattle.page_commands.specs.Homes.{IsWritable}
 use Rattle.vm_model.specs.Machine.{numbered}
 use Rattle.vm_model.specs.Place.{Place, place_of_actor}
 use Rattle.contexts.specs.Actors.{Actors}

@@ -12,7 +12,7 @@ use Rattle.vm_ids.specs.Forest.Commands.{page_name}
 use Rattle.local_cache.specs.Arena.{Arena, is_granted, locks_of}
 use Rattle.local_cache.specs.Reading.{forest_of}
 use Rattle.local_cache.specs.Whole.{IsWhole, SameCaches}
-use Rattle.page_release.specs.Homes.{IsWritable, is_named}
+use Rattle.page_commands.specs.Homes.{IsWritable, is_named}
 use Rattle.residency.specs.Causes.{Traffic}
 use Rattle.segment_ops.specs.Access.{GrantsStay, IsAskedFor, OneDenied}
 use Rattle.segment_ops.specs.Ranges.{IsNamedBy, IsPageOf}

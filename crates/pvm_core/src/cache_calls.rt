@@ -14,7 +14,7 @@ ghost use Rattle.pvm_core.specs.Manager.{IsValid, machine_of, meaning, nodes_of,
 use crate::Pvm;
 use crate::nodes::reserve;
 use crate::spans::{copy_refusal, destination, move_refusal};
-use page_release::{copy_pages, destroy_pages, move_pages};
+use page_commands::{copy_pages, destroy_pages, move_pages};
 use vm_ids::{CacheId, Command, Extent, PageNo, Refusal, Reply, Span, Trouble};
 use vm_model::{LIVE_PAGES, MOST_MADE};
 use vm_port::{Chooser, Mapper};

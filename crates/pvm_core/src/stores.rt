@@ -5,7 +5,7 @@ ghost use Rattle.vm_ids.specs.Forest.Commands.{page_name};
 ghost use Rattle.vm_model.specs.Machine.{numbered as has_number};
 ghost use Rattle.vm_model.specs.Place.{place_of_actor};
 ghost use Rattle.regions.specs.AddressSpace.{place_told};
-ghost use Rattle.page_release.specs.Homes.{IsWritable};
+ghost use Rattle.page_commands.specs.Homes.{IsWritable};
 ghost use Rattle.vm_ids.specs.Counting.{RoseBy};
 ghost use Rattle.vm_model.specs.Run.{IsUnrefused};
 ghost use Rattle.gmi_calls.specs.Calling.{CallDone, Fits, MapperCall, done_by};

@@ -9,7 +9,7 @@ use Rattle.vm_ids.specs.declared.refusal.Refusal.{Refusal}
 use Rattle.vm_ids.specs.declared.refusal.Refusal.TheVariants as refusals
 use Rattle.local_cache.specs.Arena.{Arena, HasNode}
 use Rattle.residency.specs.declared.store.Store.{Store}
-use Rattle.page_release.specs.Homes.{IsWritable}
+use Rattle.page_commands.specs.Homes.{IsWritable}
 use Rattle.vm_model.specs.Machine.{Actor, numbered}
 use Rattle.vm_model.specs.Place.{Place, place_of_actor, placed, region_at}
 use Rattle.contexts.specs.Actors.{Actors}

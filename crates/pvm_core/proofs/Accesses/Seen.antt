@@ -30,7 +30,7 @@ use Rattle.residency.proofs.Forests.StillForest.{still_caches_sound, still_like}
 use Rattle.residency.proofs.Translations.Owners.{owner_seen, owner_value, owners}
 use Rattle.fault_path.specs.Faults.{IsFound, IsOwner}
 use Rattle.fault_path.proofs.Calls.Kept.{still_owner, still_shaped}
-use Rattle.page_release.specs.Homes.{IsWritable}
+use Rattle.page_commands.specs.Homes.{IsWritable}
 use Rattle.contexts.specs.Actors.{Actors}
 use Rattle.contexts.specs.Placed.{AreRight, IsAligned}
 use Rattle.contexts.proofs.Placing.{each_at}

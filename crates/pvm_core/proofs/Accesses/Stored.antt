@@ -37,7 +37,7 @@ use Rattle.local_cache.specs.Own.{own_of}
 use Rattle.local_cache.specs.Whole.{IsWhole, segment_of, size_of}
 use Rattle.local_cache.proofs.Forest.Reading.{forest_of-IsNode}
 use Rattle.global_map.specs.Pairs.{node_of}
-use Rattle.page_release.specs.Homes.{IsWritable}
+use Rattle.page_commands.specs.Homes.{IsWritable}
 use Rattle.vm_ids.specs.declared.numbers.CacheId.{CacheId}
 use Rattle.vm_ids.specs.declared.numbers.NodeId.{NodeId}
 use Rattle.vm_ids.specs.declared.numbers.SegId.{SegId}

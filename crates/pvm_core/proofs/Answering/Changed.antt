@@ -10,7 +10,7 @@ use Rattle.local_cache.specs.Reading as arena
 use Rattle.residency.specs.declared.store.Store.{Store}
 use Rattle.residency.specs.World.{world}
 use Rattle.local_cache.specs.Whole.{IsWhole, SameCaches, size_of}
-use Rattle.page_release.specs.Steps.{ForAnyMapper, GivesBack, IsStoreTied}
+use Rattle.page_commands.specs.Steps.{ForAnyMapper, GivesBack, IsStoreTied}
 use Rattle.vm_model.specs.Machine.{Cache, Page}
 use Rattle.vm_model.specs.Outcome.{blank, blank_cache}
 use Rattle.vm_model.specs.PageForest.{PageForest}

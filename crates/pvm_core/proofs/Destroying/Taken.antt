@@ -21,8 +21,8 @@ use Rattle.residency.specs.declared.store.Store.{Store}
 use Rattle.residency.specs.StoreForest.{store_forest}
 use Rattle.residency.specs.World.{IsStoreRight, world}
 use Rattle.local_cache.specs.Whole.{IsWhole, SameCaches, segment_of, size_of}
-use Rattle.page_release.specs.Steps.{ForAnyMapper, GivesBack, IsStoreTied, StaysRight}
-use Rattle.page_release.proofs.TiedStores.Tied.{tied_of}
+use Rattle.page_commands.specs.Steps.{ForAnyMapper, GivesBack, IsStoreTied, StaysRight}
+use Rattle.page_commands.proofs.TiedStores.Tied.{tied_of}
 use Rattle.vm_model.specs.Answering.{maps_in, reply}
 use Rattle.vm_model.specs.Machine.{Machine, Page, cache_of, pages_in}
 use Rattle.vm_model.specs.Outcome.{HasWholePages, OutcomeAt, blank, blank_cache}

@@ -17,8 +17,8 @@ use Rattle.local_cache.specs.Arena.{Arena, Table}
 use Rattle.local_cache.specs.Whole.{segment_of, size_of}
 use Rattle.residency.specs.declared.store.Store.{Store}
 use Rattle.residency.specs.World.{page_at, world}
-use Rattle.page_release.specs.Homes.{named_page}
-use Rattle.page_release.specs.Readings.{held_pages, new_pages}
+use Rattle.page_commands.specs.Homes.{named_page}
+use Rattle.page_commands.specs.Readings.{held_pages, new_pages}
 use Rattle.vm_model.specs.Answering.{held_part, overwrite}
 use Rattle.vm_model.specs.Machine.{Page}
 use Rattle.vm_model.specs.PageForest.{told}

@@ -19,8 +19,8 @@ use Rattle.local_cache.specs.Whole.{IsWhole, SameCaches}
 use Rattle.residency.specs.declared.store.Store.{Store}
 use Rattle.residency.specs.StoreForest.{store_forest}
 use Rattle.residency.specs.World.{world}
-use Rattle.page_release.specs.Readings.{held_pages, new_pages}
-use Rattle.page_release.specs.Steps.{ForAnyMapper, GivesBack, IsStoreTied, StaysRight}
+use Rattle.page_commands.specs.Readings.{held_pages, new_pages}
+use Rattle.page_commands.specs.Steps.{ForAnyMapper, GivesBack, IsStoreTied, StaysRight}
 use Rattle.vm_model.specs.Answering.{held_for, held_part, invalidate_of, is_any_locked, overwrite, put_pages, reply}
 use Rattle.vm_model.specs.Following.{forest_after}
 use Rattle.vm_model.specs.Machine.{Cache, Machine, Page, cache_of}
@@ -60,7 +60,7 @@ use Rattle.local_cache.specs.Reading as arena
 use Rattle.segment_ops.proofs.Unsaved.{unsaved_by}
 use Rattle.pvm_core.proofs.Readiness.Copies.{extent_count, extent_live, forest_copies, saved_most}
 use Rattle.pvm_core.proofs.Meaning.Values.{consistent_of, blank_of, followed_of, zeroed, zeroed_whole}
-use Rattle.page_release.proofs.TiedStores.Tied.{tied_of}
+use Rattle.page_commands.proofs.TiedStores.Tied.{tied_of}
 
 all_overwrite : {A : Type 0} (P : A → Type 0) (at : ℕ) (part whole : List A) → All P part → All P whole → All P (overwrite at part whole)
 all_overwrite P at part whole new old = All-append P _ (drop (at + length part) whole) (All-append P (take at whole) part (All-take P at whole old) new) (All-drop P (at + length part) whole old)
@@ -173,7 +173,7 @@ module _ (p : Manager) (h g : Option Held) (b d : Arena) (s u : Store) (t : Acto
       ∙ part_of_overwrite e.first.0 (part_for g x.segment e) (cache_shown (forest_of p h) e.cache.0 x.table).pages (omega (arith, ends))))
 
   names : extent_names e ≡ firsts (nodes_in e (Some (put (forest_of p h) (part_for g x.segment e))))
-  names = sym (with_firsts (Rattle.page_release.specs.Homes.named_page (world g None b s)) (extent_names e)) ∙ ap firsts nodes_are
+  names = sym (with_firsts (Rattle.page_commands.specs.Homes.named_page (world g None b s)) (extent_names e)) ∙ ap firsts nodes_are
 
   forest_now : forest_of (seen d u t) g ≡ invalidate (nodes_in e (Some (put (forest_of p h) (part_for g x.segment e)))) (forest_of p h)
   forest_now = rule g None (tied_of (world g None b s) v.right)

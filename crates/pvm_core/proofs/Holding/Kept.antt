@@ -21,7 +21,7 @@ use Rattle.local_cache.proofs.Forest.Reading.{forest_of-IsNode}
 use Rattle.residency.specs.declared.store.Store.{Store}
 use Rattle.residency.specs.World.{world}
 use Rattle.fault_path.specs.Faults as faults
-use Rattle.page_release.specs.Steps.{GivesBack, IsStoreTied, Kept, PinnedStayNamed}
+use Rattle.page_commands.specs.Steps.{GivesBack, IsStoreTied, Kept, PinnedStayNamed}
 use Rattle.contexts.specs.Actors.{Actors}
 use Rattle.contexts.specs.Placed.{AreRight}
 use Rattle.pvm_core.specs.Locks.{AreHeld, has_locked, is_locked_name}

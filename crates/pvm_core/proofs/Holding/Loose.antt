@@ -22,7 +22,7 @@ use Rattle.local_cache.specs.Reading.{name_of}
 use Rattle.local_cache.specs.Sound.{IsSound}
 use Rattle.residency.specs.declared.store.Store.{Store}
 use Rattle.residency.specs.World.{world}
-use Rattle.page_release.specs.Steps.{IsUnpinned, IsWorkingUnpinned}
+use Rattle.page_commands.specs.Steps.{IsUnpinned, IsWorkingUnpinned}
 use Rattle.segment_ops.specs.Synced.{AreLoose}
 use Rattle.vm_model.specs.Machine.{Actor}
 use Rattle.vm_model.proofs.Parts.Lists.{sum_by_part}

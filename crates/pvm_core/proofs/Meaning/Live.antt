@@ -22,7 +22,7 @@ use Rattle.local_cache.specs.Own.{own_states}
 use Rattle.local_cache.specs.Reading.{forest_of}
 use Rattle.local_cache.specs.Whole.{IsWhole, size_of}
 use Rattle.local_cache.proofs.Whole.LivePages.{node_page}
-use Rattle.page_release.proofs.TiedStores.Sized.{states_bound}
+use Rattle.page_commands.proofs.TiedStores.Sized.{states_bound}
 use Rattle.residency.specs.declared.store.Store.{Store}
 use Rattle.contexts.specs.Actors.{Actors}
 use Rattle.pvm_core.specs.Manager.{IsManagerSound, live_in}

@@ -32,8 +32,8 @@ use Rattle.residency.specs.Seeing.{seen_in}
 use Rattle.residency.specs.StoreForest.{store_forest}
 use Rattle.residency.specs.World.{ArePlaced, World, world}
 use Rattle.residency.specs.declared.store.Store.{Store}
-use Rattle.page_release.specs.Steps.{GivesBack}
-use Rattle.page_release.specs.Translating.{Leaves}
+use Rattle.page_commands.specs.Steps.{GivesBack}
+use Rattle.page_commands.specs.Translating.{Leaves}
 use Rattle.contexts.specs.Actors.{Actors}
 use Rattle.pvm_core.specs.Keeping.{FillsOnly}
 use Rattle.pvm_core.specs.Manager.{Manager}

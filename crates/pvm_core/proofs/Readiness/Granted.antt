@@ -16,7 +16,7 @@ use Rattle.local_cache.specs.Home.{home_named}
 use Rattle.local_cache.specs.Reading as arena
 use Rattle.local_cache.specs.Reading.{name_of}
 use Rattle.fault_path.specs.Faults.{MayWrite}
-use Rattle.page_release.specs.Homes.{IsWritable, is_named}
+use Rattle.page_commands.specs.Homes.{IsWritable, is_named}
 use Rattle.local_cache.specs.Whole.{IsWhole, SameCaches, size_of}
 use Rattle.residency.specs.declared.store.Store.{Store}
 use Rattle.residency.specs.StoreForest.{store_forest}

@@ -16,7 +16,7 @@ use Rattle.local_cache.specs.Arena.{Arena, Table, table_at, table_of}
 use Rattle.local_cache.specs.Home.{home_named}
 use Rattle.local_cache.specs.Whole.{IsWhole, SameCaches}
 use Rattle.local_cache.proofs.Tables.Sizes.{sizes_then}
-use Rattle.page_release.specs.Homes.{AreAllSaved}
+use Rattle.page_commands.specs.Homes.{AreAllSaved}
 use Rattle.segment_ops.specs.Access.{GrantsBefore}
 use Rattle.segment_ops.proofs.Unsaved.{unsaved_by}
 use Rattle.vm_model.specs.Machine.{Machine}

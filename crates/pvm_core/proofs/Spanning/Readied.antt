@@ -15,11 +15,11 @@ use Rattle.local_cache.specs.Arena.{Arena, locks_of}
 use Rattle.local_cache.specs.Whole.{IsWhole, size_of}
 use Rattle.local_cache.proofs.Nodes.Count.{forest_len}
 use Rattle.residency.specs.declared.store.Store.{Store}
-use Rattle.page_release.specs.Commands.{CanReplace, CanTransfer, HasRoom, KeepsPages}
-use Rattle.page_release.specs.Homes.{AreAllSaved}
-use Rattle.page_release.specs.Steps.{IsStoreTied, Kept, StaysRight}
-use Rattle.page_release.proofs.TiedStores.Tied.{tied_right}
-use Rattle.page_release.proofs.CommandSteps.Ranges.{destination_names}
+use Rattle.page_commands.specs.Commands.{CanReplace, CanTransfer, HasRoom, KeepsPages}
+use Rattle.page_commands.specs.Homes.{AreAllSaved}
+use Rattle.page_commands.specs.Steps.{IsStoreTied, Kept, StaysRight}
+use Rattle.page_commands.proofs.TiedStores.Tied.{tied_right}
+use Rattle.page_commands.proofs.CommandSteps.Ranges.{destination_names}
 use Rattle.vm_model.specs.Answering.{is_any_denied}
 use Rattle.vm_model.specs.Following.{forest_after}
 use Rattle.vm_model.specs.Machine.{Machine}

@@ -23,7 +23,7 @@ use Rattle.vm_ids.specs.Forest.Saving.{saves}
 use Rattle.local_cache.specs.Whole.{IsWhole, size_of}
 use Rattle.residency.specs.declared.store.Store.{Store}
 use Rattle.residency.specs.World.{IsStoreRight, world}
-use Rattle.page_release.specs.Steps.{GivesBack}
+use Rattle.page_commands.specs.Steps.{GivesBack}
 use Rattle.contexts.specs.Actors.{Actors}
 use Rattle.segment_ops.specs.Access.{IsAskedFor, OneDenied}
 use Rattle.vm_model.specs.Answering.{Answer, answer_of, is_any_denied, is_denied_page, refuse, reply}
@@ -38,8 +38,8 @@ use Rattle.pvm_core.specs.Manager.{IsValid, Manager, forest_of, machine_by, mach
 use Rattle.pvm_core.specs.Saving.{CopiesSaved, FailedToSave, IsNotReady, KeepsForest, KeepsMachine}
 use Rattle.local_cache.specs.Arena.{Arena, table_of}
 use Rattle.pvm_core.proofs.Answering.Kept.{seen}
-use Rattle.page_release.specs.Homes.{IsWritable}
-use Rattle.page_release.proofs.CommandSteps.Ranges.{destination_names}
+use Rattle.page_commands.specs.Homes.{IsWritable}
+use Rattle.page_commands.proofs.CommandSteps.Ranges.{destination_names}
 use Rattle.vm_ids.proofs.Forest.Laws.Ranges.{ranges_hold_their_pages}
 use Rattle.pvm_core.specs.Keeping.{CopiesNothing}
 use Rattle.pvm_core.proofs.Readiness.Copies.{saves_copied}

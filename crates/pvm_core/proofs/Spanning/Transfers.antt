@@ -17,8 +17,8 @@ use Rattle.residency.specs.declared.store.Store.{Store}
 use Rattle.residency.specs.StoreForest.{store_forest}
 use Rattle.residency.specs.World.{world}
 use Rattle.local_cache.specs.Whole.{IsWhole, SameCaches, size_of}
-use Rattle.page_release.specs.Steps.{ForAnyMapper, GivesBack, IsStoreTied, StaysRight, zeros_told}
-use Rattle.page_release.proofs.TiedStores.Tied.{tied_of}
+use Rattle.page_commands.specs.Steps.{ForAnyMapper, GivesBack, IsStoreTied, StaysRight, zeros_told}
+use Rattle.page_commands.proofs.TiedStores.Tied.{tied_of}
 use Rattle.vm_model.specs.Answering.{copy_of, is_any_denied, is_any_locked, overwrite, put_pages, reply, move_of, put_cache}
 use Rattle.vm_model.specs.Answering.{is_named as model_named}
 use Rattle.vm_model.specs.Machine.{Cache, Machine, Page, cache_of}
@@ -44,7 +44,7 @@ use Rattle.pvm_core.proofs.Holding.Counted.{any_same}
 use Rattle.pvm_core.proofs.Homes.Full.{full_same}
 use Rattle.pvm_core.proofs.Homes.Sized.{sized_same}
 use Rattle.pvm_core.specs.Saving.{is_named}
-use Rattle.page_release.proofs.CommandSteps.Ranges.{destination_names}
+use Rattle.page_commands.proofs.CommandSteps.Ranges.{destination_names}
 use Rattle.pvm_core.proofs.Meaning.Values.{blank_of, followed_of, zeroed, zeroed_whole}
 use Rattle.std.proofs.lemmas.Option.{get_or_from_slice_get}
 use Rattle.pvm_core.proofs.NewCaches.NewCache.{told_zeros, zeros_for}

@@ -20,7 +20,7 @@ use Rattle.local_cache.proofs.NewNode.Addition.{hang-names}
 use Rattle.residency.specs.declared.store.Store.{Store}
 use Rattle.residency.specs.Seeing.{IsAlone, frame_forest, own_frame, seen_in}
 use Rattle.residency.specs.World.{page_by}
-use Rattle.page_release.specs.Homes.{IsWritable}
+use Rattle.page_commands.specs.Homes.{IsWritable}
 use Rattle.pvm_core.specs.Translated.{KeepsTranslations}
 use Rattle.pvm_core.specs.Writes.{KeepsNodes}
 use Rattle.pvm_core.proofs.Translating.Alike.{alike_right}

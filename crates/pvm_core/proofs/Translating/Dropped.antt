@@ -11,7 +11,7 @@ use Rattle.page_tables.proofs.EachEntry.{each-empty, each-unless}
 use Rattle.residency.specs.Seeing.{seen_in}
 use Rattle.residency.specs.Translating.{Drops}
 use Rattle.residency.specs.declared.store.Store.{Store}
-use Rattle.page_release.specs.Homes.{IsWritable}
+use Rattle.page_commands.specs.Homes.{IsWritable}
 use Rattle.contexts.specs.Actors.{Actors}
 use Rattle.pvm_core.specs.Translated.{AreTranslationsRight, IsTranslationRight, name_at}
 use Rattle.pvm_core.proofs.Translating.Alike.{still_right}

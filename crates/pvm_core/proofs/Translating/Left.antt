@@ -8,8 +8,8 @@ use Rattle.local_cache.specs.Arena.{Arena}
 use Rattle.page_tables.specs.Entries.{read_only}
 use Rattle.page_tables.specs.declared.entry.Entry.{Entry}
 use Rattle.residency.specs.declared.store.Store.{Store}
-use Rattle.page_release.specs.Homes.{IsWritable}
-use Rattle.page_release.specs.Translating.{Leaves}
+use Rattle.page_commands.specs.Homes.{IsWritable}
+use Rattle.page_commands.specs.Translating.{Leaves}
 use Rattle.contexts.specs.Actors.{Actors}
 use Rattle.pvm_core.specs.Translated.{AreTranslationsRight, IsTranslationRight, name_at, place_of_page}
 use Rattle.pvm_core.proofs.Translating.Alike.{still_right}

@@ -40,7 +40,7 @@ use Rattle.local_cache.proofs.Whole.LivePages.{node_page}
 use Rattle.residency.specs.Seeing.{IsAlone, frame_forest, own_frame, seen_in}
 use Rattle.residency.specs.World.{page_by}
 use Rattle.residency.specs.declared.store.Store.{Store}
-use Rattle.page_release.specs.Homes.{IsWritable}
+use Rattle.page_commands.specs.Homes.{IsWritable}
 use Rattle.pvm_core.specs.Translated.{KeepsTranslations, name_at}
 use Rattle.pvm_core.proofs.Opening.Forest.{make_other, with_pages, made_pages}
 use Rattle.pvm_core.proofs.Translating.Alike.{still_right}

@@ -11,7 +11,7 @@ use Rattle.page_tables.specs.Translations.{entry_at}
 use Rattle.page_tables.specs.declared.entry.Entry.{Entry}
 use Rattle.residency.specs.Seeing.{IsAlone, seen_in}
 use Rattle.residency.specs.declared.store.Store.{Store}
-use Rattle.page_release.specs.Homes.{IsWritable}
+use Rattle.page_commands.specs.Homes.{IsWritable}
 use Rattle.contexts.specs.Actors.{Actors}
 use Rattle.pvm_core.specs.Translated.{AreTranslationsRight, IsTranslationRight, name_at, place_of_page}
 

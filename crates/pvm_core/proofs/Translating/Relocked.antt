@@ -6,7 +6,7 @@ use Rattle.vm_ids.specs.declared.refusal.Refusal.TheVariants.{Crosses}
 use Rattle.local_cache.specs.Arena.{Arena}
 use Rattle.residency.specs.declared.store.Store.{Store}
 use Rattle.residency.specs.Seeing.{IsAlone, seen_in}
-use Rattle.page_release.specs.Homes.{IsWritable}
+use Rattle.page_commands.specs.Homes.{IsWritable}
 use Rattle.vm_model.specs.Machine.{Actor, Region, numbered}
 use Rattle.vm_model.specs.Place.{Place, holds, place_in, place_of_actor, placed, region_at}
 use Rattle.vm_model.specs.Regions.{region_among, replace_in, replace_region, with_lock}

@@ -15,8 +15,8 @@ use Rattle.local_cache.specs.Arena.{Arena}
 use Rattle.page_tables.specs.Translations.{entry_at}
 use Rattle.page_tables.specs.declared.entry.Entry.{Entry}
 use Rattle.residency.specs.declared.store.Store.{Store}
-use Rattle.page_release.specs.Homes.{IsWritable}
-use Rattle.page_release.specs.Translating.{Replaces, freed, where_mapped}
+use Rattle.page_commands.specs.Homes.{IsWritable}
+use Rattle.page_commands.specs.Translating.{Replaces, freed, where_mapped}
 use Rattle.contexts.specs.Actors.{Actors}
 use Rattle.contexts.proofs.Placing.{neither, other_number}
 use Rattle.pvm_core.specs.Translated.{AreTranslationsRight, name_at, place_of_page}

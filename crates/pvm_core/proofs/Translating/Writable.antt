@@ -11,8 +11,8 @@ use Rattle.local_cache.specs.Arena.{Arena, Table, is_granted, table_at, tables_w
 use Rattle.local_cache.specs.Home.{home_named}
 use Rattle.local_cache.specs.Whole.{SameCaches}
 use Rattle.residency.specs.World.{SameNodes, is_name_granted}
-use Rattle.page_release.specs.Homes.{IsWritable, KeepsHomes}
-use Rattle.page_release.proofs.TiedStores.Homes.{home_name}
+use Rattle.page_commands.specs.Homes.{IsWritable, KeepsHomes}
+use Rattle.page_commands.proofs.TiedStores.Homes.{home_name}
 use Rattle.pvm_core.proofs.Destroying.Tables.{gone as gone_table, other_table}
 
 -- where no grant goes, and segments name the caches that they named

@@ -40,7 +40,7 @@ use Rattle.pvm_core.proofs.Accesses.AtHand.{failed_hand, owner_some}
 use Rattle.pvm_core.proofs.Accesses.Ready.{found_hand, seen_no_more, ready_hand}
 use Rattle.vm_model.specs.Answering.{Answer}
 use Rattle.pvm_core.proofs.Accesses.Stored.{kept_copies, not_saved, store_fault, undenied, undenied_blank}
-use Rattle.page_release.specs.Homes.{IsWritable}
+use Rattle.page_commands.specs.Homes.{IsWritable}
 use Rattle.fault_path.proofs.Calls.Kept.{still_owner}
 use Rattle.pvm_core.proofs.pvm.Pvm.bring_page.Goals as goal
 

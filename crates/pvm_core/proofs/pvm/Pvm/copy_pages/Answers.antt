@@ -32,7 +32,7 @@ use Rattle.pvm_core.proofs.Spanning.SpanRows.{IsOpen, copy_refused, is_open}
 use Rattle.pvm_core.proofs.Spanning.Transferring.{IsTransfer, nothing_given_back}
 use Rattle.pvm_core.proofs.Spanning.Unready.{refused_first, unready}
 use Rattle.pvm_core.proofs.Spanning.Transfers.{copied_outcome, copied_transfer, copied_valid, copy_follows, named_machine}
-use Rattle.page_release.proofs.CommandSteps.Ranges.{destination_names}
+use Rattle.page_commands.proofs.CommandSteps.Ranges.{destination_names}
 use Rattle.pvm_core.proofs.Readiness.Filled.{fills_then}
 use Rattle.pvm_core.proofs.Readiness.Granted.{within_then}
 use Rattle.pvm_core.proofs.Translating.Left.{left_right}

@@ -19,8 +19,8 @@ use Rattle.contexts.specs.Actors.{Actors}
 use Rattle.contexts.proofs.RegionRows.{sized, unsized}
 use Rattle.residency.specs.declared.store.Store.{Store}
 use Rattle.vm_ids.specs.declared.numbers.CacheId.{CacheId}
-use Rattle.page_release.specs.Steps.{IsStoreTied, IsUnpinned}
-use Rattle.page_release.proofs.TiedStores.Tied.{tied_right}
+use Rattle.page_commands.specs.Steps.{IsStoreTied, IsUnpinned}
+use Rattle.page_commands.proofs.TiedStores.Tied.{tied_right}
 use Rattle.segment_ops.specs.Ranges.{HasRange}
 use Rattle.vm_model.specs.Answering.{Answer, is_mapped, maps_in}
 use Rattle.vm_model.specs.Following.{forest_after}

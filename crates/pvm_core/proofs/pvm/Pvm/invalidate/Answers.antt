@@ -14,7 +14,7 @@ use Rattle.local_cache.specs.Arena.{Arena, Table, is_granted, table_of}
 use Rattle.local_cache.specs.Whole.{size_of}
 use Rattle.local_cache.proofs.Nodes.Count.{forest_len}
 use Rattle.local_cache.proofs.Whole.LivePages.{range_there}
-use Rattle.page_release.proofs.TiedStores.Tied.{tied_right}
+use Rattle.page_commands.proofs.TiedStores.Tied.{tied_right}
 use Rattle.vm_model.specs.Machine.{cache_of, pages_in}
 use Rattle.vm_model.specs.Answering.{held_for, is_any_locked}
 use Rattle.vm_model.specs.Outcome.{IsNotRefused}

@@ -36,7 +36,7 @@ use Rattle.pvm_core.proofs.Spanning.SpanRows.{IsOpen, is_movable, is_open, move_
 use Rattle.pvm_core.proofs.Spanning.Transferring.{IsTransfer, nothing_given_back}
 use Rattle.pvm_core.proofs.Spanning.Unready.{refused_first, unready}
 use Rattle.pvm_core.proofs.Spanning.Transfers.{move_follows, moved_outcome, moved_transfer, moved_valid, named_machine, named_there}
-use Rattle.page_release.proofs.CommandSteps.Ranges.{destination_names, source_names}
+use Rattle.page_commands.proofs.CommandSteps.Ranges.{destination_names, source_names}
 use Rattle.pvm_core.proofs.Readiness.Filled.{fills_then}
 use Rattle.pvm_core.proofs.Readiness.Granted.{within_then}
 use Rattle.pvm_core.proofs.Translating.Left.{left_right}

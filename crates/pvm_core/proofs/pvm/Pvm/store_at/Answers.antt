@@ -54,7 +54,7 @@ use Rattle.pvm_core.proofs.Accesses.Storing.{stored_forest}
 use Rattle.pvm_core.proofs.Accesses.Stored.{kept_copies, bytes_right, bytes_sound, copied_most, dirty_here, not_saved, store_fault, stored, undenied, undenied_blank, whole_stored}
 use Rattle.pvm_core.proofs.Meaning.Values.{followed_of}
 use Rattle.pvm_core.proofs.Answering.Recorded.{asks_missed}
-use Rattle.page_release.specs.Homes.{IsWritable}
+use Rattle.page_commands.specs.Homes.{IsWritable}
 use Rattle.pvm_core.proofs.pvm.Pvm.store_at.Given.{Over}
 use Rattle.pvm_core.proofs.pvm.Pvm.store_at.Goals.{After-remember, After-self, After-write_from_owner, In-Err, In-Ok}
 use Rattle.pvm_core.specs.Access.{AreNodesOf, is_ready}

@@ -1,0 +1,19 @@
+use Rattle.std.proofs.Common.{◌≡◌, ◌+◌, ◌-◌, ◌≤◌}
+use Rattle.vm_ids.specs.Forest.Commands.{extent_names, page_names}
+use Rattle.page_commands.specs.Translating.{is_owned, with_narrowed}
+use Rattle.page_commands.proofs.StaleTranslations.Ranges.{OnlyTables}
+use Rattle.page_commands.proofs.translations.narrow_own.Given as goal
+
+abbrev pub invariant-loop-done : goal.invariant-loop-done
+invariant-loop-done l =
+    let own = is_owned l.fn.caches l.fn.store.map in
+    let all = extent_names l.extent in
+    let left = page_names l.extent.cache (l.extent.first.0 + l.done) (l.extent.pages - l.done) in
+    record {
+      most : l.done ≤ l.extent.pages;
+      only : OnlyTables l.fn.store l.store;
+      tables : with_narrowed (own left) l.store.tables ≡ with_narrowed (own all) l.fn.store.tables;
+    }
+
+abbrev pub decreases-loop-done : goal.decreases-loop-done
+decreases-loop-done l = l.extent.pages - l.done
