@@ -232,15 +232,12 @@ pub(crate) fn narrow_own(store: &mut Store, caches: &Caches, extent: Extent)
         let first = PageNo(extent.first.0 + done);
         let pages = extent.pages - done;
         if looks == 0 {
-            narrow_written(
-                store,
-                caches,
-                Extent {
-                    first,
-                    pages,
-                    ..extent
-                },
-            );
+            let left = Extent {
+                first,
+                pages,
+                ..extent
+            };
+            narrow_written(store, caches, left);
             return;
         }
         looks -= 1;
