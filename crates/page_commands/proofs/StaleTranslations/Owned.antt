@@ -8,7 +8,7 @@ use Rattle.vm_ids.specs.declared.node_name.NodeName.{NodeName}
 use Rattle.vm_ids.specs.declared.numbers.NodeId.{NodeId}
 use Rattle.vm_ids.specs.Forest.NameLists.{◌∈◌}
 use Rattle.vm_ids.proofs.Places.{bit}
-use Rattle.global_map.specs.Pairs.{bound_times, frame_of, node_of}
+use Rattle.global_map.specs.Pairs.{frame_of, node_of}
 use Rattle.local_cache.specs.Arena.{Arena, HasNode}
 use Rattle.local_cache.specs.Own.{is_resident, own_of}
 use Rattle.local_cache.specs.Reading.{name_of}

@@ -1,5 +1,5 @@
 -- The translations of a range, some pages after others.
-use Rattle.std.proofs.Common.{◌≡◌, ℕ, zero, suc, ◌+◌, ◌-◌, ◌<◌, ◌≤◌, ◌||◌, ◌==◌, Bool, true, false, cond, List, [], ◌∷◌, ◌++◌, length, map, Option, Some, None, refl, sym, ap, ◌∙◌, subst, arith}
+use Rattle.std.proofs.Common.{◌≡◌, ℕ, zero, suc, ◌+◌, ◌-◌, ◌<◌, ◌≤◌, ◌||◌, Bool, true, false, List, [], ◌∷◌, ◌++◌, length, map, Option, Some, None, refl, sym, ap, ◌∙◌, subst, arith}
 use Rattle.std.specs.List.{list_any}
 use Rattle.std.proofs.lemmas.List.{length-map}
 use Rattle.std.proofs.lemmas.List.Folds.{list_any-append}
@@ -8,7 +8,7 @@ use Rattle.vm_ids.specs.declared.node_name.NodeName.{NodeName}
 use Rattle.vm_ids.specs.declared.numbers.CacheId.{CacheId}
 use Rattle.vm_ids.specs.Forest.Commands.{page_name, page_names}
 use Rattle.local_cache.specs.Arena.{Arena}
-use Rattle.page_tables.specs.Entries.{is_in_frame, read_only}
+use Rattle.page_tables.specs.Entries.{is_in_frame}
 use Rattle.page_tables.specs.Translations.{narrowed, unless}
 use Rattle.page_tables.specs.declared.entry.Entry.{Entry}
 use Rattle.page_tables.proofs.Narrowing.{narrowed_as, narrowed_none, narrowed_twice}

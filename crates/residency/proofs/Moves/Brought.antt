@@ -25,7 +25,7 @@ use Rattle.local_cache.proofs.Nodes.OwnStates.{id_cases, id_apart, own_count, ow
 use Rattle.residency.specs.Causes.{dirty_count, is_dirty}
 use Rattle.residency.specs.World.{World, IsAway, IsBacked, IsStoreRight, IsTaken, OthersStayBut, StillBut, frame_page, home_page, is_bound, is_clean, is_slot_held, own_page, page_at, page_by, zero_page}
 use Rattle.residency.proofs.Worlds.Homes.{slot_is_held}
-use Rattle.residency.proofs.Worlds.Nodes.{own_granted, same, with_own_same}
+use Rattle.residency.proofs.Worlds.Nodes.{own_granted, with_own_same}
 
 -- frame f, with these bytes, is then node n's
 abbrev pub brought : World → ℕ → NodeId → Bool → List Bool → List ℕ → World

@@ -1,5 +1,5 @@
 -- A free frame that is given to a taker.
-use Rattle.std.proofs.Common.{◌≡◌, ℕ, ◌*◌, ◌<◌, ◌||◌, ◌&&◌, Bool, true, false, not, cond, List, [], ◌∷◌, length, get_or, set, Option, Some, None, refl, sym, ap, ◌∙◌, arith, inl, inr, length-set}
+use Rattle.std.proofs.Common.{◌≡◌, ℕ, ◌<◌, ◌||◌, ◌&&◌, Bool, true, false, not, cond, List, [], ◌∷◌, length, get_or, set, Option, Some, None, refl, sym, ap, ◌∙◌, arith, inl, inr, length-set}
 use Rattle.std.specs.Prelude.{is_some, MatchOption}
 use Rattle.std.specs.Option.{IsSome}
 use Rattle.std.specs.List.{All, list_all}
@@ -9,9 +9,8 @@ use Rattle.std.proofs.lemmas.List.Elements.{All-get_or, All-head, All-tail}
 use Rattle.vm_ids.specs.declared.numbers.NodeId.{NodeId}
 use Rattle.vm_ids.proofs.Places.{some_false, true_below}
 use Rattle.frame_pool.specs.Pool.{Frames, is_evictable, is_held, is_pinned}
-use Rattle.global_map.specs.Pairs.{node_of}
 use Rattle.residency.specs.Causes.{pushes_for}
-use Rattle.residency.specs.World.{World, HasUnpinned, IsMadeFree, IsStoreRight, OthersStay, PinnedStays, Still, StillBut, is_bound}
+use Rattle.residency.specs.World.{World, HasUnpinned, IsMadeFree, IsStoreRight, PinnedStays, Still, StillBut, is_bound}
 use Rattle.residency.proofs.Worlds.Composed.{stays_then}
 use Rattle.residency.proofs.Worlds.Nodes.{same}
 

@@ -16,9 +16,8 @@ use Rattle.slot_pool.specs.Slots as swap
 use Rattle.local_cache.specs.declared.own_state.OwnState.{OwnState}
 use Rattle.local_cache.specs.declared.own_state.OwnState.TheVariants.{Absent, Zero, Resident, Slot, OnSegment}
 use Rattle.local_cache.specs.Arena.{Arena, Cell, HasNode, find}
-use Rattle.local_cache.specs.Home.{home_of}
 use Rattle.local_cache.specs.Own.{is_absent, is_resident, own_of}
-use Rattle.residency.specs.World.{World, HasOwnPage, IsStoreRight, SameNodes, Still, frame_page, home_page, is_bound, is_clean, own_page, page_by, without_own, zero_page}
+use Rattle.residency.specs.World.{World, IsStoreRight, SameNodes, Still, frame_page, home_page, is_bound, is_clean, own_page, page_by, without_own, zero_page}
 
 -- who is a node stays one
 bare_some : (o : Option Cell) → is_some (option_map without_own o) ≡ is_some o
