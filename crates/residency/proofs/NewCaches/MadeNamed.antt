@@ -1,6 +1,6 @@
 -- The cache of a segment is made: the store is right still.
-use Rattle.std.proofs.Common.{◌≡◌, ◌⊎◌, ℕ, zero, suc, ◌+◌, ◌<◌, ◌≤◌, true, false, List, [], ◌∷◌, length, Option, Some, None, IsSome, is_some, unwrap_or, refl, sym, ap, ◌∙◌, subst, inl, inr, arith}
-use Rattle.std.specs.Prelude.{IfSome, option_and_then, option_map}
+use Rattle.std.proofs.Common.{◌≡◌, ◌⊎◌, ℕ, zero, suc, ◌+◌, ◌<◌, ◌≤◌, true, false, List, [], ◌∷◌, length, Option, Some, None, IsSome, is_some, unwrap_or, replicate, refl, sym, ap, ◌∙◌, subst, inl, inr, arith}
+use Rattle.std.specs.Prelude.{IfSome, option_and_then, option_map, slice_get}
 use Rattle.std.proofs.lemmas.Bool.{false≢true}
 use Rattle.vm_ids.specs.Held.{page_of, slot_of}
 use Rattle.vm_ids.specs.declared.node_name.NodeName.{NodeName}
@@ -11,18 +11,28 @@ use Rattle.vm_ids.specs.declared.numbers.SegId.{SegId}
 use Rattle.local_cache.specs.declared.home.Home.{Home}
 use Rattle.local_cache.specs.declared.own_state.OwnState.{OwnState}
 use Rattle.local_cache.specs.declared.own_state.OwnState.TheVariants.{OnSegment}
-use Rattle.local_cache.specs.Arena.{Arena, Cell, HasPage, IsMade, Table, blank, cell, find, new_cell, table_at}
+use Rattle.local_cache.specs.Arena.{Arena, Cell, HasPage, IsMade, Table, blank, cell, find, is_granted, new_cell, table_at}
 use Rattle.local_cache.specs.Home.{home_named, home_of}
 use Rattle.local_cache.specs.Own.{is_in_slot, is_resident, is_slot, own_of, own_states}
 use Rattle.local_cache.specs.Reading.{name_of}
 use Rattle.local_cache.specs.Sound.{IsSound}
 use Rattle.local_cache.specs.Whole.{segment_of}
 use Rattle.local_cache.proofs.Names.Homes.{home-made_other, home_none, home_page}
-use Rattle.local_cache.proofs.NewCache.FoundPages.{made_cases, made_pages, made_segment, made_tables}
+use Rattle.local_cache.proofs.NewCache.FoundPages.{last_table, made_cases, made_pages, made_segment, made_tables}
 use Rattle.local_cache.proofs.Nodes.OwnStates.{filled_count, filled_length, filled_own}
 use Rattle.residency.specs.World as worlds
 use Rattle.residency.specs.World.{IsStoreRight, World, frame_page, is_clean, is_name_granted, own_page, page_at, page_by, zero_page}
 use Rattle.vm_ids.proofs.Places.{bit}
+
+-- no page of a new cache is granted
+alike : {X : Type 0} (x : X) (n page : ℕ) → unwrap_or (slice_get (replicate n x) page) x ≡ x
+alike x zero page = refl
+alike x (suc n) zero = refl
+alike x (suc n) (suc page) = alike x n page
+
+made_ungranted : (old new : Arena) (cache : CacheId) (segment : Option SegId) (own : OwnState) (ns : List NodeId) (page : ℕ) → IsMade old new cache segment own ns → is_granted new cache.0 page ≡ false
+made_ungranted old new cache segment own ns page m =
+    ap (λ (o : Option Table). unwrap_or (option_and_then (λ (t : Table). slice_get t.grants page) o) false) (last_table old new cache segment own ns m) ∙ alike false (length ns) page
 
 -- the cache of a name with a home is live and of that segment
 home_segment : (ts : List (Option Table)) (x : NodeName) (home : Home) → home_named ts x ≡ Some home → (c : ℕ) × (option_map (λ (t : Table). t.segment) (table_at ts c) ≡ Some (Some home.segment))
@@ -201,4 +211,4 @@ module _ (w : World) (b : Arena) (cache : CacheId) (seg : SegId) (ns : List Node
   }
     where
       ungranted : (n : NodeId) → IsNew n → is_name_granted b (name_of b n) ≡ false
-      ungranted n x = ap (λ (c : Cell). is_name_granted b c.name) (cell_new n x) ∙ Rattle.local_cache.proofs.NewCache.FoundPages.made_ungranted a b cache (Some seg) OnSegment ns x.page m
+      ungranted n x = ap (λ (c : Cell). is_name_granted b c.name) (cell_new n x) ∙ made_ungranted a b cache (Some seg) OnSegment ns x.page m
