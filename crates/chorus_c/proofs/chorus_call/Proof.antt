@@ -1,11 +1,11 @@
 -- What lies at the two pointers is lent to safe code for a lifetime of its own, and lies there again.
 use types.Logic.{sem}
-use Rattle.std.proofs.Common.{◌≡◌, ℕ, List, [], ◌∷◌, ◌++◌, refl, sym, ap, ◌∙◌, subst, w32, w64, MutBor}
+use Rattle.std.proofs.Common.{◌≡◌, ℕ, List, [], ◌∷◌, ◌++◌, refl, sym, ap, ◌∙◌, subst, w32, MutBor}
 use base.Fraction.{full_share}
 use mir.Syntax.{Fn, named}
-use mir.Val.{Val, vint, vptr}
+use mir.Val.{Val, vptr}
 use base.Logic.{SProp, ent, sep, emp, ex, ex_i, id⊢}
-use base.Fml.{Lft, ftrue, fres, flft, flent}
+use base.Fml.{Lft, ftrue, flft, flent}
 use prog.Wp.{WpFn}
 use types.SemTy.{Body}
 use types.Tokens.{lft_new, lft_end}
@@ -17,14 +17,14 @@ use types.ByLocal.{alloc_all, pass_all, free_all, look_at, get, through, sets, s
 use denote.Exit.{yes}
 use denote.RattleType.{owns}
 use denote.Laws.{Is, shows}
-use denote.Plain.{uint_Makes, uint_Lawful}
+use denote.Plain.{uint_Lawful}
 use denote.Builtin.{u32, RawPtr}
 use denote.Memory.{mem, part_at}
 use denote.RawPtr.{Ptr, ptr_val, in_a_block, lies_at}
 use denote.Ref.{MutRef}
 use denote.Lend.{lends_ref, ref_back}
 use denote.Signature.{plain}
-use denote.Steps.{owned, peeks, heard, nothing}
+use denote.Steps.{peeks, heard, nothing}
 use denote.Triple.Call.{calls_at}
 use denote.Triple.Clauses.{lasts}
 use denote.Triple.Spec.{triple_of}
