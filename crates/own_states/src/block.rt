@@ -26,6 +26,12 @@ impl Block {
           count = count;
         } }
     {
+        if count == 32 {
+            return Block {
+                codes: [code; 32],
+                count,
+            };
+        }
         let mut block = Block {
             codes: [Code::NONE; 32],
             count,
